@@ -1,0 +1,64 @@
+-- A call, and what it may come back with. Assumes nothing.
+use mathlib.Core.Path.{_≡_, refl, sym, _∙_, ap, subst}
+use mathlib.Core.Logic.{_⊎_, inl, inr}
+use mathlib.Core.List.{List}
+use Prim.Native.Nat.{ℕ, zero, suc, _+_, _*_, _/_, _%_, _<_}
+use native.Mathlib.Decide.{ℕ-discrete}
+use native.Mathlib.Omega.{arith}
+use lib.ListN.{length}
+use Rattle.book.specs.Words.{Vol, vol}
+use Rattle.book.specs.Rules.{Sound, rules}
+use Rattle.book.specs.Rows.{Rows, end, row, Lowest, Clear, lowest-one, lowest-applies, clear-none}
+use Rattle.book.specs.Image.{pages, Whole}
+use Rattle.book.specs.Answers.{Numbers}
+
+-- a call on an image: what each number asks for, the image's rules, the value with a refusal; and with done the values it gives and the volume it leaves
+pub record Call (A : Type 0) : Type 1 where
+  pub table : Rows
+  pub broken : Rows
+  pub none : A
+  pub gives : A → Type 0
+  pub after : Vol
+
+-- numbers 1 to 3 are asked alike by every call but format; the rest are the call's own
+unfoldable pub judged : List ℕ → Type 0 → Rows → Rows
+judged img args rest = row 1 (Whole img) (row 2 args (row 3 (Sound (pages img) (vol img)) rest))
+
+unfoldable pub asking : {A : Type 0} → List ℕ → Type 0 → Rows → A → (A → Type 0) → Vol → Call A
+asking img args rest none gives after =
+    record { table = judged img args rest; broken = rules (pages img) (vol img); none = none; gives = gives; after = after }
+
+-- a call whose value is a number
+unfoldable pub call : List ℕ → Type 0 → Rows → ℕ → Vol → Call ℕ
+call img args rest value after = asking img args rest 0 (λ x. x ≡ value) after
+
+-- with 3 the lowest broken rule, and 0 with any other
+unfoldable pub RuleFor : Rows → ℕ → ℕ → Type 0
+RuleFor t n r = (n ≡ 3 → Lowest t r) × ((n ≡ 3 → ⊥) → r ≡ 0)
+
+-- refused: the lowest number that applies, zeros for all others, and the image as it was
+pub record RefusedAs {A : Type 0} (C : Call A) (img : List ℕ) (r : Numbers A) (img′ : List ℕ) : Type 0 where
+  pub number : Lowest (C .table) (r .number)
+  pub value : r .value ≡ C .none
+  pub rule : RuleFor (C .broken) (r .number) (r .rule)
+  pub image : img′ ≡ img
+
+-- done: no number applies
+pub record DoneAs {A : Type 0} (C : Call A) (img : List ℕ) (r : Numbers A) (img′ : List ℕ) : Type 0 where
+  pub number : r .number ≡ 0
+  pub clear : Clear (C .table)
+  pub value : C .gives (r .value)
+  pub rule : r .rule ≡ 0
+  pub image : vol img′ ≡ C .after
+  pub size : length img′ ≡ length img
+
+unfoldable pub Outcome : {A : Type 0} → Call A → List ℕ → Numbers A → List ℕ → Type 0
+Outcome C img r img′ = RefusedAs C img r img′ ⊎ DoneAs C img r img′
+
+-- the value alone, where a call gives no number back
+abbrev pub Gives : {A : Type 0} → Call A → List ℕ → A → Type 0
+Gives {A} C img x = (r : Numbers A) × (r .value ≡ x) × Outcome C img r img
+
+-- done gives one value
+unfoldable pub Single : {A : Type 0} → Call A → Type 0
+Single {A} C = Clear (C .table) → (x y : A) → C .gives x → C .gives y → x ≡ y

@@ -1,0 +1,98 @@
+-- Sound: the ten rules. Assumes nothing.
+use mathlib.Core.Path.{_≡_}
+use mathlib.Core.Logic.{_⊎_}
+use Prim.Native.Nat.{ℕ, zero, suc, _+_, _*_, _≤_, _<_}
+use Rattle.sums.specs.Sum.{sum}
+use Rattle.book.specs.Words.{Words, Vol}
+use Rattle.book.specs.Pointers.{flags, page, slot, Zero, Inside, plain, indexed, subindexed, bitPointer, userPointer, objectPointer}
+use Rattle.book.specs.Trees.{Below}
+use Rattle.book.specs.Bits.{bit, bitPages}
+use Rattle.book.specs.Entries.{Table, user, object, used, given, usedPages, grant, fileEntry, unreserved}
+use Rattle.book.specs.Names.{LegalName, LegalType, SameName, SameType}
+use Rattle.book.specs.Files.{FileShape}
+use Rattle.book.specs.Holders.{mine, holders, some, systemPages}
+use Rattle.book.specs.Rows.{Rows, end, row}
+
+-- 1: legal volume name; bit pointer without flags, its pages in 1..P-1
+pub record Rule1 (P : ℕ) (v : Vol) : Type 0 where
+  pub name : LegalName (v 0) 1008
+  pub unflagged : flags (v 0) bitPointer ≡ plain
+  pub start : 0 < page (v 0) bitPointer
+  pub fits : page (v 0) bitPointer + bitPages P ≤ P
+
+-- 2: user pointer zero, or indexed to 1..P-1; object pointer zero exactly when the user pointer is, else indexed or subindexed to 1..P-1
+unfoldable pub Rule2 : ℕ → Vol → Type 0
+Rule2 P v = (Zero (v 0) userPointer × Zero (v 0) objectPointer)
+    ⊎ (Inside P (v 0) userPointer indexed × (Inside P (v 0) objectPointer indexed ⊎ Inside P (v 0) objectPointer subindexed))
+
+-- 3: user index: each of slots 0..7 zero or in 1..P-1, others zero
+unfoldable pub Rule3 : ℕ → Vol → Type 0
+Rule3 P v = (n : ℕ) → n < 512 → (slot v (page (v 0) userPointer) n < P) × (8 ≤ n → slot v (page (v 0) userPointer) n ≡ 0)
+
+-- 4: used users: own index right, name legal, no two names equal, used <= given
+pub record UserOk (U : Table) (u : ℕ) : Type 0 where
+  pub own : U u 18 ≡ u
+  pub name : LegalName (U u) 1
+  pub within : usedPages U u ≤ given U u
+
+unfoldable pub Rule4 : Table → Type 0
+Rule4 U = ((u : ℕ) → u < 256 → 0 < used (U u) → UserOk U u)
+    × ((a b : ℕ) → a < 256 → b < 256 → 0 < used (U a) → 0 < used (U b) → SameName (U a) (U b) → a ≡ b)
+
+-- 5: object blocks: allowed slots zero or in 1..P-1, others zero; if indexed, no used user above 63
+unfoldable pub Rule5By : ℕ → Vol → ℕ → ℕ → Type 0
+Rule5By P v zero t = Unit {0}
+Rule5By P v (suc zero) t = Below v P 1 t × ((u : ℕ) → 63 < u → u < 256 → used (user v u) ≡ 0)
+Rule5By P v (suc (suc zero)) t = Below v P 2 t × ((i : ℕ) → 4 ≤ i → i < 512 → slot v t i ≡ 0)
+Rule5By P v (suc (suc (suc x))) t = ⊥
+
+unfoldable pub Rule5 : ℕ → Vol → Type 0
+Rule5 P v = Rule5By P v (flags (v 0) objectPointer) (page (v 0) objectPointer)
+
+-- 6: used objects: owner is used, words 16 and 17 right, name and type legal, no two of a user equal
+pub record FileOk (U O : Table) (u e : ℕ) : Type 0 where
+  pub owner : 0 < used (U u)
+  pub whose : O e 16 ≡ u
+  pub number : O e 17 ≡ e
+  pub name : LegalName (O e) 1
+  pub type : LegalType (O e) 9
+
+unfoldable pub Rule6 : Table → Table → Type 0
+Rule6 U O = ((u f : ℕ) → u < 256 → f < 256 → 0 < used (O (fileEntry u f)) → FileOk U O u (fileEntry u f))
+    × ((u a b : ℕ) → u < 256 → a < 256 → b < 256 → 0 < used (O (fileEntry u a)) → 0 < used (O (fileEntry u b))
+    → SameName (O (fileEntry u a)) (O (fileEntry u b)) → SameType (O (fileEntry u a)) (O (fileEntry u b)) → a ≡ b)
+
+-- 7: each file has one of the shapes, its bytes right, all pages in 1..P-1
+unfoldable pub Rule7 : ℕ → Vol → Type 0
+Rule7 P v = (e : ℕ) → e < 65536 → 0 < used (object v e) → FileShape P v e
+
+-- 8: no page has two holders
+unfoldable pub Rule8 : ℕ → Vol → Type 0
+Rule8 P v = (p : ℕ) → p < P → holders P v p ≤ 1
+
+-- 9: a bit is set exactly when its page has a holder
+unfoldable pub Rule9 : ℕ → Vol → Type 0
+Rule9 P v = (p : ℕ) → p < P → (bit P v p ≡ 1 → 0 < holders P v p) × (0 < holders P v p → bit P v p ≡ 1)
+
+-- 10: each used count is the pages of his files; unreserved + given of all used users + system pages = P
+unfoldable pub Rule10 : ℕ → Vol → Type 0
+Rule10 P v = ((u : ℕ) → u < 256 → 0 < used (user v u) → usedPages (user v) u ≡ mine v u some)
+    × (unreserved v + sum 256 (grant (user v)) + systemPages P v ≡ P)
+
+pub record Sound (P : ℕ) (v : Vol) : Type 0 where
+  pub r1 : Rule1 P v
+  pub r2 : Rule2 P v
+  pub r3 : Rule3 P v
+  pub r4 : Rule4 (user v)
+  pub r5 : Rule5 P v
+  pub r6 : Rule6 (user v) (object v)
+  pub r7 : Rule7 P v
+  pub r8 : Rule8 P v
+  pub r9 : Rule9 P v
+  pub r10 : Rule10 P v
+
+-- the ten as a table: the lowest broken rule is its lowest number
+unfoldable pub rules : ℕ → Vol → Rows
+rules P v =
+    row 1 (Rule1 P v) (row 2 (Rule2 P v) (row 3 (Rule3 P v) (row 4 (Rule4 (user v)) (row 5 (Rule5 P v) (row 6 (Rule6 (user v) (object v))
+    (row 7 (Rule7 P v) (row 8 (Rule8 P v) (row 9 (Rule9 P v) (row 10 (Rule10 P v) end)))))))))
