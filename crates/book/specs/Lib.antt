@@ -1,3 +1,4 @@
+pub mod Decides
 pub mod Words
 pub mod Pointers
 pub mod Trees
