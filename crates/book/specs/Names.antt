@@ -55,6 +55,10 @@ SameName w x = Same 8 w 1 x 1
 abbrev pub SameType : Words → Words → Type 0
 SameType w x = Same 2 w 9 x 9
 
+-- name and type together
+abbrev pub SameFile : Words → Words → Type 0
+SameFile w x = SameName w x × SameType w x
+
 -- an entry of the name s, of the type s
 abbrev pub Named : Words → List ℕ → Type 0
 Named w s = Same 8 w 1 (packed s) 0

@@ -8,7 +8,7 @@ use Rattle.book.specs.Pointers.{flags, page, slot, Zero, Inside, plain, 
 use Rattle.book.specs.Trees.{Below}
 use Rattle.book.specs.Bits.{bit, bitPages}
 use Rattle.book.specs.Entries.{Table, user, object, used, given, usedPages, grant, fileEntry, unreserved}
-use Rattle.book.specs.Names.{LegalName, LegalType, SameName, SameType}
+use Rattle.book.specs.Names.{LegalName, LegalType, SameName, SameFile}
 use Rattle.book.specs.Files.{FileShape}
 use Rattle.book.specs.Holders.{mine, holders, some, systemPages}
 use Rattle.book.specs.Rows.{Rows, end, row}
@@ -60,7 +60,7 @@ pub record FileOk (U O : Table) (u e : ℕ) : Type 0 where
 unfoldable pub Rule6 : Table → Table → Type 0
 Rule6 U O = ((u f : ℕ) → u < 256 → f < 256 → 0 < used (O (fileEntry u f)) → FileOk U O u (fileEntry u f))
     × ((u a b : ℕ) → u < 256 → a < 256 → b < 256 → 0 < used (O (fileEntry u a)) → 0 < used (O (fileEntry u b))
-    → SameName (O (fileEntry u a)) (O (fileEntry u b)) → SameType (O (fileEntry u a)) (O (fileEntry u b)) → a ≡ b)
+    → SameFile (O (fileEntry u a)) (O (fileEntry u b)) → a ≡ b)
 
 -- 7: each file has one of the shapes, its bytes right, all pages in 1..P-1
 unfoldable pub Rule7 : ℕ → Vol → Type 0

@@ -1,0 +1,428 @@
+-- The five ways in which a file grows by one page, over new pages in hand. Assumes nothing.
+use mathlib.Core.Path.{_≡_, refl, sym, ap, ap₂, _∙_, subst, subst₂, subst₃}
+use mathlib.Core.Logic.{_≢_, _⊎_, inl, inr}
+use Prim.Native.Nat.{ℕ, zero, suc, _+_, _-_, _*_, _/_, _%_, _^_, _≤_, _<_, zero-le, min}
+use native.Mathlib.Nat.{le-refl, not-suc-le-zero, le-trans, mod-lt, div-one, mod-one}
+use native.Mathlib.Decide.{ℕ-discrete, decLt}
+use native.Mathlib.Omega.{arith}
+use Rattle.sums.specs.Sum.{sum, is, is-same, is-other, is-sym, sum-at, sum-at₂, sum-at-zero, sum-ext, sum-none, sum-change}
+use Rattle.book.specs.Bits.{bitFile, bit}
+use Rattle.book.specs.Entries.{userFile, objectFile, user, object, used, given, usedPages}
+use Rattle.book.specs.Files.{fileAt, Shape, FileShape}
+use Rattle.book.specs.Grow.{finish}
+use Rattle.book.specs.Holders.{hit, some, all, mine}
+use Rattle.book.specs.Pointers.{slot, flags, page, pointer, setSlot}
+use Rattle.book.specs.Rules.{Rule7}
+use Rattle.book.specs.Trees.{Root, tree, run, weigh, blocks, weighR, blocksR, pageAt, upto, leaf, rootAt, rootBy, Fill, Below}
+use Rattle.book.specs.Words.{Vol, two, word}
+use Rattle.book.specs.Written.{word-ext}
+use Rattle.laws.specs.Count.{Good, Most, bit-le, file-unused}
+use Rattle.laws.specs.Finish.{Blocks, Regrown, finish-good, finish-page, file-used}
+use Rattle.laws.specs.Frame.{upto-in}
+use Rattle.laws.specs.Grown.{slot-here, slot-other, setSlot-page, setSlot-agree, Grown, grown-page, grown-block, grown-up, raise-weight, raise-fill, raise-below, raise-old, raise-at, fill-zero, part-old}
+use Rattle.laws.specs.Part.{rest, all-rest, rest-add, file-le, weighR-add}
+use Rattle.laws.specs.Tree.{Agree, hit-zero, hit-same, hit-le, hit-other, some-pos, slot-zero, weigh-none, slot-same, pow-pos, blocks-le}
+
+pub hit-sym : (p d : ℕ) → hit p d ≡ hit d p
+unfolding hit
+hit-sym zero zero = refl
+hit-sym zero (suc d) = is-other (suc d) 0 (omega arith)
+hit-sym (suc p) zero = sym (is-other (suc p) 0 (omega arith))
+hit-sym (suc p) (suc d) = is-sym (suc d) (suc p)
+
+pub all-add : (P : ℕ) (v : Vol) (g h : ℕ → ℕ) → all P v (λ x. g x + h x) ≡ all P v g + all P v h
+all-add P v g h = omega (arith, all-rest P v (λ x. g x + h x), all-rest P v g, all-rest P v h, rest-add v g h, weighR-add v g h (bitFile P v))
+
+pub Agree-comp : (C D : ℕ → ℕ) (u v w : Vol) → Agree C u v → Agree D v w → Agree (λ x. C x + D x) u w
+unfolding Agree
+Agree-comp C D u v w a b q h k = b q (omega (arith, h)) k ∙ a q (omega (arith, h)) k
+
+pub Agree-mono : (C D : ℕ → ℕ) (u v : Vol) → ((q : ℕ) → D q ≡ 0 → C q ≡ 0) → Agree C u v → Agree D u v
+unfolding Agree
+Agree-mono C D u v h a q z k = a q (h q z) k
+
+-- the file at e grew: the volume is as good as before, its n pages are where they were, and page n is d
+pub record Grew (P : ℕ) (v v′ : Vol) (e n d : ℕ) : Type 0 where
+  pub good : Good P v′ (λ p. 0)
+  pub old : (m : ℕ) → m < n → pageAt v′ (fileAt v′ e) m ≡ pageAt v (fileAt v e) m
+  pub at : pageAt v′ (fileAt v′ e) n ≡ d
+
+-- a page is put at position m of index block X, which has m
+pub grown-leaf : (P : ℕ) (v : Vol) (X m d : ℕ) → 0 < X → m < 512 → 0 < d → d < P → Fill v 1 X m → Below v P 1 X → Grown P v (setSlot v X m d) 1 X X m d (λ g. g d)
+unfolding Fill blocks
+grown-leaf P v X m d pX hm pd ld F B =
+    let v₂ : Vol = setSlot v X m d in
+    let i1 : m / 1 ≡ m = div-one m in
+    let f0 : Fill v 0 (slot v X (m / 1)) (min (m - m / 1 * 1) 1) = F .2 (m / 1) (omega arith) in
+    let was : slot v X (m / 1) ≡ 0 = f0 .1 (part-old 1 m (le-refl 1) ∙ mod-one m) in
+    let now : slot v₂ X (m / 1) ≡ d = ap (slot v₂ X) i1 ∙ slot-here v X m d pX in
+    grown-up P v v₂ (hit X) (setSlot-agree v X m d) 0 X m d (λ g. g d) pX hm (λ j ne. slot-other v X m d pX j (λ q. ne (q ∙ sym i1))) (λ j h ne. refl) F B
+    (subst₃ (λ (x y z : ℕ). Grown P v v₂ 0 x y z d (λ g. g d)) (sym was) (sym now) (sym (mod-one m)) (grown-page P v v₂ d pd ld))
+
+module _ (P : ℕ) (v : Vol) (hand : ℕ → ℕ) (G : Good P v hand) (pos : 0 < P) (big : P ≤ 1073741824) (a f : ℕ) (ha : a < 256) (hf : f < 256)
+    (uf : 0 < used (object v (256 * a + f))) where
+  abbrev e : ℕ
+  e = 256 * a + f
+
+  abbrev U : ℕ
+  U = pageAt v (userFile v) (a / 32)
+
+  abbrev O : ℕ
+  O = pageAt v (objectFile v) (e / 32)
+
+  abbrev n : ℕ
+  n = two (object v e) 26
+
+  abbrev t : ℕ
+  t = page (object v e) 30
+
+  -- a page of the file is held by it alone
+  pub own : (q : ℕ) → q < P → 1 ≤ weighR v (fileAt v e) (hit q) → (all P v (hit q) ≡ weighR v (fileAt v e) (hit q)) × (weighR v (fileAt v e) (hit q) ≡ 1)
+  unfolding rest
+  own q h i = (
+    omega (arith, G .held q h, bit-le P v q, all-rest P v (hit q), file-le v (hit q) a f ha hf),
+    omega (arith, G .held q h, bit-le P v q, all-rest P v (hit q), file-le v (hit q) a f ha hf),
+  )
+
+  -- a page in hand is held by nobody
+  pub loose : (q : ℕ) → q < P → 1 ≤ hand q → (all P v (hit q) ≡ 0) × (weighR v (fileAt v e) (hit q) ≡ 0) × (hand q ≡ 1)
+  unfolding rest
+  loose q h i = (omega (arith, G .held q h, bit-le P v q), omega (arith, G .held q h, bit-le P v q, all-rest P v (hit q), file-le v (hit q) a f ha hf), omega (arith, G .held q h, bit-le P v q))
+
+  pub root-is : (x : ℕ) → flags (object v e) 30 ≡ x → fileAt v e ≡ rootBy x t n
+  unfolding rootAt
+  root-is x h = file-used v e uf ∙ ap (λ (y : ℕ). rootBy y t n) h
+
+  pub shape-is : (x : ℕ) → flags (object v e) 30 ≡ x → Shape P v x t n
+  unfolding Rule7 FileShape
+  shape-is x h = subst (λ (y : ℕ). Shape P v y t n) h (G .most .r7 e (omega arith) uf .0)
+
+  -- ---- within one index block: position n of page t
+  module _ (d : ℕ) (hd : d < P) (pd : 0 < d) (hand-is : (p : ℕ) → hand p ≡ hit d p) (fl : flags (object v e) 30 ≡ 1) (lt : n < 512)
+      (le : usedPages (user v) a + 1 ≤ given (user v) a) where
+    pub caseB : Grew P v (finish (setSlot v t n d) U O a e (suc n) (pointer 1 t) (usedPages (user v) a + 1)) e n d
+    unfolding Shape rootBy weighR Fill Below weigh pageAt
+    caseB =
+        record {
+          good = finish-good P v hand G pos big a f ha hf uf (hit t) v₂ K (suc n) 1 t (usedPages (user v) a + 1) (λ g. 0) (λ g. g d) (λ p. 0) R;
+          old = λ m h. finish-page P v hand G pos big a f ha hf uf (hit t) v₂ K (suc n) 1 t (usedPages (user v) a + 1) (λ g. 0) (λ g. g d) (λ p. 0) R m ∙ ap (upto m 512) (W .old m h) ∙ sym (ap (λ (r : Root). pageAt v r m) (root-is 1 fl));
+          at = finish-page P v hand G pos big a f ha hf uf (hit t) v₂ K (suc n) 1 t (usedPages (user v) a + 1) (λ g. 0) (λ g. g d) (λ p. 0) R n ∙ upto-in n 512 (leaf v₂ 1 t n) lt ∙ W .at;
+        }
+      where
+        S : Shape P v 1 t n
+        S = shape-is 1 fl
+
+        v₂ : Vol
+        v₂ = setSlot v t n d
+
+        pt : 0 < t
+        pt = S .2 .0 (S .0)
+
+        K : Blocks P v hand G pos big a f ha hf uf (hit t) v₂
+        K = record {
+          none = hit-zero t;
+          only = own t (S .3 .0) (omega (arith, ap (λ (r : Root). weighR v r (hit t)) (root-is 1 fl), hit-same t pt)) .0;
+          agree = setSlot-agree v t n d;
+          master = λ k. setSlot-page v t n d 0 k (omega (arith, pt));
+        }
+
+        W : Grown P v v₂ 1 t t n d (λ g. g d)
+        W = grown-leaf P v t n d pt lt pd hd (S .2) (S .3)
+
+        R : Regrown P v hand G pos big a f ha hf uf (hit t) v₂ K (suc n) 1 t (usedPages (user v) a + 1) (λ g. 0) (λ g. g d) (λ p. 0)
+        R = record {
+          weight = λ g g0. omega (arith, ap (λ (r : Root). weighR v r g) (root-is 1 fl), W .weight g g0);
+          shape = (omega arith, lt, W .fill, W .inside);
+          top = S .3 .0;
+          hands = λ p h. omega (arith, hand-is p, hit-sym p d);
+          fresh = λ q z. omega (arith, hand-is q, hit-sym q d);
+          count = omega (arith, some-pos d pd);
+          within = le;
+        }
+
+  -- ---- within an index block under the subindex: position n % 512 of block n / 512
+  module _ (d : ℕ) (hd : d < P) (pd : 0 < d) (hand-is : (p : ℕ) → hand p ≡ hit d p) (fl : flags (object v e) 30 ≡ 2) (lt : n < 262144) (mid : 0 < n % 512)
+      (le : usedPages (user v) a + 1 ≤ given (user v) a) where
+    abbrev X : ℕ
+    X = slot v t (n / 512)
+
+    pub caseD : Grew P v (finish (setSlot v X (n % 512) d) U O a e (suc n) (pointer 2 t) (usedPages (user v) a + 1)) e n d
+    unfolding Shape rootBy weighR Fill Below weigh blocks pageAt
+    caseD =
+        record {
+          good = finish-good P v hand G pos big a f ha hf uf (hit X) v₂ K (suc n) 2 t (usedPages (user v) a + 1) (λ g. 0) (λ g. g d) (λ p. 0) R;
+          old = λ m h. finish-page P v hand G pos big a f ha hf uf (hit X) v₂ K (suc n) 2 t (usedPages (user v) a + 1) (λ g. 0) (λ g. g d) (λ p. 0) R m ∙ ap (upto m 262144) (W .old m h) ∙ sym (ap (λ (r : Root). pageAt v r m) (root-is 2 fl));
+          at = finish-page P v hand G pos big a f ha hf uf (hit X) v₂ K (suc n) 2 t (usedPages (user v) a + 1) (λ g. 0) (λ g. g d) (λ p. 0) R n ∙ upto-in n 262144 (leaf v₂ 2 t n) lt ∙ W .at;
+        }
+      where
+        S : Shape P v 2 t n
+        S = shape-is 2 fl
+
+        v₂ : Vol
+        v₂ = setSlot v X (n % 512) d
+
+        pt : 0 < t
+        pt = S .2 .0 (omega (arith, S .0))
+
+        i : n / 512 < 512
+        i = omega arith
+
+        FX : Fill v 1 X (n % 512)
+        FX = subst (λ (y : ℕ). Fill v 1 X y) (part-old 512 n (omega arith)) (S .2 .2 (n / 512) i)
+
+        pX : 0 < X
+        pX = FX .0 mid
+
+        BX : Below v P 1 X
+        BX = S .3 .1 (n / 512) i
+
+        child : ℕ → ℕ
+        child j = weigh v 1 (slot v t j) (hit X)
+
+        at : 1 ≤ child (n / 512)
+        at = omega (arith, hit-same X pX)
+
+        whole : weighR v (fileAt v e) (hit X) ≡ hit X t + sum 512 child
+        whole = ap (λ (r : Root). weighR v r (hit X)) (root-is 2 fl)
+
+        one : (all P v (hit X) ≡ weighR v (fileAt v e) (hit X)) × (weighR v (fileAt v e) (hit X) ≡ 1)
+        one = own X (BX .0) (omega (arith, whole, at, sum-at 512 child (n / 512) i))
+
+        tX : t ≢ X
+        tX q = omega (arith, one, whole, at, sum-at 512 child (n / 512) i, subst (λ (y : ℕ). hit X y ≡ 1) (sym q) (hit-same X pX))
+
+        K : Blocks P v hand G pos big a f ha hf uf (hit X) v₂
+        K = record { none = hit-zero X; only = one .0; agree = setSlot-agree v X (n % 512) d; master = λ k. setSlot-page v X (n % 512) d 0 k (omega (arith, pX)) }
+
+        top : (j : ℕ) → slot v₂ t j ≡ slot v t j
+        top j = slot-same v v₂ t (λ k. word-ext v v₂ t k (λ h. setSlot-page v X (n % 512) d t k tX)) j
+
+        W : Grown P v v₂ 2 t t n d (λ g. g d)
+        W = grown-up P v v₂ (hit X) (setSlot-agree v X (n % 512) d) 1 t n d (λ g. g d) pt lt (λ j ne. top j)
+            (λ j h ne. omega (arith, one, whole, at, sum-at₂ 512 child j (n / 512) h i ne, sum-none 512 (λ k. 0) (λ k l. refl)))
+            (S .2) (S .3) (subst (λ (y : ℕ). Grown P v v₂ 1 X y (n % 512) d (λ g. g d)) (sym (top (n / 512))) (grown-leaf P v X (n % 512) d pX (mod-lt n (omega arith)) pd hd FX BX))
+
+        R : Regrown P v hand G pos big a f ha hf uf (hit X) v₂ K (suc n) 2 t (usedPages (user v) a + 1) (λ g. 0) (λ g. g d) (λ p. 0)
+        R = record {
+          weight = λ g g0. omega (arith, ap (λ (r : Root). weighR v r g) (root-is 2 fl), W .weight g g0);
+          shape = (omega (arith, S .0), lt, W .fill, W .inside);
+          top = S .3 .0;
+          hands = λ p h. omega (arith, hand-is p, hit-sym p d);
+          fresh = λ q z. omega (arith, hand-is q, hit-sym q d);
+          count = omega (arith, some-pos d pd);
+          within = le;
+        }
+
+  -- ---- an empty file: index block b with its first page
+  module _ (d b : ℕ) (hd : d < P) (hb : b < P) (pd : 0 < d) (pb : 0 < b) (hand-is : (p : ℕ) → hand p ≡ hit d p + hit b p) (bare : (j : ℕ) → slot v b j ≡ 0)
+      (fl : flags (object v e) 30 ≡ 0) (n0 : n ≡ 0) (le : usedPages (user v) a + 2 ≤ given (user v) a) where
+    pub caseA : Grew P v (finish (setSlot v b 0 d) U O a e 1 (pointer 1 b) (usedPages (user v) a + 2)) e n d
+    unfolding Shape rootBy weighR sum Below pageAt
+    caseA =
+        record {
+          good = finish-good P v hand G pos big a f ha hf uf (hit b) v₂ K 1 1 b (usedPages (user v) a + 2) (λ g. 0) (λ g. g b + g d) (λ p. 0) R;
+          old = λ m h. finish-page P v hand G pos big a f ha hf uf (hit b) v₂ K 1 1 b (usedPages (user v) a + 2) (λ g. 0) (λ g. g b + g d) (λ p. 0) R m ∙ absurd (let r : ⊥ = omega (arith, n0) in r);
+          at = finish-page P v hand G pos big a f ha hf uf (hit b) v₂ K 1 1 b (usedPages (user v) a + 2) (λ g. 0) (λ g. g b + g d) (λ p. 0) R n ∙ upto-in n 512 (leaf v₂ 1 b n) (omega (arith, n0)) ∙ ap (leaf v₂ 1 b) n0 ∙ W .at;
+        }
+      where
+        v₂ : Vol
+        v₂ = setSlot v b 0 d
+
+        lo : (all P v (hit b) ≡ 0) × (weighR v (fileAt v e) (hit b) ≡ 0) × (hand b ≡ 1)
+        lo = loose b hb (omega (arith, hand-is b, hit-same b pb))
+
+        K : Blocks P v hand G pos big a f ha hf uf (hit b) v₂
+        K = record { none = hit-zero b; only = omega (arith, lo); agree = setSlot-agree v b 0 d; master = λ k. setSlot-page v b 0 d 0 k (omega arith) }
+
+        W : Grown P v v₂ 1 0 b 0 d (λ g. g b + g d)
+        W = grown-block P v v₂ 0 b d d (λ g. g d) pos pb hb (slot-here v b 0 d pb) (λ k ne. slot-other v b 0 d pb k ne ∙ bare k) (grown-page P v v₂ d pd hd)
+
+        R : Regrown P v hand G pos big a f ha hf uf (hit b) v₂ K 1 1 b (usedPages (user v) a + 2) (λ g. 0) (λ g. g b + g d) (λ p. 0)
+        R = record {
+          weight = λ g g0. omega (arith, ap (λ (r : Root). weighR v r g) (root-is 0 fl) ∙ ap (λ (k : ℕ). weighR v (run t k) g) n0, W .weight g g0, weigh-none v g g0 1);
+          shape = (omega arith, omega arith, W .fill, W .inside);
+          top = hb;
+          hands = λ p h. omega (arith, hand-is p, hit-sym p d, hit-sym p b);
+          fresh = λ q z. omega (arith, hand-is q, hit-sym q d, hit-sym q b);
+          count = omega (arith, some-pos d pd, some-pos b pb);
+          within = le;
+        }
+
+  -- ---- a new index block under the subindex
+  module _ (d b : ℕ) (hd : d < P) (hb : b < P) (pd : 0 < d) (pb : 0 < b) (hand-is : (p : ℕ) → hand p ≡ hit d p + hit b p) (bare : (j : ℕ) → slot v b j ≡ 0)
+      (fl : flags (object v e) 30 ≡ 2) (lt : n < 262144) (start : n % 512 ≡ 0) (le : usedPages (user v) a + 2 ≤ given (user v) a) where
+    pub caseE : Grew P v (finish (setSlot (setSlot v t (n / 512) b) b 0 d) U O a e (suc n) (pointer 2 t) (usedPages (user v) a + 2)) e n d
+    unfolding Shape rootBy weighR Fill Below weigh blocks pageAt
+    caseE =
+        record {
+          good = finish-good P v hand G pos big a f ha hf uf D v₂ K (suc n) 2 t (usedPages (user v) a + 2) (λ g. 0) (λ g. g b + g d) (λ p. 0) R;
+          old = λ m h. finish-page P v hand G pos big a f ha hf uf D v₂ K (suc n) 2 t (usedPages (user v) a + 2) (λ g. 0) (λ g. g b + g d) (λ p. 0) R m ∙ ap (upto m 262144) (W .old m h) ∙ sym (ap (λ (r : Root). pageAt v r m) (root-is 2 fl));
+          at = finish-page P v hand G pos big a f ha hf uf D v₂ K (suc n) 2 t (usedPages (user v) a + 2) (λ g. 0) (λ g. g b + g d) (λ p. 0) R n ∙ upto-in n 262144 (leaf v₂ 2 t n) lt ∙ W .at;
+        }
+      where
+        S : Shape P v 2 t n
+        S = shape-is 2 fl
+
+        v₁ : Vol
+        v₁ = setSlot v t (n / 512) b
+
+        v₂ : Vol
+        v₂ = setSlot v₁ b 0 d
+
+        D : ℕ → ℕ
+        D x = hit t x + hit b x
+
+        pt : 0 < t
+        pt = S .2 .0 (omega (arith, S .0))
+
+        i : n / 512 < 512
+        i = omega arith
+
+        was : slot v t (n / 512) ≡ 0
+        was = S .2 .2 (n / 512) i .1 (part-old 512 n (omega arith) ∙ start)
+
+        child : (ℕ → ℕ) → ℕ → ℕ
+        child g j = weigh v 1 (slot v t j) g
+
+        whole : (g : ℕ → ℕ) → weighR v (fileAt v e) g ≡ g t + sum 512 (child g)
+        whole g = ap (λ (r : Root). weighR v r g) (root-is 2 fl)
+
+        one : (all P v (hit t) ≡ weighR v (fileAt v e) (hit t)) × (weighR v (fileAt v e) (hit t) ≡ 1)
+        one = own t (S .3 .0) (omega (arith, whole (hit t), hit-same t pt))
+
+        lo : (all P v (hit b) ≡ 0) × (weighR v (fileAt v e) (hit b) ≡ 0) × (hand b ≡ 1)
+        lo = loose b hb (omega (arith, hand-is b, hit-same b pb))
+
+        tb : t ≢ b
+        tb q = omega (arith, lo, whole (hit b), subst (λ (y : ℕ). hit b y ≡ 1) (sym q) (hit-same b pb))
+
+        agree : Agree D v v₂
+        agree = Agree-comp (hit t) (hit b) v v₁ v₂ (setSlot-agree v t (n / 512) b) (setSlot-agree v₁ b 0 d)
+
+        K : Blocks P v hand G pos big a f ha hf uf D v₂
+        K = record {
+          none = omega (arith, hit-zero t, hit-zero b);
+          only = omega (arith, one, lo, all-add P v (hit t) (hit b), weighR-add v (hit t) (hit b) (fileAt v e));
+          agree = agree;
+          master = λ k. setSlot-page v₁ b 0 d 0 k (omega arith) ∙ setSlot-page v t (n / 512) b 0 k (omega (arith, pt));
+        }
+
+        at-t : (j : ℕ) → slot v₂ t j ≡ slot v₁ t j
+        at-t j = slot-same v₁ v₂ t (λ k. word-ext v₁ v₂ t k (λ h. setSlot-page v₁ b 0 d t k tb)) j
+
+        at-b : (j : ℕ) → slot v₁ b j ≡ slot v b j
+        at-b j = slot-same v v₁ b (λ k. word-ext v v₁ b k (λ h. setSlot-page v t (n / 512) b b k (λ q. tb (sym q)))) j
+
+        now : slot v₂ t (n / 512) ≡ b
+        now = at-t (n / 512) ∙ slot-here v t (n / 512) b pt
+
+        W : Grown P v v₂ 2 t t n d (λ g. g b + g d)
+        W = grown-up P v v₂ D agree 1 t n d (λ g. g b + g d) pt lt (λ j ne. at-t j ∙ slot-other v t (n / 512) b pt j ne)
+            (λ j h ne. omega (arith, one, lo, whole (hit t), whole (hit b), hit-same t pt, sum-at 512 (child (hit t)) j h, sum-at 512 (child (hit b)) j h, sum-none 512 (λ k. 0) (λ k l. refl)))
+            (S .2) (S .3)
+            (subst₃ (λ (x y z : ℕ). Grown P v v₂ 1 x y z d (λ g. g b + g d)) (sym was) (sym now) (sym start)
+            (grown-block P v v₂ 0 b d d (λ g. g d) pos pb hb (slot-here v₁ b 0 d pb) (λ k ne. slot-other v₁ b 0 d pb k ne ∙ at-b k ∙ bare k) (grown-page P v v₂ d pd hd)))
+
+        R : Regrown P v hand G pos big a f ha hf uf D v₂ K (suc n) 2 t (usedPages (user v) a + 2) (λ g. 0) (λ g. g b + g d) (λ p. 0)
+        R = record {
+          weight = λ g g0. omega (arith, ap (λ (r : Root). weighR v r g) (root-is 2 fl), W .weight g g0);
+          shape = (omega (arith, S .0), lt, W .fill, W .inside);
+          top = S .3 .0;
+          hands = λ p h. omega (arith, hand-is p, hit-sym p d, hit-sym p b);
+          fresh = λ q z. omega (arith, hand-is q, hit-sym q d, hit-sym q b);
+          count = omega (arith, some-pos d pd, some-pos b pb);
+          within = le;
+        }
+
+  -- ---- the index block is full: a subindex block s over it and over a new one
+  module _ (d b s : ℕ) (hd : d < P) (hb : b < P) (hs : s < P) (pd : 0 < d) (pb : 0 < b) (ps : 0 < s) (hand-is : (p : ℕ) → hand p ≡ hit d p + hit b p + hit s p)
+      (bare : (j : ℕ) → slot v b j ≡ 0) (bare′ : (j : ℕ) → slot v s j ≡ 0)
+      (fl : flags (object v e) 30 ≡ 1) (full : n ≡ 512) (le : usedPages (user v) a + 3 ≤ given (user v) a) where
+    pub caseC : Grew P v (finish (setSlot (setSlot (setSlot v s 0 t) s 1 b) b 0 d) U O a e 513 (pointer 2 s) (usedPages (user v) a + 3)) e n d
+    unfolding Shape rootBy weighR Fill Below weigh blocks pageAt
+    caseC =
+        record {
+          good = finish-good P v hand G pos big a f ha hf uf D v₃ K 513 2 s (usedPages (user v) a + 3) (λ g. 0) (λ g. g s + (g b + g d)) (λ p. 0) R;
+          old = λ m h. finish-page P v hand G pos big a f ha hf uf D v₃ K 513 2 s (usedPages (user v) a + 3) (λ g. 0) (λ g. g s + (g b + g d)) (λ p. 0) R m ∙ upto-in m 262144 (leaf v₃ 2 s m) (omega (arith, full)) ∙ raise-old P v v₃ D agree 1 t s b d (λ g. g b + g d) pos ps hs s0 s1 so bz F B W m (omega (arith, full)) ∙ sym (upto-in m 512 (leaf v 1 t m) (omega (arith, full))) ∙ sym (ap (λ (r : Root). pageAt v r m) (root-is 1 fl));
+          at = finish-page P v hand G pos big a f ha hf uf D v₃ K 513 2 s (usedPages (user v) a + 3) (λ g. 0) (λ g. g s + (g b + g d)) (λ p. 0) R n ∙ upto-in n 262144 (leaf v₃ 2 s n) (omega (arith, full)) ∙ ap (leaf v₃ 2 s) full ∙ raise-at P v v₃ D agree 1 t s b d (λ g. g b + g d) pos ps hs s0 s1 so bz F B W;
+        }
+      where
+        S : Shape P v 1 t n
+        S = shape-is 1 fl
+
+        F : Fill v 1 t 512
+        F = subst (λ (y : ℕ). Fill v 1 t y) full (S .2)
+
+        B : Below v P 1 t
+        B = S .3
+
+        pt : 0 < t
+        pt = S .2 .0 (S .0)
+
+        v₁ : Vol
+        v₁ = setSlot v s 0 t
+
+        v₂ : Vol
+        v₂ = setSlot v₁ s 1 b
+
+        v₃ : Vol
+        v₃ = setSlot v₂ b 0 d
+
+        D : ℕ → ℕ
+        D x = hit s x + hit b x
+
+        lo : (all P v (hit b) ≡ 0) × (weighR v (fileAt v e) (hit b) ≡ 0) × (hand b ≡ 1)
+        lo = loose b hb (omega (arith, hand-is b, hit-same b pb))
+
+        lo′ : (all P v (hit s) ≡ 0) × (weighR v (fileAt v e) (hit s) ≡ 0) × (hand s ≡ 1)
+        lo′ = loose s hs (omega (arith, hand-is s, hit-same s ps))
+
+        sb : s ≢ b
+        sb q = omega (arith, lo′, hand-is s, hit-same s ps, subst (λ (y : ℕ). hit y s ≡ 1) q (hit-same s ps))
+
+        agree : Agree D v v₃
+        agree = Agree-mono (λ x. hit s x + hit s x + hit b x) D v v₃ (λ q z. omega (arith, z))
+            (Agree-comp (λ x. hit s x + hit s x) (hit b) v v₂ v₃ (Agree-comp (hit s) (hit s) v v₁ v₂ (setSlot-agree v s 0 t) (setSlot-agree v₁ s 1 b)) (setSlot-agree v₂ b 0 d))
+
+        K : Blocks P v hand G pos big a f ha hf uf D v₃
+        K = record {
+          none = omega (arith, hit-zero s, hit-zero b);
+          only = omega (arith, lo, lo′, all-add P v (hit s) (hit b), weighR-add v (hit s) (hit b) (fileAt v e));
+          agree = agree;
+          master = λ k. setSlot-page v₂ b 0 d 0 k (omega arith) ∙ setSlot-page v₁ s 1 b 0 k (omega arith) ∙ setSlot-page v s 0 t 0 k (omega arith);
+        }
+
+        at-s : (j : ℕ) → slot v₃ s j ≡ slot v₂ s j
+        at-s j = slot-same v₂ v₃ s (λ k. word-ext v₂ v₃ s k (λ h. setSlot-page v₂ b 0 d s k sb)) j
+
+        at-b : (j : ℕ) → slot v₂ b j ≡ slot v b j
+        at-b j = slot-same v v₂ b (λ k. word-ext v v₂ b k (λ h. setSlot-page v₁ s 1 b b k (λ q. sb (sym q)) ∙ setSlot-page v s 0 t b k (λ q. sb (sym q)))) j
+
+        s0 : slot v₃ s 0 ≡ t
+        s0 = at-s 0 ∙ slot-other v₁ s 1 b ps 0 (omega arith) ∙ slot-here v s 0 t ps
+
+        s1 : slot v₃ s 1 ≡ b
+        s1 = at-s 1 ∙ slot-here v₁ s 1 b ps
+
+        so : (k : ℕ) → k ≢ 0 → k ≢ 1 → slot v₃ s k ≡ 0
+        so k i j = at-s k ∙ slot-other v₁ s 1 b ps k j ∙ slot-other v s 0 t ps k i ∙ bare′ k
+
+        whole : (g : ℕ → ℕ) → weighR v (fileAt v e) g ≡ weigh v 1 t g
+        whole g = ap (λ (r : Root). weighR v r g) (root-is 1 fl)
+
+        bz : blocks v 1 t D ≡ 0
+        bz = omega (arith, lo, lo′, blocks-le v D 1 t, whole D, weighR-add v (hit s) (hit b) (fileAt v e))
+
+        W : Grown P v v₃ 1 0 b 0 d (λ g. g b + g d)
+        W = grown-block P v v₃ 0 b d d (λ g. g d) pos pb hb (slot-here v₂ b 0 d pb) (λ k ne. slot-other v₂ b 0 d pb k ne ∙ at-b k ∙ bare k) (grown-page P v v₃ d pd hd)
+
+        R : Regrown P v hand G pos big a f ha hf uf D v₃ K 513 2 s (usedPages (user v) a + 3) (λ g. 0) (λ g. g s + (g b + g d)) (λ p. 0)
+        R = record {
+          weight = λ g g0. omega (arith, ap (λ (r : Root). weighR v r g) (root-is 1 fl), raise-weight P v v₃ D agree 1 t s b d (λ g. g b + g d) pos ps hs s0 s1 so bz F B W g g0);
+          shape = (omega arith, omega arith, raise-fill P v v₃ D agree 1 t s b d (λ g. g b + g d) pos ps hs s0 s1 so bz F B W, raise-below P v v₃ D agree 1 t s b d (λ g. g b + g d) pos ps hs s0 s1 so bz F B W);
+          top = hs;
+          hands = λ p h. omega (arith, hand-is p, hit-sym p d, hit-sym p b, hit-sym p s);
+          fresh = λ q z. omega (arith, hand-is q, hit-sym q d, hit-sym q b, hit-sym q s);
+          count = omega (arith, some-pos d pd, some-pos b pb, some-pos s ps);
+          within = le;
+        }

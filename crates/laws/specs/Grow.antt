@@ -1,0 +1,286 @@
+-- Growing a file by one page leaves a sound volume sound, and has the pages it needs. Assumes nothing.
+use mathlib.Core.Path.{_≡_, refl, sym, ap, ap₂, _∙_, subst, subst₂, subst₃}
+use mathlib.Core.Logic.{_≢_, _⊎_, inl, inr}
+use Prim.Native.Nat.{ℕ, zero, suc, _+_, _-_, _*_, _/_, _%_, _^_, _≤_, _<_, zero-le, min}
+use native.Mathlib.Nat.{le-refl, not-suc-le-zero, le-trans, mod-lt, eq-zero-or-pos, pow-suc, mul-comm, mul-le-mul-right}
+use native.Mathlib.Decide.{ℕ-discrete, decLt}
+use native.Mathlib.Omega.{arith}
+use Rattle.sums.specs.Sum.{sum, is, is-same, is-other, sum-le, sum-const}
+use Rattle.book.specs.Bits.{bit, claim}
+use Rattle.book.specs.Entries.{Table, userFile, objectFile, user, object, used, given, usedPages}
+use Rattle.book.specs.Files.{fileAt, Shape, FileShape, need}
+use Rattle.book.specs.Grow.{finish, Phase, first, onward, raise, block, phaseBy, indexOf, taken₁, taken₂, taken₃, entered, growTo, grow}
+use Rattle.book.specs.Holders.{hit, some, all}
+use Rattle.book.specs.Pointers.{slot, flags, page, pointer, setSlot}
+use Rattle.book.specs.Rules.{Rule6, Rule7, Sound}
+use Rattle.book.specs.Trees.{Root, weigh, weighR, pageAt, rootBy, Fill, Below}
+use Rattle.book.specs.Words.{Vol, two, word}
+use Rattle.laws.specs.Cases.{Grew, caseA, caseB, caseC, caseD, caseE, root-is, shape-is}
+use Rattle.laws.specs.Claim.{claim-good, claim-user, claim-obj, claim-keeps, claim-page, claim-zero, claim-free, free-pos}
+use Rattle.laws.specs.Count.{Good, Most, good, sound, free, free-count, room}
+use Rattle.laws.specs.Part.{all-rest, file-le, rest}
+use Rattle.laws.specs.Tree.{hit-same, some-pos, slot-same, slot-zero, pow-pos, two-ext}
+
+-- ---- a full tree has as many pages
+
+pub full-count : (v : Vol) (l t : ℕ) → Fill v l t (512 ^ l) → 512 ^ l ≤ weigh v l t some
+unfolding Fill weigh
+full-count v zero t h = omega (arith, some-pos t (h .0 (omega arith)))
+full-count v (suc l) t h =
+    let L : ℕ = 512 ^ l in
+    let s : 512 ^ suc l ≡ 512 * L = pow-suc 512 l ∙ mul-comm (512 ^ l) 512 in
+    let each : (k : ℕ) → k < 512 → L ≤ weigh v l (slot v t k) some = λ k i.
+    full-count v l (slot v t k) (subst (λ (x : ℕ). Fill v l (slot v t k) x) (let q : min (512 ^ suc l - k * L) L ≡ L = omega (arith, s, mul-le-mul-right L i) in q) (h .2 k i)) in
+    omega (arith, s, sum-le 512 (λ k. L) (λ k. weigh v l (slot v t k) some) each, sum-const 512 L)
+
+slot-bare : (v : Vol) (q : ℕ) → ((k : ℕ) → word v q k ≡ 0) → (j : ℕ) → slot v q j ≡ 0
+unfolding slot two
+slot-bare v q h j = omega (arith, h (2 * j), h (suc (2 * j)))
+
+-- ---- a choice of pages: free while one is
+
+unfoldable pub Chooser : ℕ → (Vol → ℕ) → Type 0
+Chooser P choose = (v : Vol) → 0 < free P v → (choose v < P) × (bit P v (choose v) ≡ 0)
+
+module _ (choose : Vol → ℕ) (P : ℕ) (ch : Chooser P choose) (v : Vol) (S : Sound P v) (pos : 0 < P) (big : P < 262144) (a f : ℕ) (ha : a < 256) (hf : f < 256)
+    (uf : 0 < used (object v (256 * a + f))) where
+  abbrev e : ℕ
+  e = 256 * a + f
+
+  abbrev n : ℕ
+  n = two (object v e) 26
+
+  G0 : Good P v (λ p. 0)
+  G0 = good P v S
+
+  -- the file is not contiguous
+  module _ (kind : flags (object v e) 30 ≡ 0 → n ≡ 0) (le : usedPages (user v) a + need n ≤ given (user v) a) where
+    owner : 0 < used (user v a)
+    unfolding Rule6
+    owner = S .r6 .0 a f ha hf uf .owner
+
+    -- the flags by the page count
+    shape : Shape P v (flags (object v e) 30) (page (object v e) 30) n
+    shape = shape-is P v (λ p. 0) G0 pos (omega arith) a f ha hf uf (flags (object v e) 30) refl
+
+    flag-first : n ≡ 0 → flags (object v e) 30 ≡ 0
+    unfolding Shape
+    flag-first z = go (flags (object v e) 30) shape
+      where
+        go : (x : ℕ) → Shape P v x (page (object v e) 30) n → x ≡ 0
+        go zero h = refl
+        go (suc zero) h = absurd (let q : ⊥ = omega (arith, h .0) in q)
+        go (suc (suc zero)) h = absurd (let q : ⊥ = omega (arith, h .0) in q)
+        go (suc (suc (suc x))) h = absurd h
+
+    flag-low : 0 < n → n ≤ 512 → flags (object v e) 30 ≡ 1
+    unfolding Shape
+    flag-low z i = go (flags (object v e) 30) refl shape
+      where
+        go : (x : ℕ) → flags (object v e) 30 ≡ x → Shape P v x (page (object v e) 30) n → x ≡ 1
+        go zero q h = absurd (let r : ⊥ = omega (arith, kind q) in r)
+        go (suc zero) q h = refl
+        go (suc (suc zero)) q h = absurd (let r : ⊥ = omega (arith, h .0) in r)
+        go (suc (suc (suc x))) q h = absurd h
+
+    flag-high : 512 < n → flags (object v e) 30 ≡ 2
+    unfolding Shape
+    flag-high z = go (flags (object v e) 30) refl shape
+      where
+        go : (x : ℕ) → flags (object v e) 30 ≡ x → Shape P v x (page (object v e) 30) n → x ≡ 2
+        go zero q h = absurd (let r : ⊥ = omega (arith, kind q) in r)
+        go (suc zero) q h = absurd (let r : ⊥ = omega (arith, h .1) in r)
+        go (suc (suc zero)) q h = refl
+        go (suc (suc (suc x))) q h = absurd h
+
+    -- the volume is too small for a file of 262,144 pages
+    small : 512 < n → n < 262144
+    unfolding Shape rootBy weighR rest
+    small z = elim (ℕ-discrete n 262144) [
+      | no m ↦ omega (arith, S2 .1)
+      | yes i ↦ absurd (let r : ⊥ = omega (
+        arith,
+        full-count v 2 (page (object v e) 30) (subst (λ (y : ℕ). Fill v 2 (page (object v e) 30) y) i (S2 .2)),
+        ap (λ (r : Root). weighR v r some) (root-is P v (λ p. 0) G0 pos (omega arith) a f ha hf uf 2 (flag-high z)),
+        file-le v some a f ha hf,
+        all-rest P v some,
+        free-count P v (λ p. 0) G0 pos,
+      ) in r)
+    ]
+      where
+        S2 : Shape P v 2 (page (object v e) 30) n
+        S2 = subst (λ (x : ℕ). Shape P v x (page (object v e) 30) n) (flag-high z) shape
+
+    rooms : need n ≤ free P v
+    rooms = omega (arith, room P v S pos a (need n) ha owner le)
+
+    need-pos : 1 ≤ need n
+    unfolding need
+    need-pos = omega arith
+
+    -- the first page
+    abbrev d : ℕ
+    d = choose v
+
+    dOk : (d < P) × (bit P v d ≡ 0)
+    unfolding Chooser
+    dOk = ch v (omega (arith, rooms, need-pos))
+
+    abbrev v₁ : Vol
+    v₁ = claim P v d
+
+    G1 : Good P v₁ (λ p. 0 + hit d p)
+    G1 = claim-good P v (λ p. 0) G0 d (dOk .0) (dOk .1)
+
+    pd : 0 < d
+    pd = free-pos P v (λ p. 0) G0 d (dOk .0) (dOk .1)
+
+    o1 : object v₁ ≡ object v
+    o1 = claim-obj P v (λ p. 0) G0 d (dOk .0) (dOk .1)
+
+    u1 : user v₁ ≡ user v
+    u1 = claim-user P v (λ p. 0) G0 d (dOk .0) (dOk .1)
+
+    page₁ : (m : ℕ) → pageAt v₁ (fileAt v₁ e) m ≡ pageAt v (fileAt v e) m
+    page₁ m = claim-page P v (λ p. 0) G0 d (dOk .0) (dOk .1) e (omega arith) m
+
+    -- what is said of the volume with the pages taken holds of the one before
+    rebase : (w′ w : Vol) → ((m : ℕ) → pageAt w (fileAt w e) m ≡ pageAt v (fileAt v e) m) → two (object w e) 26 ≡ n → Grew P w w′ e (two (object w e) 26) d → Grew P v w′ e n (choose v)
+    rebase w′ w pg q g = record { good = g .good; old = λ m h. g .old m (omega (arith, q)) ∙ pg m; at = ap (pageAt w′ (fileAt w′ e)) (sym q) ∙ g .at }
+
+    -- the second
+    module _ (more : 2 ≤ need n) where
+      abbrev b : ℕ
+      b = choose v₁
+
+      left₁ : free P v₁ + 1 ≡ free P v
+      left₁ = claim-free P v (λ p. 0) G0 d (dOk .0) (dOk .1)
+
+      bOk : (b < P) × (bit P v₁ b ≡ 0)
+      unfolding Chooser
+      bOk = ch v₁ (omega (arith, rooms, left₁))
+
+      abbrev v₂ : Vol
+      v₂ = claim P v₁ b
+
+      G2 : Good P v₂ (λ p. 0 + hit d p + hit b p)
+      G2 = claim-good P v₁ (λ p. 0 + hit d p) G1 b (bOk .0) (bOk .1)
+
+      pb : 0 < b
+      pb = free-pos P v₁ (λ p. 0 + hit d p) G1 b (bOk .0) (bOk .1)
+
+      bare₂ : (j : ℕ) → slot v₂ b j ≡ 0
+      bare₂ j = slot-bare v₂ b (claim-zero P v₁ (λ p. 0 + hit d p) G1 b (bOk .0) (bOk .1)) j
+
+      o2 : object v₂ ≡ object v
+      o2 = claim-obj P v₁ (λ p. 0 + hit d p) G1 b (bOk .0) (bOk .1) ∙ o1
+
+      page₂ : (m : ℕ) → pageAt v₂ (fileAt v₂ e) m ≡ pageAt v (fileAt v e) m
+      page₂ m = claim-page P v₁ (λ p. 0 + hit d p) G1 b (bOk .0) (bOk .1) e (omega arith) m ∙ page₁ m
+
+      u2 : user v₂ ≡ user v
+      u2 = claim-user P v₁ (λ p. 0 + hit d p) G1 b (bOk .0) (bOk .1) ∙ u1
+
+      -- the third
+      module _ (most : 3 ≤ need n) where
+        abbrev s : ℕ
+        s = choose v₂
+
+        left₂ : free P v₂ + 1 ≡ free P v₁
+        left₂ = claim-free P v₁ (λ p. 0 + hit d p) G1 b (bOk .0) (bOk .1)
+
+        sOk : (s < P) × (bit P v₂ s ≡ 0)
+        unfolding Chooser
+        sOk = ch v₂ (omega (arith, rooms, left₁, left₂))
+
+        abbrev v₃ : Vol
+        v₃ = claim P v₂ s
+
+        G3 : Good P v₃ (λ p. 0 + hit d p + hit b p + hit s p)
+        G3 = claim-good P v₂ (λ p. 0 + hit d p + hit b p) G2 s (sOk .0) (sOk .1)
+
+        ps : 0 < s
+        ps = free-pos P v₂ (λ p. 0 + hit d p + hit b p) G2 s (sOk .0) (sOk .1)
+
+        bare₃ : (j : ℕ) → slot v₃ s j ≡ 0
+        bare₃ j = slot-bare v₃ s (claim-zero P v₂ (λ p. 0 + hit d p + hit b p) G2 s (sOk .0) (sOk .1)) j
+
+        kept₃ : (j : ℕ) → slot v₃ b j ≡ 0
+        kept₃ j = slot-same v₂ v₃ b (claim-keeps P v₂ (λ p. 0 + hit d p + hit b p) G2 s (sOk .0) (sOk .1) b (omega (arith, hit-same b pb))) j ∙ bare₂ j
+
+        o3 : object v₃ ≡ object v
+        o3 = claim-obj P v₂ (λ p. 0 + hit d p + hit b p) G2 s (sOk .0) (sOk .1) ∙ o2
+
+        page₃ : (m : ℕ) → pageAt v₃ (fileAt v₃ e) m ≡ pageAt v (fileAt v e) m
+        page₃ m = claim-page P v₂ (λ p. 0 + hit d p + hit b p) G2 s (sOk .0) (sOk .1) e (omega arith) m ∙ page₂ m
+
+        u3 : user v₃ ≡ user v
+        u3 = claim-user P v₂ (λ p. 0 + hit d p + hit b p) G2 s (sOk .0) (sOk .1) ∙ u2
+
+        raised : n ≡ 512 → Grew P v (growTo choose P v a f raise) e n (choose v)
+        unfolding growTo entered
+        raised n5 = rebase (growTo choose P v a f raise) v₃ page₃ (ap (λ (O : Table). two (O e) 26) o3) (caseC P v₃ (λ p. 0 + hit d p + hit b p + hit s p) G3 pos (omega arith) a f ha hf (subst (λ (O : Table). 0 < used (O e)) (sym o3) uf)
+            d b s (dOk .0) (bOk .0) (sOk .0) pd pb ps (λ p. omega arith) kept₃ bare₃
+            (ap (λ (O : Table). flags (O e) 30) o3 ∙ flag-low (omega arith) (omega arith)) (ap (λ (O : Table). two (O e) 26) o3 ∙ n5) (subst (λ (U : Table). usedPages U a + 3 ≤ given U a) (sym u3) (omega (arith, le, most))))
+
+      firsted : n ≡ 0 → Grew P v (growTo choose P v a f first) e n (choose v)
+      unfolding growTo entered
+      firsted n0 = rebase (growTo choose P v a f first) v₂ page₂ (ap (λ (O : Table). two (O e) 26) o2) (caseA P v₂ (λ p. 0 + hit d p + hit b p) G2 pos (omega arith) a f ha hf (subst (λ (O : Table). 0 < used (O e)) (sym o2) uf)
+          d b (dOk .0) (bOk .0) pd pb (λ p. omega arith) bare₂ (ap (λ (O : Table). flags (O e) 30) o2 ∙ flag-first n0) (ap (λ (O : Table). two (O e) 26) o2 ∙ n0) (subst (λ (U : Table). usedPages U a + 2 ≤ given U a) (sym u2) (omega (arith, le, more))))
+
+      blocked : n % 512 ≡ 0 → 512 < n → Grew P v (growTo choose P v a f block) e n (choose v)
+      unfolding growTo entered
+      blocked z hn = rebase (growTo choose P v a f block) v₂ page₂ (ap (λ (O : Table). two (O e) 26) o2) (caseE P v₂ (λ p. 0 + hit d p + hit b p) G2 pos (omega arith) a f ha hf (subst (λ (O : Table). 0 < used (O e)) (sym o2) uf)
+          d b (dOk .0) (bOk .0) pd pb (λ p. omega arith) bare₂ (ap (λ (O : Table). flags (O e) 30) o2 ∙ flag-high hn) (subst (λ (O : Table). two (O e) 26 < 262144) (sym o2) (small hn)) (ap (λ (O : Table). two (O e) 26 % 512) o2 ∙ z) (subst (λ (U : Table). usedPages U a + 2 ≤ given U a) (sym u2) (omega (arith, le, more))))
+
+    plained : 0 < n % 512 → Grew P v (growTo choose P v a f onward) e n (choose v)
+    unfolding growTo entered indexOf Shape
+    plained m = rebase (growTo choose P v a f onward) v₁ page₁ n₁ (go (flags (object v₁ e) 30) refl)
+      where
+        uf₁ : 0 < used (object v₁ e)
+        uf₁ = subst (λ (O : Table). 0 < used (O e)) (sym o1) uf
+
+        le₁ : usedPages (user v₁) a + 1 ≤ given (user v₁) a
+        le₁ = subst (λ (U : Table). usedPages U a + 1 ≤ given U a) (sym u1) (omega (arith, le, need-pos))
+
+        n₁ : two (object v₁ e) 26 ≡ n
+        n₁ = ap (λ (O : Table). two (O e) 26) o1
+
+        f₁ : flags (object v₁ e) 30 ≡ flags (object v e) 30
+        f₁ = ap (λ (O : Table). flags (O e) 30) o1
+
+        at : (x : ℕ) → flags (object v₁ e) 30 ≡ x → Shape P v x (page (object v e) 30) n
+        at x q = subst (λ (y : ℕ). Shape P v y (page (object v e) 30) n) (sym f₁ ∙ q) shape
+
+        go : (x : ℕ) → flags (object v₁ e) 30 ≡ x → Grew P v₁ (entered a f v₁ (setSlot v₁ (indexOf v₁ x (page (object v₁ e) 30) (two (object v₁ e) 26)) (two (object v₁ e) 26 % 512) d)
+            (suc (two (object v₁ e) 26)) (pointer x (page (object v₁ e) 30)) (usedPages (user v₁) a + 1)) e (two (object v₁ e) 26) d
+        go zero q = absurd (let r : ⊥ = omega (arith, kind (sym f₁ ∙ q)) in r)
+        go (suc zero) q =
+            let lt : n < 512 = omega (arith, at 1 q .1) in
+            subst (λ (k : ℕ). Grew P v₁ (entered a f v₁ (setSlot v₁ (page (object v₁ e) 30) k d) (suc (two (object v₁ e) 26)) (pointer 1 (page (object v₁ e) 30)) (usedPages (user v₁) a + 1)) e (two (object v₁ e) 26) d)
+            (let r : two (object v₁ e) 26 ≡ two (object v₁ e) 26 % 512 = omega (arith, n₁, lt) in r)
+            (caseB P v₁ (λ p. 0 + hit d p) G1 pos (omega arith) a f ha hf uf₁ d (dOk .0) pd (λ p. omega arith) q (omega (arith, n₁, lt)) le₁)
+        go (suc (suc zero)) q = caseD P v₁ (λ p. 0 + hit d p) G1 pos (omega arith) a f ha hf uf₁ d (dOk .0) pd (λ p. omega arith) q (omega (arith, n₁, small (at 2 q .0))) (omega (arith, n₁)) le₁
+        go (suc (suc (suc x))) q = absurd (at (suc (suc (suc x))) q)
+
+    need-block : n % 512 ≡ 0 → 2 ≤ need n
+    unfolding need
+    need-block z = omega (arith, subst (λ (x : ℕ). is x 0 ≡ 1) (sym z) (is-same 0))
+
+    need-raise : n ≡ 512 → 3 ≤ need n
+    unfolding need
+    need-raise z = omega (arith, subst (λ (x : ℕ). is x 512 ≡ 1) (sym z) (is-same 512), let q : n % 512 ≡ 0 = omega arith in subst (λ (x : ℕ). is x 0 ≡ 1) (sym q) (is-same 0))
+
+    -- the whole step: sound again, old pages where they were, the new one is the first page chosen
+    pub grown : Grew P v (grow choose P v a f) e n (choose v)
+    unfolding grow phaseBy
+    grown = go (n % 512) (n / 512) refl refl
+      where
+        go : (m q : ℕ) → n % 512 ≡ m → n / 512 ≡ q → Grew P v (growTo choose P v a f (phaseBy m q)) e n (choose v)
+        go (suc m) q i j = plained (omega arith)
+        go zero zero i j = firsted (need-block i) (omega arith)
+        go zero (suc zero) i j = raised (need-block i) (need-raise (omega arith)) (omega arith)
+        go zero (suc (suc q)) i j = blocked (need-block i) i (omega arith)
+
+    pub grow-sound : Sound P (grow choose P v a f)
+    grow-sound = sound P (grow choose P v a f) (λ p. 0) (grown .good) (λ p h. refl)

@@ -1,0 +1,43 @@
+-- Names and types of entries whose words stay. Assumes nothing.
+use mathlib.Core.Path.{_≡_, refl, sym, ap, _∙_, subst}
+use Prim.Native.Nat.{ℕ, zero, suc, _+_, _-_, _*_, _/_, _%_, _^_, _≤_, _<_}
+use native.Mathlib.Omega.{arith}
+use Rattle.book.specs.Words.{Words}
+use Rattle.book.specs.Names.{byteAt, Letter, Legal, Same, SameName, SameFile}
+
+pub Legal-ext : (w x : Words) (k m n : ℕ) → ((i : ℕ) → i < n → w (k + i / 2) ≡ x (k + i / 2)) → Legal m n x k → Legal m n w k
+unfolding Legal byteAt
+Legal-ext w x k m n h a = (
+  a .0,
+  a .1,
+  a .2,
+  (λ i l. subst (λ (b : ℕ). Letter (b / 256 ^ (1 - i % 2) % 256)) (sym (h i (omega (arith, a .2)))) (a .3 i l)),
+  (λ i l j. ap (λ (b : ℕ). b / 256 ^ (1 - i % 2) % 256) (h i j) ∙ a .4 i l j),
+)
+
+pub Same-ext : (n : ℕ) (w x w′ x′ : Words) (k j : ℕ) → ((i : ℕ) → i < n → w′ (k + i) ≡ w (k + i)) → ((i : ℕ) → i < n → x′ (j + i) ≡ x (j + i)) → Same n w′ k x′ j → Same n w k x j
+unfolding Same
+Same-ext n w x w′ x′ k j a b s i h = sym (a i h) ∙ s i h ∙ b i h
+
+pub Same-sym : (n : ℕ) (w x : Words) (k j : ℕ) → Same n w k x j → Same n x j w k
+unfolding Same
+Same-sym n w x k j s i h = sym (s i h)
+
+pub SameName-ext : (w x w′ x′ : Words) → ((i : ℕ) → i < 8 → w′ (1 + i) ≡ w (1 + i)) → ((i : ℕ) → i < 8 → x′ (1 + i) ≡ x (1 + i)) → SameName w′ x′ → SameName w x
+SameName-ext w x w′ x′ a b s = Same-ext 8 w x w′ x′ 1 1 a b s
+
+pub SameName-sym : (w x : Words) → SameName w x → SameName x w
+SameName-sym w x s = Same-sym 8 w x 1 1 s
+
+-- words 1 to 10 are name and type
+pub SameFile-ext : (w x w′ x′ : Words) → ((i : ℕ) → i < 10 → w′ (1 + i) ≡ w (1 + i)) → ((i : ℕ) → i < 10 → x′ (1 + i) ≡ x (1 + i)) → SameFile w′ x′ → SameFile w x
+SameFile-ext w x w′ x′ a b s = (
+  Same-ext 8 w x w′ x′ 1 1 (λ i h. a i (omega arith)) (λ i h. b i (omega arith)) (s .0),
+  Same-ext 2 w x w′ x′ 9 9 (λ i h. late w′ w a i h) (λ i h. late x′ x b i h) (s .1),
+)
+  where
+    late : (y z : Words) → ((i : ℕ) → i < 10 → y (1 + i) ≡ z (1 + i)) → (i : ℕ) → i < 2 → y (9 + i) ≡ z (9 + i)
+    late y z c i h = let e : 9 + i ≡ 1 + (8 + i) = omega arith in ap y e ∙ c (8 + i) (omega arith) ∙ sym (ap z e)
+
+pub SameFile-sym : (w x : Words) → SameFile w x → SameFile x w
+SameFile-sym w x s = (Same-sym 8 w x 1 1 (s .0), Same-sym 2 w x 9 9 (s .1))

@@ -1,0 +1,1 @@
+// What follows from the book alone: theorems, in specs/. There is no code here.
