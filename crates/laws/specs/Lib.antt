@@ -20,3 +20,4 @@ pub mod UserOnly
 pub mod First
 pub mod Runs
 pub mod Delete
+pub mod Call
