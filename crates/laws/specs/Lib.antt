@@ -22,3 +22,9 @@ pub mod Runs
 pub mod Delete
 pub mod Call
 pub mod Choose
+pub mod Room
+pub mod Highest
+pub mod Places
+pub mod Stays
+pub mod Join
+pub mod Extend

@@ -5,17 +5,12 @@ use Prim.Native.Nat.{ℕ, zero, suc, _+_, _-_, _*_, _≤_, _<_, zero-le}
 use native.Mathlib.Decide.{ℕ-discrete, decLt}
 use native.Mathlib.Omega.{arith}
 use Rattle.sums.specs.Sum.{sum, sum-suc, sum-zero}
-use Rattle.book.specs.Bits.{bit, claim}
+use Rattle.book.specs.Bits.{bit, claim, claimRun}
 use Rattle.book.specs.Entries.{user, object}
 use Rattle.book.specs.Holders.{hit}
 use Rattle.book.specs.Words.{Vol}
 use Rattle.laws.specs.Claim.{claim-good, claim-bit-other, claim-user, claim-obj}
 use Rattle.laws.specs.Count.{Good}
-
--- pages s to s + n - 1
-unfoldable pub claimRun : ℕ → Vol → ℕ → ℕ → Vol
-claimRun P v s zero = v
-claimRun P v s (suc n) = claim P (claimRun P v s n) (s + n)
 
 pub record Taken (P : ℕ) (v : Vol) (hand : ℕ → ℕ) (s n : ℕ) : Type 0 where
   pub good : Good P (claimRun P v s n) (λ p. hand p + sum n (λ i. hit (s + i) p))

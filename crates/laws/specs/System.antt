@@ -121,17 +121,17 @@ pub record Settled (P : ℕ) (v v′ : Vol) (C : ℕ → ℕ) (new : (ℕ → �
   pub pay : two (v′ 0) 1022 + new some ≡ two (v 0) 1022
 
 module _ (P : ℕ) (v : Vol) (hand : ℕ → ℕ) (G : Good P v hand) (v′ : Vol) (C : ℕ → ℕ) (new : (ℕ → ℕ) → ℕ) (T : Settled P v v′ C new) where
-  file-same : (e : ℕ) → fileAt v′ e ≡ fileAt v e
+  pub file-same : (e : ℕ) → fileAt v′ e ≡ fileAt v e
   unfolding fileAt
   file-same e = ap (λ (O : Table). pick (used (O e)) (rootAt (O e) 30 (two (O e) 26)) (run 0 0)) (T .objs)
 
   zeroB : (r : Root) → weighR v r C ≡ 0 → blocksR v r C ≡ 0
   zeroB r h = omega (arith, blocksR-le v r C)
 
-  fileC : (u f : ℕ) → u < 256 → f < 256 → weighR v (fileAt v (256 * u + f)) C ≡ 0
+  pub fileC : (u f : ℕ) → u < 256 → f < 256 → weighR v (fileAt v (256 * u + f)) C ≡ 0
   fileC u f h i = omega (arith, file-le v C u f h i, T .noFiles)
 
-  mine-same : (g : ℕ → ℕ) (u : ℕ) → u < 256 → mine v′ u g ≡ mine v u g
+  pub mine-same : (g : ℕ → ℕ) (u : ℕ) → u < 256 → mine v′ u g ≡ mine v u g
   unfolding mine
   mine-same g u h = sum-ext 256 (λ f. weighR v′ (fileAt v′ (256 * u + f)) g) (λ f. weighR v (fileAt v (256 * u + f)) g)
       (λ f i. ap (λ (r : Root). weighR v′ r g) (file-same (256 * u + f)) ∙ weighR-frame v v′ C (T .agree) (fileAt v (256 * u + f)) (zeroB _ (fileC u f h i)) g)
@@ -140,7 +140,7 @@ module _ (P : ℕ) (v : Vol) (hand : ℕ → ℕ) (G : Good P v hand) (v′ : Vo
   unfolding all
   all-new g g0 = omega (arith, T .weight g g0, sum-ext 256 (λ u. mine v′ u g) (λ u. mine v u g) (mine-same g))
 
-  bits-kept : (p : ℕ) → bit P v′ p ≡ bit P v p
+  pub bits-kept : (p : ℕ) → bit P v′ p ≡ bit P v p
   unfolding bit bitPage Agree
   bits-kept p =
       ap (λ (r : Root). digit (p % 16) (word v′ (pageAt v′ r (p / 16384)) (p % 16384 / 16))) (T .bits)
