@@ -12,7 +12,7 @@ use Rattle.book.specs.Rules.{Sound}
 use Rattle.book.specs.Trees.{Root, blocksR}
 use Rattle.book.specs.Words.{Vol, two, word}
 use Rattle.laws.specs.Cases.{hit-sym}
-use Rattle.laws.specs.Claim.{bitPage-rest, free-none, free-pos, claim-agree, claim-roots, claim-quiet, claim-good, claim-master, claim-zero}
+use Rattle.laws.specs.Claim.{bitPage-rest, free-none, free-pos, claim-agree, claim-roots, claim-quiet, claim-none, claim-good, claim-master, claim-zero}
 use Rattle.laws.specs.Count.{Good, good, sound}
 use Rattle.laws.specs.Frame.{Roots, blocksR-le, blocksR-frame, users-root, objs-root}
 use Rattle.laws.specs.Grow.{Chooser}
@@ -22,7 +22,7 @@ use Rattle.laws.specs.Part.{rest, all-rest}
 use Rattle.laws.specs.Places.{Places, UnreservedWords, Either, OnlyAt, only-then, only-put2}
 use Rattle.laws.specs.Room.{system-room, chosen}
 use Rattle.laws.specs.Rules.{Master, flags-ext, page-ext}
-use Rattle.laws.specs.Stays.{Stays, stays-none, stays-then, claim-stays, claim-quiet-users, claim-quiet-objs}
+use Rattle.laws.specs.Stays.{TakenWords, Stays, stays-none, stays-then, claim-stays, calm-blocks}
 use Rattle.laws.specs.Tree.{Agree, two-ext, hit-same, hit-other, slot-same}
 
 -- from v to w, n system pages were taken and paid: w is sound, and all entries and files stay
@@ -34,7 +34,7 @@ pub placed-none : (P : ℕ) (v : Vol) → Sound P v → Placed P v v (λ p k. �
 placed-none P v S = record { sound = S; stays = stays-none P v }
 
 pub placed-then : (P : ℕ) (v w x : Vol) (F H K : Places) (a b n : ℕ) → Placed P v w F a → Placed P w x H b → n ≡ a + b
-    → ((p k : ℕ) → Either F H p k → K p k) → Placed P v x K n
+    → ((p k : ℕ) → Either F H p k → Either (TakenWords P v x) K p k) → Placed P v x K n
 placed-then P v w x F H K a b n S T e wide = record { sound = T .sound; stays = stays-then P v w x F H K a a b b n n (S .stays) (T .stays) e e wide }
 
 -- ---- a claim leaves the blocks
@@ -62,8 +62,8 @@ module _ (P : ℕ) (v : Vol) (hand : ℕ → ℕ) (G : Good P v hand) (d : ℕ) 
     block = omega (
       arith,
       N .block,
-      ap (λ (r : Root). blocksR w r (hit X)) (users-root v w R) ∙ blocksR-frame v w C (claim-agree P v hand G d hd fd) (userFile v) (claim-quiet-users P v hand G d hd fd) (hit X),
-      ap (λ (r : Root). blocksR w r (hit X)) (objs-root v w R) ∙ blocksR-frame v w C (claim-agree P v hand G d hd fd) (objectFile v) (claim-quiet-objs P v hand G d hd fd) (hit X),
+      ap (λ (r : Root). blocksR w r (hit X)) (users-root v w R) ∙ blocksR-frame v w C (claim-agree P v hand G d hd fd) (userFile v) (calm .0) (hit X),
+      ap (λ (r : Root). blocksR w r (hit X)) (objs-root v w R) ∙ blocksR-frame v w C (claim-agree P v hand G d hd fd) (objectFile v) (calm .1) (hit X),
     );
     room = N .room;
     was = slot-same v w X (claim-word X (omega (arith, N .block, blocksR-le v (userFile v) (hit X), blocksR-le v (objectFile v) (hit X)))) k ∙ N .was;
@@ -76,6 +76,9 @@ module _ (P : ℕ) (v : Vol) (hand : ℕ → ℕ) (G : Good P v hand) (d : ℕ) 
 
       m : (k : ℕ) → w 0 k ≡ v 0 k
       m = claim-master P v hand G d hd fd
+
+      calm : (blocksR v (userFile v) C ≡ 0) × (blocksR v (objectFile v) C ≡ 0)
+      calm = calm-blocks P v w m C (claim-none P v hand G d hd fd) (claim-agree P v hand G d hd fd) (claim-quiet P v hand G d hd fd)
 
 module _ (choose : Vol → ℕ) (P : ℕ) (ch : Chooser P choose) (v : Vol) (S : Sound P v) (pos : 0 < P) (X k : ℕ) (N : Vacant P v X k) (have : 1 ≤ unreserved v) where
   abbrev d : ℕ
@@ -119,7 +122,7 @@ module _ (choose : Vol → ℕ) (P : ℕ) (ch : Chooser P choose) (v : Vol) (S :
 
   paid : two (v′ 0) 1022 + 1 ≡ two (v₁ 0) 1022
   unfolding extend unreserved
-  paid = 
+  paid =
       let same : two (setSlot v₁ X k d 0) 1022 ≡ two (v₁ 0) 1022 = two-ext (setSlot v₁ X k d 0) (v₁ 0) 1022 (setSlot-page v₁ X k d 0 1022 (omega (arith, N .real))) (setSlot-page v₁ X k d 0 1023 (omega (arith, N .real))) in
       let were : two (v₁ 0) 1022 ≡ two (v 0) 1022 = two-ext (v₁ 0) (v 0) 1022 (claim-master P v (λ p. 0) G d hd fd 1022) (claim-master P v (λ p. 0) G d hd fd 1023) in
       omega (arith, have, pay-less (setSlot v₁ X k d) 1 (omega (arith, have)))
@@ -150,6 +153,6 @@ module _ (choose : Vol → ℕ) (P : ℕ) (ch : Chooser P choose) (v : Vol) (S :
         refl refl one;
   }
     where
-      one : (p j : ℕ) → Either (λ p k. ⊥) (Either (SlotOf X k) UnreservedWords) p j → Either (SlotOf X k) UnreservedWords p j
+      one : (p j : ℕ) → Either (λ p k. ⊥) (Either (SlotOf X k) UnreservedWords) p j → Either (TakenWords P v v′) (Either (SlotOf X k) UnreservedWords) p j
       one p j (inl h) = absurd h
-      one p j (inr h) = h
+      one p j (inr h) = inr h

@@ -28,3 +28,4 @@ pub mod Places
 pub mod Stays
 pub mod Join
 pub mod Extend
+pub mod Raise

@@ -5,19 +5,21 @@ use Prim.Native.Nat.{ℕ, zero, suc, _+_, _-_, _*_, _/_, _%_, _^_, _≤_, _<_}
 use native.Mathlib.Decide.{ℕ-discrete}
 use native.Mathlib.Omega.{arith}
 use Rattle.sums.specs.Sum.{sum-ext}
-use Rattle.book.specs.Bits.{bit, bitWord, bitPage, bitFile, mark, claim}
+use Rattle.book.specs.Bits.{bit, bitWord, bitPlace, bitPage, bitFile, digit, mark, claim}
 use Rattle.book.specs.Entries.{userFile, objectFile, user, object, unreserved}
 use Rattle.book.specs.Files.{fileAt}
 use Rattle.book.specs.Holders.{hit, some, mine}
 use Rattle.book.specs.Trees.{Root, weighR, blocksR, pageAt}
-use Rattle.book.specs.Words.{Vol, two, wipe}
-use Rattle.laws.specs.Claim.{claim-agree, claim-roots, claim-quiet, claim-none, claim-user, claim-obj, claim-page, claim-bit, claim-bit-other, claim-free, claim-master}
+use Rattle.book.specs.Words.{Vol, two, word}
+use Rattle.book.specs.Written.{word-ext}
+use Rattle.laws.specs.Claim.{bitPage-rest, claim-agree, claim-quiet, claim-none, claim-bit, claim-bit-other, claim-free, claim-master}
 use Rattle.laws.specs.Count.{Good, free, bit-le}
-use Rattle.laws.specs.Frame.{pageAt-frame, blocksR-le, users-root, objs-root, bits-root}
-use Rattle.laws.specs.Part.{rest, mine-calm}
+use Rattle.laws.specs.Delete.{bits-good}
+use Rattle.laws.specs.Frame.{Roots, pageAt-frame, blocksR-le, users-root, objs-root, bits-root}
+use Rattle.laws.specs.Part.{rest, all-rest, user-calm, obj-calm, mine-calm, page-calm}
 use Rattle.laws.specs.Places.{Places, PageOf, WordsOf, Either, OnlyAt, only-wider, only-then, only-put, only-wipe}
 use Rattle.laws.specs.System.{Settled, file-same, fileC, mine-same, bits-kept}
-use Rattle.laws.specs.Tree.{two-ext}
+use Rattle.laws.specs.Tree.{Agree, two-ext, hit-zero, hit-same, hit-other}
 
 -- ---- pages taken
 
@@ -60,7 +62,7 @@ stays-none P v = record {
 
 -- one step after the other; n, m and F are what they come to
 pub stays-then : (P : ℕ) (v w x : Vol) (F H K : Places) (a b c d n m : ℕ) → Stays P v w F a b → Stays P w x H c d → n ≡ a + c → m ≡ b + d
-    → ((p k : ℕ) → Either F H p k → K p k) → Stays P v x K n m
+    → ((p k : ℕ) → Either F H p k → Either (TakenWords P v x) K p k) → Stays P v x K n m
 stays-then P v w x F H K a b c d n m S T en em wide = record {
   users = T .users ∙ S .users;
   objs = T .objs ∙ S .objs;
@@ -77,57 +79,60 @@ stays-then P v w x F H K a b c d n m S T en em wide = record {
   where
     both : (p k : ℕ) → Either (Either (TakenWords P v w) F) (Either (TakenWords P w x) H) p k → Either (TakenWords P v x) K p k
     both p k (inl (inl (d, (h, z, o), q))) = inl (d, (h, z, omega (arith, T .bits d h, bit-le P x d)), q)
-    both p k (inl (inr f)) = inr (wide p k (inl f))
+    both p k (inl (inr f)) = wide p k (inl f)
     both p k (inr (inl (d, (h, z, o), inl q))) = inl (d, (h, omega (arith, S .bits d h), o), inl q)
     both p k (inr (inl (d, (h, z, o), inr (q, i, j)))) = inl (d, (h, omega (arith, S .bits d h), o), inr (q ∙ S .places d, i, j))
-    both p k (inr (inr f)) = inr (wide p k (inr f))
+    both p k (inr (inr f)) = wide p k (inr f)
 
--- ---- a page is taken
+-- ---- pages that no user, object or file tree holds change
 
+module _ (P : ℕ) (v w : Vol) (m : (k : ℕ) → w 0 k ≡ v 0 k) (C : ℕ → ℕ) (c0 : C 0 ≡ 0) (A : Agree C v w) (q : rest v C ≡ 0) where
+  R : Roots v w
+  unfolding Roots
+  R k i j = m k
+
+  pub calm-blocks : (blocksR v (userFile v) C ≡ 0) × (blocksR v (objectFile v) C ≡ 0)
+  unfolding rest
+  calm-blocks = (omega (arith, blocksR-le v (userFile v) C, q), omega (arith, blocksR-le v (objectFile v) C, q))
+
+  pub calm-places : (p : ℕ) → bitPage P w p ≡ bitPage P v p
+  unfolding bitPage bitFile pageAt
+  calm-places p = ap (λ (r : Root). pageAt w r (p / 16384)) (bits-root v w R P)
+
+  pub calm-users : (i : ℕ) → pageAt w (userFile w) i ≡ pageAt v (userFile v) i
+  calm-users i = ap (λ (r : Root). pageAt w r i) (users-root v w R) ∙ pageAt-frame v w C A (userFile v) (calm-blocks .0) i
+
+  pub calm-objs : (i : ℕ) → pageAt w (objectFile w) i ≡ pageAt v (objectFile v) i
+  calm-objs i = ap (λ (r : Root). pageAt w r i) (objs-root v w R) ∙ pageAt-frame v w C A (objectFile v) (calm-blocks .1) i
+
+  pub calm-stays : (F : Places) (n : ℕ) → ((p : ℕ) → p < P → bit P v p ≤ bit P w p) → free P w + n ≡ free P v → OnlyAt (Either (TakenWords P v w) F) v w → Stays P v w F n 0
+  unfolding unreserved
+  calm-stays F n more left words = record {
+    users = user-calm v w R C c0 A q;
+    objs = obj-calm v w R C c0 A q;
+    userAt = λ i h. calm-users i;
+    objAt = λ i h. calm-objs i;
+    files = page-calm v w R C c0 A q;
+    mines = mine-calm v w R C c0 A q;
+    bits = more;
+    places = calm-places;
+    left = left;
+    paid = omega (arith, two-ext (w 0) (v 0) 1022 (m 1022) (m 1023));
+    words = words;
+  }
+
+-- a page is taken
 module _ (P : ℕ) (v : Vol) (hand : ℕ → ℕ) (G : Good P v hand) (d : ℕ) (hd : d < P) (fd : bit P v d ≡ 0) where
   abbrev w : Vol
   w = claim P v d
-
-  abbrev C : ℕ → ℕ
-  C x = hit (bitPage P v d) x + hit d x
-
-  pub claim-quiet-users : blocksR v (userFile v) C ≡ 0
-  unfolding rest
-  claim-quiet-users = omega (arith, blocksR-le v (userFile v) C, claim-quiet P v hand G d hd fd)
-
-  pub claim-quiet-objs : blocksR v (objectFile v) C ≡ 0
-  unfolding rest
-  claim-quiet-objs = omega (arith, blocksR-le v (objectFile v) C, claim-quiet P v hand G d hd fd)
 
   claim-words : OnlyAt (Either (WordsOf (bitPage P v d) (bitWord d) 1) (PageOf d)) v w
   unfolding claim mark
   claim-words = only-then _ (PageOf d) v (mark P v d 1) w (only-put v (bitPage P v d) (bitWord d) _) (only-wipe (mark P v d 1) d)
 
-  pub claim-places : (p : ℕ) → bitPage P w p ≡ bitPage P v p
-  unfolding bitPage bitFile pageAt
-  claim-places p = ap (λ (r : Root). pageAt w r (p / 16384)) (bits-root v w (claim-roots P v hand G d hd fd) P)
-
-  pub claim-users : (i : ℕ) → pageAt w (userFile w) i ≡ pageAt v (userFile v) i
-  claim-users i = ap (λ (r : Root). pageAt w r i) (users-root v w (claim-roots P v hand G d hd fd)) ∙ pageAt-frame v w C (claim-agree P v hand G d hd fd) (userFile v) claim-quiet-users i
-
-  pub claim-objs : (i : ℕ) → pageAt w (objectFile w) i ≡ pageAt v (objectFile v) i
-  claim-objs i = ap (λ (r : Root). pageAt w r i) (objs-root v w (claim-roots P v hand G d hd fd)) ∙ pageAt-frame v w C (claim-agree P v hand G d hd fd) (objectFile v) claim-quiet-objs i
-
   pub claim-stays : Stays P v w (λ p k. ⊥) 1 0
-  unfolding unreserved
-  claim-stays = record {
-    users = claim-user P v hand G d hd fd;
-    objs = claim-obj P v hand G d hd fd;
-    userAt = λ i h. claim-users i;
-    objAt = λ i h. claim-objs i;
-    files = claim-page P v hand G d hd fd;
-    mines = mine-calm v w (claim-roots P v hand G d hd fd) C (claim-none P v hand G d hd fd) (claim-agree P v hand G d hd fd) (claim-quiet P v hand G d hd fd);
-    bits = more;
-    places = claim-places;
-    left = claim-free P v hand G d hd fd;
-    paid = omega (arith, two-ext (w 0) (v 0) 1022 (claim-master P v hand G d hd fd 1022) (claim-master P v hand G d hd fd 1023));
-    words = only-wider _ (Either (TakenWords P v w) (λ p k. ⊥)) v w wide claim-words;
-  }
+  claim-stays = calm-stays P v w (claim-master P v hand G d hd fd) (λ x. hit (bitPage P v d) x + hit d x) (claim-none P v hand G d hd fd) (claim-agree P v hand G d hd fd)
+      (claim-quiet P v hand G d hd fd) (λ p k. ⊥) 1 more (claim-free P v hand G d hd fd) (only-wider _ (Either (TakenWords P v w) (λ p k. ⊥)) v w wide claim-words)
     where
       more : (p : ℕ) → p < P → bit P v p ≤ bit P w p
       more p h = elim (ℕ-discrete p d) [
@@ -138,6 +143,33 @@ module _ (P : ℕ) (v : Vol) (hand : ℕ → ℕ) (G : Good P v hand) (d : ℕ) 
       wide : (p k : ℕ) → Either (WordsOf (bitPage P v d) (bitWord d) 1) (PageOf d) p k → Either (TakenWords P v w) (λ p k. ⊥) p k
       wide p k (inl h) = inl (d, (hd, fd, claim-bit P v hand G d hd fd), inr h)
       wide p k (inr h) = inl (d, (hd, fd, claim-bit P v hand G d hd fd), inl h)
+
+-- a page in hand is written
+module _ (P : ℕ) (v : Vol) (hand : ℕ → ℕ) (G : Good P v hand) (s : ℕ) (hs : s < P) (ps : 0 < s) (held : 1 ≤ hand s) (w : Vol) (else : (q j : ℕ) → q ≢ s → w q j ≡ v q j) where
+  master : (k : ℕ) → w 0 k ≡ v 0 k
+  master k = else 0 k (omega arith)
+
+  agree : Agree (hit s) v w
+  unfolding Agree
+  agree q z k = word-ext v w q k (λ h. else q k (λ e. omega (arith, z, subst (λ (x : ℕ). hit x q ≡ 1) e (hit-same q h))))
+
+  quiet : rest v (hit s) ≡ 0
+  quiet = omega (arith, G .held s hs, bit-le P v s, held, all-rest P v (hit s))
+
+  bits : (p : ℕ) → p < P → bit P w p ≡ bit P v p
+  unfolding bit Agree
+  bits p h =
+      ap (λ (x : ℕ). digit (bitPlace p) (word w x (bitWord p))) (calm-places P v w master (hit s) (hit-zero s) agree quiet p)
+      ∙ ap (digit (bitPlace p)) (agree (bitPage P v p) (hit-other s (bitPage P v p) (λ e. omega (arith, held, subst (λ (x : ℕ). hand x ≡ 0) e (bitPage-rest P v hand G p h .1)))) (bitWord p))
+
+  pub hand-good : Good P w hand
+  hand-good = bits-good P v w hand hand (hit s) G (hit-zero s) agree quiet master (λ p h. omega (arith, bits p h))
+
+  pub hand-stays : (F : Places) → OnlyAt F v w → Stays P v w F 0 0
+  unfolding free
+  hand-stays F o = calm-stays P v w master (hit s) (hit-zero s) agree quiet F 0 (λ p h. omega (arith, bits p h))
+      (omega (arith, sum-ext P (λ p. 1 - bit P w p) (λ p. 1 - bit P v p) (λ p h. ap (λ (x : ℕ). 1 - x) (bits p h))))
+      (only-wider F (Either (TakenWords P v w) F) v w (λ p k h. inr h) o)
 
 -- ---- a page in hand becomes the system's, and is paid
 

@@ -313,7 +313,7 @@ module _ (P : ℕ) (v : Vol) (hand : ℕ → ℕ) (G : Good P v hand) (pos : 0 <
   page18 = page-ext (v′ 0) (v 0) 1018 (mast 1018 (omega arith) (omega arith) (omega arith) (omega arith)) (mast 1019 (omega arith) (omega arith) (omega arith) (omega arith))
 
   -- each position has the page that it had
-  leaves : (n : ℕ) → pageAt v′ (tree 2 s) n ≡ pageAt v (tree 1 t) n
+  pub leaves : (n : ℕ) → pageAt v′ (tree 2 s) n ≡ pageAt v (tree 1 t) n
   unfolding pageAt leaf
   leaves n = elim (decLt n 512) [
     | yes h ↦ upto-in n 262144 _ (omega arith) ∙ low h ∙ sym (upto-in n 512 _ h)
