@@ -22,7 +22,7 @@ use Rattle.laws.specs.Part.{rest, all-rest}
 use Rattle.laws.specs.Places.{Places, UnreservedWords, Either, OnlyAt, only-then, only-put2}
 use Rattle.laws.specs.Room.{system-room, chosen}
 use Rattle.laws.specs.Rules.{Master, flags-ext, page-ext}
-use Rattle.laws.specs.Stays.{TakenWords, Stays, stays-none, stays-then, claim-stays, calm-blocks}
+use Rattle.laws.specs.Stays.{TakenWords, NoWords, no-words, Stays, stays-none, stays-then, claim-stays, calm-blocks}
 use Rattle.laws.specs.Tree.{Agree, two-ext, hit-same, hit-other, slot-same}
 
 -- from v to w, n system pages were taken and paid: w is sound, and all entries and files stay
@@ -30,7 +30,7 @@ pub record Placed (P : ℕ) (v w : Vol) (F : Places) (n : ℕ) : Type 0 where
   pub sound : Sound P w
   pub stays : Stays P v w F n n
 
-pub placed-none : (P : ℕ) (v : Vol) → Sound P v → Placed P v v (λ p k. ⊥) 0
+pub placed-none : (P : ℕ) (v : Vol) → Sound P v → Placed P v v NoWords 0
 placed-none P v S = record { sound = S; stays = stays-none P v }
 
 pub placed-then : (P : ℕ) (v w x : Vol) (F H K : Places) (a b n : ℕ) → Placed P v w F a → Placed P w x H b → n ≡ a + b
@@ -148,11 +148,7 @@ module _ (choose : Vol → ℕ) (P : ℕ) (ch : Chooser P choose) (v : Vol) (S :
   extend-placed = record {
     sound = sound P v′ (λ p. 0) (join-good P v₁ (λ p. 0 + hit d p) G1 pos v′ X k d N1 hd extend-pos held (claim-zero P v (λ p. 0) G d hd fd) read M paid (λ p. 0)
         (λ p h. omega (arith, hit-sym p d))) (λ p h. refl);
-    stays = stays-then P v v₁ v′ (λ p k. ⊥) (Either (SlotOf X k) UnreservedWords) (Either (SlotOf X k) UnreservedWords) 1 0 0 1 1 1 (claim-stays P v (λ p. 0) G d hd fd)
+    stays = stays-then P v v₁ v′ NoWords (Either (SlotOf X k) UnreservedWords) (Either (SlotOf X k) UnreservedWords) 1 0 0 1 1 1 (claim-stays P v (λ p. 0) G d hd fd)
         (join-stays P v₁ (λ p. 0 + hit d p) G1 pos v′ X k d N1 hd extend-pos held (claim-zero P v (λ p. 0) G d hd fd) read M paid (Either (SlotOf X k) UnreservedWords) only)
-        refl refl one;
+        refl refl (λ p j h. inr (no-words (Either (SlotOf X k) UnreservedWords) p j h));
   }
-    where
-      one : (p j : ℕ) → Either (λ p k. ⊥) (Either (SlotOf X k) UnreservedWords) p j → Either (TakenWords P v v′) (Either (SlotOf X k) UnreservedWords) p j
-      one p j (inl h) = absurd h
-      one p j (inr h) = inr h

@@ -29,3 +29,4 @@ pub mod Stays
 pub mod Join
 pub mod Extend
 pub mod Raise
+pub mod Start

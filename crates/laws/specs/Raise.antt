@@ -25,7 +25,7 @@ use Rattle.laws.specs.Join.{only-pay, pay-page, pay-below, pay-less, Slo
 use Rattle.laws.specs.Places.{Places, WordsOf, UnreservedWords, Either, OnlyAt, only-then, only-put2}
 use Rattle.laws.specs.Room.{system-room, chosen}
 use Rattle.laws.specs.Rules.{flags-ext, page-ext}
-use Rattle.laws.specs.Stays.{TakenWords, Stays, stays-then, claim-stays, hand-good, hand-stays, settled-stays}
+use Rattle.laws.specs.Stays.{TakenWords, NoWords, no-words, Stays, stays-then, claim-stays, hand-good, hand-stays, settled-stays}
 use Rattle.laws.specs.System.{Settled, leaves, system-good}
 use Rattle.laws.specs.Tree.{two-ext, hit-same, some-pos}
 
@@ -159,10 +159,10 @@ module _ (choose : Vol → ℕ) (P : ℕ) (ch : Chooser P choose) (v : Vol) (S :
   pub raised-placed : Placed P v v′ (Either (WordsOf 0 1016 2) UnreservedWords) 1
   raised-placed = record {
     sound = sound P v′ (λ p. 0) (system-good P w (λ p. 0 + hit s p) G2 v′ (λ x. 0) (λ g. g s) T (λ p. 0) (λ p h. omega (arith, hit-sym p s))) (λ p h. refl);
-    stays = stays-then P v v₁ v′ (λ p k. ⊥) (Either (SlotOf s 0) F) F 1 0 0 1 1 1 (claim-stays P v (λ p. 0) G s hs fs) rest refl refl wide;
+    stays = stays-then P v v₁ v′ NoWords (Either (SlotOf s 0) F) F 1 0 0 1 1 1 (claim-stays P v (λ p. 0) G s hs fs) rest refl refl wide;
   }
     where
-      wide : (p k : ℕ) → Either (λ p k. ⊥) (Either (SlotOf s 0) F) p k → Either (TakenWords P v v′) F p k
+      wide : (p k : ℕ) → Either NoWords (Either (SlotOf s 0) F) p k → Either (TakenWords P v v′) F p k
       wide p k (inl h) = absurd h
       wide p k (inr (inl h)) = inl (s, (hs, fs, omega (arith, rest .bits s hs, claim-bit P v (λ p. 0) G s hs fs, bit-le P v′ s)), inl (h .0))
       wide p k (inr (inr h)) = inr h

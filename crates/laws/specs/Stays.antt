@@ -31,6 +31,14 @@ Taken P v w d = (d < P) × (bit P v d ≡ 0) × (bit P w d ≡ 1)
 abbrev pub TakenWords : ℕ → Vol → Vol → Places
 TakenWords P v w p k = (d : ℕ) × Taken P v w d × (PageOf d p k ⊎ WordsOf (bitPage P v d) (bitWord d) 1 p k)
 
+-- no words at all
+abbrev pub NoWords : Places
+NoWords p k = ⊥
+
+pub no-words : (K : Places) (p k : ℕ) → Either NoWords K p k → K p k
+no-words K p k (inl h) = absurd h
+no-words K p k (inr h) = h
+
 -- n pages are taken and m paid; but for these pages, only words of F change
 pub record Stays (P : ℕ) (v w : Vol) (F : Places) (n m : ℕ) : Type 0 where
   pub users : user w ≡ user v
@@ -45,7 +53,7 @@ pub record Stays (P : ℕ) (v w : Vol) (F : Places) (n m : ℕ) : Type 0 where
   pub paid : unreserved w + m ≡ unreserved v
   pub words : OnlyAt (Either (TakenWords P v w) F) v w
 
-pub stays-none : (P : ℕ) (v : Vol) → Stays P v v (λ p k. ⊥) 0 0
+pub stays-none : (P : ℕ) (v : Vol) → Stays P v v NoWords 0 0
 stays-none P v = record {
   users = refl;
   objs = refl;
@@ -130,9 +138,9 @@ module _ (P : ℕ) (v : Vol) (hand : ℕ → ℕ) (G : Good P v hand) (d : ℕ) 
   unfolding claim mark
   claim-words = only-then _ (PageOf d) v (mark P v d 1) w (only-put v (bitPage P v d) (bitWord d) _) (only-wipe (mark P v d 1) d)
 
-  pub claim-stays : Stays P v w (λ p k. ⊥) 1 0
+  pub claim-stays : Stays P v w NoWords 1 0
   claim-stays = calm-stays P v w (claim-master P v hand G d hd fd) (λ x. hit (bitPage P v d) x + hit d x) (claim-none P v hand G d hd fd) (claim-agree P v hand G d hd fd)
-      (claim-quiet P v hand G d hd fd) (λ p k. ⊥) 1 more (claim-free P v hand G d hd fd) (only-wider _ (Either (TakenWords P v w) (λ p k. ⊥)) v w wide claim-words)
+      (claim-quiet P v hand G d hd fd) NoWords 1 more (claim-free P v hand G d hd fd) (only-wider _ (Either (TakenWords P v w) NoWords) v w wide claim-words)
     where
       more : (p : ℕ) → p < P → bit P v p ≤ bit P w p
       more p h = elim (ℕ-discrete p d) [
@@ -140,7 +148,7 @@ module _ (P : ℕ) (v : Vol) (hand : ℕ → ℕ) (G : Good P v hand) (d : ℕ) 
         | no n ↦ omega (arith, claim-bit-other P v hand G d hd fd p h n)
       ]
 
-      wide : (p k : ℕ) → Either (WordsOf (bitPage P v d) (bitWord d) 1) (PageOf d) p k → Either (TakenWords P v w) (λ p k. ⊥) p k
+      wide : (p k : ℕ) → Either (WordsOf (bitPage P v d) (bitWord d) 1) (PageOf d) p k → Either (TakenWords P v w) NoWords p k
       wide p k (inl h) = inl (d, (hd, fd, claim-bit P v hand G d hd fd), inr h)
       wide p k (inr h) = inl (d, (hd, fd, claim-bit P v hand G d hd fd), inl h)
 
