@@ -106,8 +106,8 @@ module _ (P : ℕ) (v : Vol) (hand : ℕ → ℕ) (G : Good P v hand) (pos : 0 <
     subst (λ (x : ℕ). 1 ≤ hand x) e held,
   )
 
-  bare′ : (j : ℕ) → word v′ d j ≡ 0
-  bare′ j = same d j ∙ word-ext v w d j (λ h. setSlot-page v X k d d j apart) ∙ bare j
+  pub join-bare : (j : ℕ) → word v′ d j ≡ 0
+  join-bare j = same d j ∙ word-ext v w d j (λ h. setSlot-page v X k d d j apart) ∙ bare j
 
   link : Link v v′ X k d
   link = record {
@@ -116,12 +116,12 @@ module _ (P : ℕ) (v : Vol) (hand : ℕ → ℕ) (G : Good P v hand) (pos : 0 <
     was = N .was;
     now = slot-same w v′ X (same X) k ∙ slot-here v X k d (N .real);
     others = λ j n. slot-same w v′ X (same X) j ∙ slot-other v X k d (N .real) j n;
-    bare = λ j h. slot-bare v′ d bare′ j;
+    bare = λ j h. slot-bare v′ d join-bare j;
     real = N .real;
   }
 
   settled : Settled P v v′ (hit X) (λ g. g d)
-  settled = linked P v hand G pos v′ X k d link bare′ (slot-bare v′ d bare′) M paid (N .below) (N .block) hd pd (N .eight) (N .four)
+  settled = linked P v hand G pos v′ X k d link join-bare (slot-bare v′ d join-bare) M paid (N .below) (N .block) hd pd (N .eight) (N .four)
 
   pub join-good : (hand′ : ℕ → ℕ) → ((p : ℕ) → p < P → hand′ p + hit p d ≡ hand p) → Good P v′ hand′
   join-good = system-good P v hand G v′ (hit X) (λ g. g d) settled

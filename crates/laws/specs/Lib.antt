@@ -30,3 +30,6 @@ pub mod Join
 pub mod Extend
 pub mod Raise
 pub mod Start
+pub mod Vacant
+pub mod FilePlace
+pub mod UserPlace

@@ -250,8 +250,11 @@ module _ (choose : Vol → ℕ) (P : ℕ) (ch : Chooser P choose) (v : Vol) (S :
   started-flags = flags-ext (v′ 0) (w 0) 1018 (below 1018 (omega arith)) ∙ fu
 
   pub started-slot : (slot v′ (page (v′ 0) 1018) 0 ≡ u) × (0 < u)
-  started-slot = (ap (λ (t : ℕ). slot v′ t 0) (page-ext (v′ 0) (w 0) 1018 (below 1018 (omega arith)) (below 1019 (omega arith)) ∙ tu)
-      ∙ join-slot P w (λ p. hit p u) Gw pos v′ i 0 u vacant (uOk .0) pu held zero-w read M paid′, pu)
+  started-slot = (
+    ap (λ (t : ℕ). slot v′ t 0) (page-ext (v′ 0) (w 0) 1018 (below 1018 (omega arith)) (below 1019 (omega arith)) ∙ tu)
+        ∙ join-slot P w (λ p. hit p u) Gw pos v′ i 0 u vacant (uOk .0) pu held zero-w read M paid′,
+    pu,
+  )
 
   only : OnlyAt (Either (SlotOf i 0) UnreservedWords) w v′
   unfolding started setSlot

@@ -92,6 +92,10 @@ stays-then P v w x F H K a b c d n m S T en em wide = record {
     both p k (inr (inl (d, (h, z, o), inr (q, i, j)))) = inl (d, (h, omega (arith, S .bits d h), o), inr (q ∙ S .places d, i, j))
     both p k (inr (inr f)) = wide p k (inr f)
 
+-- the same in other words
+pub stays-wider : (P : ℕ) (v w : Vol) (F K : Places) (a b n m : ℕ) → Stays P v w F a b → n ≡ a → m ≡ b → ((p k : ℕ) → F p k → Either (TakenWords P v w) K p k) → Stays P v w K n m
+stays-wider P v w F K a b n m S en em wide = stays-then P v v w NoWords F K 0 0 a b n m (stays-none P v) S (omega arith) (omega arith) (λ p k h. wide p k (no-words F p k h))
+
 -- ---- pages that no user, object or file tree holds change
 
 module _ (P : ℕ) (v w : Vol) (m : (k : ℕ) → w 0 k ≡ v 0 k) (C : ℕ → ℕ) (c0 : C 0 ≡ 0) (A : Agree C v w) (q : rest v C ≡ 0) where
