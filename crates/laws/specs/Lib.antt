@@ -33,3 +33,7 @@ pub mod Start
 pub mod Vacant
 pub mod FilePlace
 pub mod UserPlace
+pub mod Packed
+pub mod NewEntry
+pub mod PutEntry
+pub mod CreateUser
