@@ -16,17 +16,16 @@ use Rattle.book.specs.Holders.{hit, some, mine}
 use Rattle.book.specs.Names.{NameText, Same, SameName, Named, packed}
 use Rattle.book.specs.Pointers.{flags, page, Zero, Inside}
 use Rattle.book.specs.Rules.{Rule2, Sound}
-use Rattle.book.specs.Trees.{Root, weighR, blocksR, pageAt}
+use Rattle.book.specs.Trees.{pageAt}
 use Rattle.book.specs.Words.{Vol, Words, two, word}
 use Rattle.laws.specs.Count.{Good, Most, good, sound, mine-unused, most}
 use Rattle.laws.specs.Edit.{Outside, user-page}
 use Rattle.laws.specs.Extend.{Placed}
-use Rattle.laws.specs.Frame.{pageAt-frame, blocksR-le, Kept, file-kept}
 use Rattle.laws.specs.Grow.{Chooser}
 use Rattle.laws.specs.Names.{Legal-ext, SameName-ext}
 use Rattle.laws.specs.NewEntry.{user-used, user-name, user-own, user-zero}
+use Rattle.laws.specs.Others.{file-stays}
 use Rattle.laws.specs.Packed.{packed-legal}
-use Rattle.laws.specs.Part.{file-le}
 use Rattle.laws.specs.Places.{Places, EntryOf, Either, OnlyAt, only-then, only-wider, only-putWords}
 use Rattle.laws.specs.PutEntry.{entry-page, entry-agree, entry-outside, entry-here}
 use Rattle.laws.specs.Rules.{UserNew, used-ext}
@@ -146,27 +145,8 @@ module _ (choose : Vol → ℕ) (P : ℕ) (ch : Chooser P choose) (v : Vol) (S :
   -- ---- all pages of all files stay
 
   pub all-addresses : (x : ℕ) → x < 65536 → (m : ℕ) → pageAt v′ (fileAt v′ x) m ≡ pageAt v (fileAt v x) m
-  all-addresses x h m = ap (λ (r : Root). pageAt v′ r m) root ∙ pageAt-frame w v′ (hit (pageAt w (userFile w) (u / 32))) agree (fileAt w x) quiet m ∙ user-place .placed .stays .files x h m
-    where
-      same : (k : ℕ) → k < 32 → object v′ x k ≡ object w x k
-      same k i = objects-else P w (λ p. 0) G pos u lt v′ agree (λ k i. master k) onU x k i
-
-      root : fileAt v′ x ≡ fileAt w x
-      root = file-kept w v′ x (record {
-        head = same 0 (omega arith);
-        pages = two-ext (object v′ x) (object w x) 26 (same 26 (omega arith)) (same 27 (omega arith));
-        ptr = same 30 (omega arith);
-        ptr′ = same 31 (omega arith);
-      })
-
-      quiet : blocksR w (fileAt w x) (hit (pageAt w (userFile w) (u / 32))) ≡ 0
-      quiet = let q : ℕ = pageAt w (userFile w) (u / 32) in let s : 256 * (x / 256) + x % 256 ≡ x = omega arith in
-          subst (λ (y : ℕ). blocksR w (fileAt w y) (hit q) ≡ 0) s (omega (
-            arith,
-            blocksR-le w (fileAt w (256 * (x / 256) + x % 256)) (hit q),
-            file-le w (hit q) (x / 256) (x % 256) (omega arith) (omega arith),
-            user-page P w (λ p. 0) G pos (u / 32) .3,
-          ))
+  all-addresses x h m = file-stays w v′ (hit (pageAt w (userFile w) (u / 32))) agree (user-page P w (λ p. 0) G pos (u / 32) .3) x h
+      (objects-else P w (λ p. 0) G pos u lt v′ agree (λ k i. master k) onU x) m ∙ user-place .placed .stays .files x h m
 
   -- ---- no other word changes
 

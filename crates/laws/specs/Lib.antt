@@ -36,4 +36,6 @@ pub mod UserPlace
 pub mod Packed
 pub mod NewEntry
 pub mod PutEntry
+pub mod Others
 pub mod CreateUser
+pub mod NewFile
