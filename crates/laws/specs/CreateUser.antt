@@ -24,7 +24,7 @@ use Rattle.laws.specs.Extend.{Placed}
 use Rattle.laws.specs.Grow.{Chooser}
 use Rattle.laws.specs.Names.{Legal-ext, SameName-ext}
 use Rattle.laws.specs.NewEntry.{user-used, user-name, user-own, user-zero}
-use Rattle.laws.specs.Others.{file-stays}
+use Rattle.laws.specs.Others.{no-block, file-stays}
 use Rattle.laws.specs.Packed.{packed-legal}
 use Rattle.laws.specs.Places.{Places, EntryOf, Either, OnlyAt, only-then, only-wider, only-putWords}
 use Rattle.laws.specs.PutEntry.{entry-page, entry-agree, entry-outside, entry-here}
@@ -145,7 +145,7 @@ module _ (choose : Vol → ℕ) (P : ℕ) (ch : Chooser P choose) (v : Vol) (S :
   -- ---- all pages of all files stay
 
   pub all-addresses : (x : ℕ) → x < 65536 → (m : ℕ) → pageAt v′ (fileAt v′ x) m ≡ pageAt v (fileAt v x) m
-  all-addresses x h m = file-stays w v′ (hit (pageAt w (userFile w) (u / 32))) agree (user-page P w (λ p. 0) G pos (u / 32) .3) x h
+  all-addresses x h m = file-stays w v′ (hit (pageAt w (userFile w) (u / 32))) agree x (no-block w (hit (pageAt w (userFile w) (u / 32))) (user-page P w (λ p. 0) G pos (u / 32) .3) x h)
       (objects-else P w (λ p. 0) G pos u lt v′ agree (λ k i. master k) onU x) m ∙ user-place .placed .stays .files x h m
 
   -- ---- no other word changes

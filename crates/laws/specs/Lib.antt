@@ -39,3 +39,4 @@ pub mod PutEntry
 pub mod Others
 pub mod CreateUser
 pub mod NewFile
+pub mod WriteFile

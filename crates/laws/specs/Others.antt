@@ -20,9 +20,9 @@ no-block v g z y h = let s : 256 * (y / 256) + y % 256 ≡ y = omega arith in
     (omega (arith, z, blocksR-le v (fileAt v (256 * (y / 256) + y % 256)) g, file-le v g (y / 256) (y % 256) (omega arith) (omega arith)))
 
 -- a file whose entry stays is where it was
-pub file-stays : (v v′ : Vol) (C : ℕ → ℕ) → Agree C v v′ → sum 256 (λ u. mine v u C) ≡ 0 → (y : ℕ) → y < 65536 → ((k : ℕ) → k < 32 → object v′ y k ≡ object v y k)
+pub file-stays : (v v′ : Vol) (C : ℕ → ℕ) → Agree C v v′ → (y : ℕ) → blocksR v (fileAt v y) C ≡ 0 → ((k : ℕ) → k < 32 → object v′ y k ≡ object v y k)
     → (m : ℕ) → pageAt v′ (fileAt v′ y) m ≡ pageAt v (fileAt v y) m
-file-stays v v′ C A z y h same m = ap (λ (r : Root). pageAt v′ r m) root ∙ pageAt-frame v v′ C A (fileAt v y) (no-block v C z y h) m
+file-stays v v′ C A y z same m = ap (λ (r : Root). pageAt v′ r m) root ∙ pageAt-frame v v′ C A (fileAt v y) z m
   where
     root : fileAt v′ y ≡ fileAt v y
     root = file-kept v v′ y (record {
