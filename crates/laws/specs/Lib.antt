@@ -40,3 +40,4 @@ pub mod Others
 pub mod CreateUser
 pub mod NewFile
 pub mod WriteFile
+pub mod Created

@@ -77,9 +77,9 @@ module _ (u e : ℕ) (name type : List ℕ) (created n ptr : ℕ) where
   before-16 : (k : ℕ) → k < 16 → E k ≡ w₃ k
   before-16 k h = before-20 k (omega arith) ∙ setWord-other w₄ 17 e k (omega arith) ∙ setWord-other w₃ 16 u k (omega arith)
 
-  pub file-used : used E ≡ 1
+  pub new-used : used E ≡ 1
   unfolding used
-  file-used = ap (λ (x : ℕ). x / 32768) (before-16 0 (omega arith) ∙ setWords-low w₂ 9 2 (packed type) 0 (omega arith) ∙ setWords-low w₁ 1 8 (packed name) 0 (omega arith) ∙ setWord-here zeros 0 32768)
+  new-used = ap (λ (x : ℕ). x / 32768) (before-16 0 (omega arith) ∙ setWords-low w₂ 9 2 (packed type) 0 (omega arith) ∙ setWords-low w₁ 1 8 (packed name) 0 (omega arith) ∙ setWord-here zeros 0 32768)
 
   pub file-name : (i : ℕ) → i < 8 → E (1 + i) ≡ packed name i
   file-name i h = before-16 (1 + i) (omega arith) ∙ setWords-low w₂ 9 2 (packed type) (1 + i) (omega arith) ∙ setWords-in w₁ 1 8 (packed name) (1 + i) (omega arith) (omega arith)

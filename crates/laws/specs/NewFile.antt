@@ -20,7 +20,7 @@ use Rattle.laws.specs.Count.{Good, Most, file-unused, root-0}
 use Rattle.laws.specs.Edit.{Change, Fine, entries, objs-words, edit-mine, edit-good}
 use Rattle.laws.specs.Finish.{file-used}
 use Rattle.laws.specs.Names.{Legal-ext, SameName-ext}
-use Rattle.laws.specs.NewEntry.{file-name, file-type, file-whose, file-number, file-pages, file-bytes, file-flags, file-page}
+use Rattle.laws.specs.NewEntry.{new-used, file-name, file-type, file-whose, file-number, file-pages, file-bytes, file-flags, file-page}
 use Rattle.laws.specs.Packed.{packed-legal}
 use Rattle.laws.specs.Rules.{Entries, UserNew, FileNew, used-ext, used-same, flags-ext, page-ext}
 use Rattle.laws.specs.Tree.{two-ext, some-pos, some-zero}
@@ -33,6 +33,11 @@ new-file-unused v u h = omega (arith, lowest-is (λ f. 1 - used (object v (fileE
 -- a run has as many pages
 run-count : (s n : ℕ) → 0 < s → sum n (λ i. some (s + i)) ≡ n
 run-count s n h = sum-ext n (λ i. some (s + i)) (λ i. 1) (λ i l. some-pos (s + i) (omega arith)) ∙ sum-const n 1 ∙ (let q : n * 1 ≡ n = omega arith in q)
+
+-- the file is there, and no page is in hand
+pub record Entered (P : ℕ) (v′ : Vol) (e s n : ℕ) : Type 0 where
+  pub good : Good P v′ (λ p. 0)
+  pub root : fileAt v′ e ≡ run s n
 
 module _ (P : ℕ) (x : Vol) (hand : ℕ → ℕ) (G : Good P x hand) (pos : 0 < P) (u f : ℕ) (hu : u < 256) (hf : f < 256) (uu : 0 < used (user x u)) (uf : used (object x (fileEntry u f)) ≡ 0)
     (name type : List ℕ) (created n s : ℕ) (N : NameText name) (T : TypeText type) (fresh : (h : ℕ) → IsFile x u name type h → ⊥)
@@ -47,7 +52,7 @@ module _ (P : ℕ) (x : Vol) (hand : ℕ → ℕ) (G : Good P x hand) (pos : 0 <
   -- ---- the file
 
   now-used : used (object v′ e) ≡ 1
-  now-used = used-ext (object v′ e) (objectEntry u e name type created n s) (words 0 (omega arith)) ∙ Rattle.laws.specs.NewEntry.file-used u e name type created n s
+  now-used = used-ext (object v′ e) (objectEntry u e name type created n s) (words 0 (omega arith)) ∙ new-used u e name type created n s
 
   pages : two (object v′ e) 26 ≡ n
   pages = two-ext (object v′ e) (objectEntry u e name type created n s) 26 (words 26 (omega arith)) (words 27 (omega arith)) ∙ file-pages u e name type created n s
@@ -62,7 +67,7 @@ module _ (P : ℕ) (x : Vol) (hand : ℕ → ℕ) (G : Good P x hand) (pos : 0 <
   start = page-ext (object v′ e) (objectEntry u e name type created n s) 30 (words 30 (omega arith)) (words 31 (omega arith)) ∙ file-page u e name type created n s small
 
   -- its pages are the run
-  pub new-root : fileAt v′ e ≡ run s n
+  new-root : fileAt v′ e ≡ run s n
   new-root = file-used v′ e (omega (arith, now-used)) ∙ root-0 (object v′ e) 30 (two (object v′ e) 26) plain ∙ ap₂ run start pages
 
   weight : (g : ℕ → ℕ) → weighR v′ (fileAt v′ e) g ≡ sum n (λ i. g (s + i))
@@ -122,9 +127,9 @@ module _ (P : ℕ) (x : Vol) (hand : ℕ → ℕ) (G : Good P x hand) (pos : 0 <
   unfolding Rule5 Rule5By
   high q i = subst (λ (y : ℕ). Rule5By P x y (page (x 0) 1016)) q (G .most .r5) .1 u i hu
 
-  pub new-file-good : Good P v′ (λ p. 0)
+  new-good : Good P v′ (λ p. 0)
   unfolding Rule4 Rule10 grant
-  new-file-good = edit-good P x hand G pos u f hu hf (λ x. 0) v′ E (λ g. 0) (λ g. sum n (λ i. g (s + i))) (λ p. 0) record {
+  new-good = edit-good P x hand G pos u f hu hf (λ x. 0) v′ E (λ g. 0) (λ g. sum n (λ i. g (s + i))) (λ p. 0) record {
     weight = λ g g0. omega (arith, weight g, none g);
     hands = λ p h. omega (arith, hands p h);
     userNew = record {
@@ -143,3 +148,6 @@ module _ (P : ℕ) (x : Vol) (hand : ℕ → ℕ) (G : Good P x hand) (pos : 0 <
     balance = omega (arith, two-ext (v′ 0) (x 0) 1022 (master 1022) (master 1023), ap₂ (λ (y z : ℕ). pick y z 0) user-used given-kept);
     count = λ h. omega (arith, more, none some, weight some, count, G .most .r10 .0 u hu uu, edit-mine P x hand G pos u f hu hf (λ x. 0) v′ E some);
   }
+
+  pub new-file : Entered P v′ e s n
+  new-file = record { good = new-good; root = new-root }
