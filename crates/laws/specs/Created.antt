@@ -65,6 +65,14 @@ module _ (choose : Vol → ℕ) (P : ℕ) (ch : Chooser P choose) (v : Vol) (S :
   pub file-place : FilePlaced P v w e
   file-place = file-placed choose P ch e v S pos (used-reached P v S u f (A .index) (A .entry) (A .owner)) (A .room)
 
+  -- the owner's page was there before
+  pub owner-page : (userPage w u ≡ userPage v u) × (0 < userPage w u)
+  unfolding userPage user
+  owner-page =
+      let h : 0 < userPage v u = used-page v (userFile v) u (A .owner) in
+      let q : pageAt w (userFile w) (u / 32) ≡ pageAt v (userFile v) (u / 32) = file-place .placed .stays .userAt (u / 32) h in
+      (q, omega (arith, h, q))
+
   -- x has the file's pages in hand, and v′ is x with the entry E, and words 16 and 17 of the owner
   module _ (n s : ℕ) (x : Vol) (hand : ℕ → ℕ) (G : Good P x hand) (X : Stays P w x NoWords n 0) (small : s < 1073741824) (form : Empty s n ⊎ Contiguous P s n)
       (hands : (p : ℕ) → p < P → hand p ≡ sum n (λ i. hit p (s + i))) (within : usedPages (user v) u + n ≤ given (user v) u) where
@@ -84,16 +92,12 @@ module _ (choose : Vol → ℕ) (P : ℕ) (ch : Chooser P choose) (v : Vol) (S :
     isO : 0 < objectPage x e
     isO = omega (arith, objectPage-is, file-place .there)
 
-    -- the owner's page was there before
-    pub userPage-is : (userPage x u ≡ userPage w u) × (userPage w u ≡ userPage v u) × (0 < userPage v u)
-    unfolding userPage user
-    userPage-is =
-        let h : 0 < userPage v u = used-page v (userFile v) u (A .owner) in
-        let q : pageAt w (userFile w) (u / 32) ≡ pageAt v (userFile v) (u / 32) = file-place .placed .stays .userAt (u / 32) h in
-        (X .userAt (u / 32) (omega (arith, h, q)), q, h)
+    pub userPage-is : userPage x u ≡ userPage w u
+    unfolding userPage
+    userPage-is = X .userAt (u / 32) (owner-page .1)
 
     isU : 0 < userPage x u
-    isU = omega (arith, userPage-is)
+    isU = omega (arith, userPage-is, owner-page .1)
 
     module _ (v′ : Vol)
         (else : (p k : ℕ) → (p ≡ userPage x u → (k ≢ entryWord u + 16) × (k ≢ entryWord u + 17)) → v′ p k ≡ putEntry x (objectPage x e) e E p k)

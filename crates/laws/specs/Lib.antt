@@ -41,3 +41,5 @@ pub mod CreateUser
 pub mod NewFile
 pub mod WriteFile
 pub mod Created
+pub mod RunStays
+pub mod CreateFile

@@ -39,9 +39,9 @@ module _ (P : ℕ) (x : Vol) (hand : ℕ → ℕ) (G : Good P x hand) (pos : 0 <
   abbrev y : Vol
   y = putEntry x O e E
 
-  apart : U ≢ O
+  pub write-apart : U ≢ O
   unfolding userPage objectPage
-  apart q =
+  write-apart q =
       let U : ℕ = pageAt x (userFile x) (u / 32) in
       omega (arith, pageAt-le x (hit U) (hit-zero U) (objectFile x) (e / 32), user-page P x hand G pos (u / 32) .1, subst (λ (z : ℕ). hit U z ≡ 1) q (hit-same U isU))
 
@@ -52,10 +52,10 @@ module _ (P : ℕ) (x : Vol) (hand : ℕ → ℕ) (G : Good P x hand) (pos : 0 <
   write-master k = away 0 k (omega (arith, isU)) (omega (arith, isO))
 
   inO : (k : ℕ) → word v′ O k ≡ word y O k
-  inO k = word-ext y v′ O k (λ h. else O k (λ q. absurd (apart (sym q))))
+  inO k = word-ext y v′ O k (λ h. else O k (λ q. absurd (write-apart (sym q))))
 
   inU : (k : ℕ) → k ≢ entryWord u + 16 → k ≢ entryWord u + 17 → word v′ U k ≡ word x U k
-  inU k a b = word-ext x v′ U k (λ h. else U k (λ q. (a, b)) ∙ entry-page x O e E U k apart)
+  inU k a b = word-ext x v′ U k (λ h. else U k (λ q. (a, b)) ∙ entry-page x O e E U k write-apart)
 
   pub write-change : Change P x hand G pos u f hu hf (λ x. 0) v′
   unfolding Agree userPage objectPage Outside

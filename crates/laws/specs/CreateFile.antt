@@ -1,0 +1,157 @@
+-- Creating an indexed file and a contiguous one. Assumes nothing.
+use mathlib.Core.Path.{_≡_, refl, sym, ap, ap₂, _∙_, subst, subst₂}
+use mathlib.Core.Logic.{_≢_, _⊎_, inl, inr}
+use mathlib.Core.List.{List}
+use Prim.Native.Nat.{ℕ, zero, suc, _+_, _-_, _*_, _/_, _%_, _≤_, _<_}
+use native.Mathlib.Omega.{arith}
+use Rattle.sums.specs.Sum.{sum, sum-zero, sum-ext}
+use Rattle.book.specs.Bits.{bit, claimRun, highestRun}
+use Rattle.book.specs.Create.{objectEntry, fileNeed, filePlace, createIndexed, createContiguous}
+use Rattle.book.specs.Entries.{Table, user, object, userPage, objectPage, entryWord, fileEntry, given, usedPages, spare, newFile, putEntry}
+use Rattle.book.specs.Holders.{hit}
+use Rattle.book.specs.Rules.{Rule4, Sound}
+use Rattle.book.specs.Words.{Vol, Words, two, put2}
+use Rattle.book.specs.Written.{put2-two}
+use Rattle.laws.specs.Cases.{hit-sym}
+use Rattle.laws.specs.Count.{Good, good}
+use Rattle.laws.specs.Created.{Asked, Created, file-place, owner-page, file-created}
+use Rattle.laws.specs.Grow.{Chooser}
+use Rattle.laws.specs.Highest.{FreeRun, run-found}
+use Rattle.laws.specs.Places.{Places, EntryOf, FieldOf, Either, OnlyAt, only-then, only-putWords, only-put2}
+use Rattle.laws.specs.PutEntry.{entry-page}
+use Rattle.laws.specs.RunStays.{run-stays}
+use Rattle.laws.specs.Runs.{taken}
+use Rattle.laws.specs.Stays.{NoWords, Stays, stays-none}
+use Rattle.laws.specs.Tree.{two-ext}
+use Rattle.laws.specs.WriteFile.{write-apart, write-object-at, write-user-at, owner-used}
+
+module _ (choose : Vol → ℕ) (P : ℕ) (ch : Chooser P choose) (v : Vol) (S : Sound P v) (pos : 0 < P) (u : ℕ) (name type : List ℕ) (created : ℕ) (A : Asked P v u name type) where
+  abbrev f : ℕ
+  f = newFile v u
+
+  abbrev e : ℕ
+  e = fileEntry u f
+
+  abbrev w : Vol
+  w = filePlace choose P v e
+
+  sound-w : Sound P w
+  sound-w = file-place choose P ch v S pos u name type created A .placed .sound
+
+  Gw : Good P w (λ p. 0)
+  Gw = good P w sound-w
+
+  within : usedPages (user v) u ≤ given (user v) u
+  unfolding Rule4
+  within = S .r4 .0 u (A .index) (A .owner) .within
+
+  -- ---- an indexed file has no page yet
+
+  abbrev v₀ : Vol
+  v₀ = createIndexed choose P v u name type created
+
+  abbrev E₀ : Words
+  E₀ = objectEntry u e name type created 0 0
+
+  isO : 0 < objectPage w e
+  isO = file-place choose P ch v S pos u name type created A .there
+
+  isU : 0 < userPage w u
+  isU = owner-page choose P ch v S pos u name type created A .1
+
+  same : usedPages (user w) u ≡ usedPages (user v) u
+  same = ap (λ (U : Table). usedPages U u) (file-place choose P ch v S pos u name type created A .placed .stays .users)
+
+  else₀ : (p k : ℕ) → (p ≡ userPage w u → (k ≢ entryWord u + 16) × (k ≢ entryWord u + 17)) → v₀ p k ≡ putEntry w (objectPage w e) e E₀ p k
+  unfolding createIndexed
+  else₀ p k h = refl
+
+  more₀ : two (v₀ (userPage w u)) (entryWord u + 16) ≡ usedPages (user v) u + 0
+  unfolding createIndexed
+  more₀ =
+      let n : userPage w u ≢ objectPage w e = write-apart P w (λ p. 0) Gw pos u f (A .index) (A .entry) isO isU E₀ v₀ else₀ in
+      let a : two (v₀ (userPage w u)) (entryWord u + 16) ≡ two (w (userPage w u)) (entryWord u + 16) =
+      two-ext (v₀ (userPage w u)) (w (userPage w u)) (entryWord u + 16) (entry-page w (objectPage w e) e E₀ (userPage w u) _ n) (entry-page w (objectPage w e) e E₀ (userPage w u) _ n) in
+      omega (arith, a, owner-used P w (λ p. 0) Gw pos u f (A .index) (A .entry) isO isU E₀ v₀ else₀, same)
+
+  only₀ : OnlyAt (EntryOf (objectPage v₀ e) e) w v₀
+  unfolding createIndexed objectPage
+  only₀ = subst (λ (q : ℕ). OnlyAt (EntryOf q e) w v₀) (sym (write-object-at P w (λ p. 0) Gw pos u f (A .index) (A .entry) isO isU E₀ v₀ else₀ (e / 32))) (only-putWords w (objectPage w e) (entryWord e) 32 E₀)
+
+  pub indexed-created : Created P v v₀ u e E₀ 0 0 (fileNeed v e) (EntryOf (objectPage v₀ e) e)
+  indexed-created = file-created choose P ch v S pos u name type created A 0 0 w (λ p. 0) Gw (stays-none P w) (omega arith) (inl (refl, refl))
+      (λ p h. sym (sum-zero (λ i. hit p (0 + i)))) (omega (arith, within)) v₀ else₀ more₀ (EntryOf (objectPage v₀ e) e) only₀
+
+  -- ---- a contiguous file of n pages
+
+  module _ (n : ℕ) (some : 0 < n) (le : n ≤ spare v u) (there : 0 < highestRun P w n) (big : P ≤ 1073741824) where
+    abbrev s : ℕ
+    s = highestRun P w n
+
+    abbrev v′ : Vol
+    v′ = createContiguous choose P v u name type created n
+
+    abbrev E : Words
+    E = objectEntry u e name type created n s
+
+    -- its pages are free after the system pages are taken
+    pub contiguous-run : FreeRun P w n s
+    contiguous-run = run-found P w n there
+
+    fits : s + n ≤ P
+    unfolding FreeRun
+    fits = contiguous-run .0
+
+    clear : (i : ℕ) → i < n → bit P w (s + i) ≡ 0
+    unfolding FreeRun
+    clear = contiguous-run .1
+
+    abbrev x : Vol
+    x = claimRun P w s n
+
+    abbrev hand : ℕ → ℕ
+    hand p = 0 + sum n (λ i. hit (s + i) p)
+
+    G : Good P x hand
+    G = taken P w (λ p. 0) Gw s n fits clear .good
+
+    X : Stays P w x NoWords n 0
+    X = run-stays P w (λ p. 0) Gw s n fits clear
+
+    hands : (p : ℕ) → p < P → hand p ≡ sum n (λ i. hit p (s + i))
+    hands p h = omega (arith, sum-ext n (λ i. hit (s + i) p) (λ i. hit p (s + i)) (λ i l. hit-sym (s + i) p))
+
+    left : usedPages (user v) u + n ≤ given (user v) u
+    unfolding spare
+    left = omega (arith, le, within)
+
+    O-is : objectPage x e ≡ objectPage w e
+    unfolding objectPage
+    O-is = X .objAt (e / 32) isO
+
+    U-is : userPage x u ≡ userPage w u
+    unfolding userPage
+    U-is = X .userAt (u / 32) isU
+
+    abbrev y : Vol
+    y = putEntry x (objectPage w e) e E
+
+    else : (p k : ℕ) → (p ≡ userPage x u → (k ≢ entryWord u + 16) × (k ≢ entryWord u + 17)) → v′ p k ≡ putEntry x (objectPage x e) e E p k
+    unfolding createContiguous
+    else p k h = only-put2 y (userPage w u) (entryWord u + 16) (usedPages (user w) u + n) p k (λ q. let a = h (q .0 ∙ sym U-is) in omega (arith, a .0, a .1, q .1, q .2)) ∙ ap (λ (q : ℕ). putEntry x q e E p k) (sym O-is)
+
+    more : two (v′ (userPage x u)) (entryWord u + 16) ≡ usedPages (user v) u + n
+    unfolding createContiguous
+    more = ap (λ (q : ℕ). two (v′ q) (entryWord u + 16)) U-is ∙ put2-two y (userPage w u) (entryWord u + 16) (usedPages (user w) u + n) ∙ ap (λ (z : ℕ). z + n) same
+
+    only : OnlyAt (Either (EntryOf (objectPage v′ e) e) (FieldOf (userPage v u) u 16 2)) x v′
+    unfolding createContiguous objectPage
+    only = subst₂ (λ (q r : ℕ). OnlyAt (Either (EntryOf q e) (FieldOf r u 16 2)) x v′)
+        (sym (write-object-at P x hand G pos u f (A .index) (A .entry) (omega (arith, isO, O-is)) (omega (arith, isU, U-is)) E v′ else (e / 32) ∙ O-is))
+        (owner-page choose P ch v S pos u name type created A .0)
+        (only-then (EntryOf (objectPage w e) e) (FieldOf (userPage w u) u 16 2) x y v′ (only-putWords x (objectPage w e) (entryWord e) 32 E)
+        (only-put2 y (userPage w u) (entryWord u + 16) (usedPages (user w) u + n)))
+
+    pub contiguous-created : Created P v v′ u e E n s (fileNeed v e) (Either (EntryOf (objectPage v′ e) e) (FieldOf (userPage v u) u 16 2))
+    contiguous-created = file-created choose P ch v S pos u name type created A n s x hand G X (omega (arith, fits, some)) (inr (some, there, fits)) hands left v′ else more
+        (Either (EntryOf (objectPage v′ e) e) (FieldOf (userPage v u) u 16 2)) only
