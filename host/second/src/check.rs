@@ -7,7 +7,7 @@ use crate::entry::{
     ENTRIES_TO_A_PAGE,
 };
 use crate::image::{
-    page_count, page_words, pair, BIT_POINTER, OBJECT_POINTER, UNRESERVED, USER_POINTER,
+    all_zero, page_count, page_words, pair, BIT_POINTER, OBJECT_POINTER, UNRESERVED, USER_POINTER,
     VOLUME_NAME,
 };
 use crate::name::{are_name_words, are_type_words, sort_key, NAME_WORDS};
@@ -17,7 +17,9 @@ use crate::walk::Walk;
 
 /// Checks the image; with 0, the value is the number of visits.
 pub fn check(image: &[u16]) -> Reply {
-    page_count(image).and_then(|pages| demand_sound(image, pages)).into()
+    page_count(image)
+        .and_then(|pages| demand_sound(image, pages))
+        .into()
 }
 
 /// Number 3 and its rule where the image is unsound, else the visits.
@@ -140,7 +142,7 @@ impl<'a> Parts<'a> {
             }
         }
         let rest = &page_words(self.image, block)[2 * allowed as usize..];
-        rule(number, rest.iter().all(|&word| word == 0))?;
+        rule(number, all_zero(rest))?;
         Ok(filled)
     }
 
@@ -161,7 +163,11 @@ impl<'a> Parts<'a> {
             let own = u32::from(entry[user::OWN_INDEX]) == number;
             rule(4, own && are_name_words(name) && used <= given)?;
             names.push(sort_key(name));
-            self.users[number as usize] = Some(User { given, used, held: 0 });
+            self.users[number as usize] = Some(User {
+                given,
+                used,
+                held: 0,
+            });
         }
         rule(4, all_differ(names))
     }
@@ -212,7 +218,10 @@ impl<'a> Parts<'a> {
             });
         }
         let mut by_user = self.files.chunk_by(|a, b| a.user == b.user);
-        rule(6, by_user.all(|files| all_differ(files.iter().map(|file| file.key).collect())))
+        rule(
+            6,
+            by_user.all(|files| all_differ(files.iter().map(|file| file.key).collect())),
+        )
     }
 
     /// The files' shapes; also marks every held page, and adds up what each
@@ -223,7 +232,10 @@ impl<'a> Parts<'a> {
         }
         for file in &self.files {
             let bytes = 2048 * u64::from(file.pages);
-            rule(7, u64::from(file.bytes) == bytes && walk.mark_file(file.pages, file.pointer))?;
+            rule(
+                7,
+                u64::from(file.bytes) == bytes && walk.mark_file(file.pages, file.pointer),
+            )?;
             if let Some(user) = &mut self.users[file.user] {
                 user.held += match file.pointer {
                     Pointer::Plain(_) => u64::from(file.pages),
@@ -237,9 +249,11 @@ impl<'a> Parts<'a> {
     /// The bit file against the pages that are held.
     fn rule_9(&self, bit_page: u32, held: &[u16]) -> Judged {
         let bits = page_words(self.image, bit_page);
-        rule(9, (0..words_in_use(self.pages)).all(|word| {
-            bits[word] & bits_below(self.pages, word) == held[word]
-        }))
+        rule(
+            9,
+            (0..words_in_use(self.pages))
+                .all(|word| bits[word] & bits_below(self.pages, word) == held[word]),
+        )
     }
 
     /// The counts, added as numbers that never wrap.
@@ -261,7 +275,12 @@ fn used_entries<'b>(
 ) -> impl Iterator<Item = (u32, &'b [u16])> {
     pages.iter().flat_map(move |&(position, page)| {
         (0..ENTRIES_TO_A_PAGE)
-            .map(move |n| (position * ENTRIES_TO_A_PAGE + n, EntryPlace::of(n).start_in(page)))
+            .map(move |n| {
+                (
+                    position * ENTRIES_TO_A_PAGE + n,
+                    EntryPlace::of(n).start_in(page),
+                )
+            })
             .map(move |(number, start)| (number, entry_words(image, start)))
             .filter(|(_, entry)| is_used(entry))
     })

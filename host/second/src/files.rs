@@ -48,7 +48,17 @@ pub fn create_indexed(
     kind: &[u8],
     created: u32,
 ) -> Reply {
-    create(image, &NewFile { user, name, kind, created, count: None }).into()
+    create(
+        image,
+        &NewFile {
+            user,
+            name,
+            kind,
+            created,
+            count: None,
+        },
+    )
+    .into()
 }
 
 /// Creates a contiguous file of so many pages.
@@ -60,7 +70,17 @@ pub fn create_contiguous(
     created: u32,
     count: u32,
 ) -> Reply {
-    create(image, &NewFile { user, name, kind, created, count: Some(count) }).into()
+    create(
+        image,
+        &NewFile {
+            user,
+            name,
+            kind,
+            created,
+            count: Some(count),
+        },
+    )
+    .into()
 }
 
 fn create(image: &mut [u16], new: &NewFile) -> Outcome {
@@ -86,18 +106,32 @@ fn plan_file(image: &[u16], new: &NewFile) -> Result<Plan, Refusal> {
     demand(is_index(new.user) && named && counted, BAD_ARGUMENT)?;
     demand_sound(image, pages)?;
     let owner = user_entry(image, new.user).ok_or(ABSENT)?;
-    demand(file_named(image, new.user, new.name, new.kind).is_none(), NAME_TAKEN)?;
+    demand(
+        file_named(image, new.user, new.name, new.kind).is_none(),
+        NAME_TAKEN,
+    )?;
     let mut unused = (0..ENTRIES).filter(|&file| file_entry(image, new.user, file).is_none());
     let file = unused.next().ok_or(ENTRIES_FULL)?;
-    let (given, used) = (pair(image, owner + user::GIVEN), pair(image, owner + user::USED));
+    let (given, used) = (
+        pair(image, owner + user::GIVEN),
+        pair(image, owner + user::USED),
+    );
     demand(given - used >= new.count.unwrap_or(0), GIVEN_SHORT)?;
     let system_pages = system_pages_needed(image, new.user, file);
     demand(unreserved(image) >= system_pages, UNRESERVED_SHORT)?;
     let run = match new.count {
         None => (0, 0),
-        Some(count) => (run_left(image, pages, system_pages, count).ok_or(NO_RUN)?, count),
+        Some(count) => (
+            run_left(image, pages, system_pages, count).ok_or(NO_RUN)?,
+            count,
+        ),
     };
-    Ok(Plan { owner, file, system_pages, run })
+    Ok(Plan {
+        owner,
+        file,
+        system_pages,
+        run,
+    })
 }
 
 /// The object index block, if absent, and the object page, if absent.
@@ -180,13 +214,7 @@ pub fn write_page(image: &mut [u16], user: u32, file: u32, position: u32, data: 
     try_write_page(image, user, file, position, data).into()
 }
 
-fn try_write_page(
-    image: &mut [u16],
-    user: u32,
-    file: u32,
-    position: u32,
-    data: &[u16],
-) -> Outcome {
+fn try_write_page(image: &mut [u16], user: u32, file: u32, position: u32, data: &[u16]) -> Outcome {
     page_count(image)?;
     demand(data.len() == PAGE_WORDS, BAD_ARGUMENT)?;
     let page = try_address(image, user, file, position)?;

@@ -17,7 +17,10 @@ pub fn format(image: &mut [u16], name: &[u8], bit_page: Option<u32>) -> Reply {
 fn try_format(image: &mut [u16], name: &[u8], bit_page: Option<u32>) -> Outcome {
     let pages = page_count(image)?;
     let bit_page = bit_page.unwrap_or(pages / 2);
-    demand(is_name(name) && (1..pages).contains(&bit_page), BAD_ARGUMENT)?;
+    demand(
+        is_name(name) && (1..pages).contains(&bit_page),
+        BAD_ARGUMENT,
+    )?;
     image[VOLUME_NAME..][..NAME_WORDS].copy_from_slice(&pack::<NAME_WORDS>(name));
     put_pair(image, OBJECT_POINTER, 0);
     put_pair(image, USER_POINTER, 0);

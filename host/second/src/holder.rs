@@ -26,12 +26,18 @@ fn try_who_holds(image: &[u16], page: u32) -> Result<HolderReply, Refusal> {
     if !is_reserved(bits(image), page) {
         return Ok(holder(kind::FREE, 0));
     }
-    Ok(system_holder(image, page).or_else(|| file_holder(image, page)).unwrap_or_default())
+    Ok(system_holder(image, page)
+        .or_else(|| file_holder(image, page))
+        .unwrap_or_default())
 }
 
 /// A holder without user and file.
 fn holder(kind: u32, position: u32) -> HolderReply {
-    HolderReply { kind, position, ..HolderReply::default() }
+    HolderReply {
+        kind,
+        position,
+        ..HolderReply::default()
+    }
 }
 
 fn system_holder(image: &[u16], page: u32) -> Option<HolderReply> {
@@ -49,12 +55,20 @@ fn system_holder(image: &[u16], page: u32) -> Option<HolderReply> {
     }
     let at = |found: Option<u32>, kind| found.map(|position| holder(kind, position));
     let user_pages = ENTRIES / ENTRIES_TO_A_PAGE;
-    at((0..user_pages).find(|&n| user_page(image, n) == Some(page)), kind::USER_PAGE)
-        .or_else(|| at((0..4).find(|&n| object_index(image, n) == Some(page)), kind::OBJECT_INDEX))
-        .or_else(|| {
-            let found = (0..4 * SLOTS).find(|&n| object_page(image, n) == Some(page));
-            at(found, kind::OBJECT_PAGE)
-        })
+    at(
+        (0..user_pages).find(|&n| user_page(image, n) == Some(page)),
+        kind::USER_PAGE,
+    )
+    .or_else(|| {
+        at(
+            (0..4).find(|&n| object_index(image, n) == Some(page)),
+            kind::OBJECT_INDEX,
+        )
+    })
+    .or_else(|| {
+        let found = (0..4 * SLOTS).find(|&n| object_page(image, n) == Some(page));
+        at(found, kind::OBJECT_PAGE)
+    })
 }
 
 fn file_holder(image: &[u16], page: u32) -> Option<HolderReply> {
@@ -67,7 +81,13 @@ fn file_holder(image: &[u16], page: u32) -> Option<HolderReply> {
                 Role::Index => kind::FILE_INDEX,
                 Role::Data => kind::FILE_DATA,
             };
-            Some(HolderReply { reply: Reply::default(), kind, user, file, position })
+            Some(HolderReply {
+                reply: Reply::default(),
+                kind,
+                user,
+                file,
+                position,
+            })
         })
     })
 }

@@ -16,7 +16,7 @@ pub const UNRESERVED: usize = 1022;
 /// P, where the length is a whole number of pages within 8..16,384.
 pub(crate) fn page_count(image: &[u16]) -> Result<u32, Refusal> {
     let pages = image.len() / PAGE_WORDS;
-    demand(image.len() % PAGE_WORDS == 0, BAD_LENGTH)?;
+    demand(image.len().is_multiple_of(PAGE_WORDS), BAD_LENGTH)?;
     demand((8..=16_384).contains(&pages), BAD_LENGTH)?;
     Ok(pages as u32)
 }
@@ -45,4 +45,10 @@ pub fn page_words(image: &[u16], page: u32) -> &[u16] {
 /// The 1,024 words of a page, to change.
 pub fn page_words_mut(image: &mut [u16], page: u32) -> &mut [u16] {
     &mut image[page_start(page)..][..PAGE_WORDS]
+}
+
+/// Whether all words are zero. All are looked at without stopping early: most
+/// often they are, and this way the compiler takes many at a time.
+pub fn all_zero(words: &[u16]) -> bool {
+    words.iter().fold(0, |any, word| any | word) == 0
 }

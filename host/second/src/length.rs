@@ -23,7 +23,12 @@ impl Changing {
         let owner = user_entry(image, user).ok_or(ABSENT)?;
         let pointer = file_pointer(entry_words(image, entry));
         demand(!matches!(pointer, Pointer::Plain(_)), WRONG_KIND)?;
-        Ok(Changing { entry, owner, pages: pair(image, entry + object::PAGES), pointer })
+        Ok(Changing {
+            entry,
+            owner,
+            pages: pair(image, entry + object::PAGES),
+            pointer,
+        })
     }
 
     /// Writes the new length and pointer, and the user's new used count.
@@ -47,7 +52,10 @@ pub fn grow(image: &mut [u16], user: u32, file: u32) -> Reply {
 fn try_grow(image: &mut [u16], user: u32, file: u32) -> Outcome {
     let changing = Changing::find(image, user, file)?;
     let needed = pages_to_grow(changing.pages);
-    let (given, used) = (pair(image, changing.owner + user::GIVEN), changing.used(image));
+    let (given, used) = (
+        pair(image, changing.owner + user::GIVEN),
+        changing.used(image),
+    );
     demand(given - used >= needed, GIVEN_SHORT)?;
     let (n, in_block) = block_and_slot(changing.pages);
     let data = take_page(image);

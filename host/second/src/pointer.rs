@@ -77,5 +77,5 @@ pub fn pages_held(pages: u32) -> u64 {
 
 /// Pages taken when an indexed file of so many pages grows by one.
 pub fn pages_to_grow(pages: u32) -> u32 {
-    1 + u32::from(pages % SLOTS == 0) + u32::from(pages == SLOTS)
+    1 + u32::from(pages.is_multiple_of(SLOTS)) + u32::from(pages == SLOTS)
 }

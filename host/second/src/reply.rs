@@ -77,14 +77,22 @@ pub(crate) fn demand(condition: bool, refusal: Refusal) -> Result<(), Refusal> {
 
 impl From<Refusal> for Reply {
     fn from(refusal: Refusal) -> Reply {
-        Reply { number: refusal.number, rule: refusal.rule, value: 0 }
+        Reply {
+            number: refusal.number,
+            rule: refusal.rule,
+            value: 0,
+        }
     }
 }
 
 impl From<Outcome> for Reply {
     fn from(outcome: Outcome) -> Reply {
         match outcome {
-            Ok(value) => Reply { number: 0, rule: 0, value },
+            Ok(value) => Reply {
+                number: 0,
+                rule: 0,
+                value,
+            },
             Err(refusal) => refusal.into(),
         }
     }

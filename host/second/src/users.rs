@@ -81,7 +81,11 @@ fn make_first_pages(image: &mut [u16], position: u32) -> u32 {
     let object_index = take_page(image);
     put_slot(image, user_index, position, user_page);
     put_pair(image, USER_POINTER, Pointer::Indexed(user_index).value());
-    put_pair(image, OBJECT_POINTER, Pointer::Indexed(object_index).value());
+    put_pair(
+        image,
+        OBJECT_POINTER,
+        Pointer::Indexed(object_index).value(),
+    );
     user_page
 }
 
@@ -134,7 +138,10 @@ fn try_take(image: &mut [u16], user: u32, count: u32) -> Outcome {
     demand(is_count(count), BAD_ARGUMENT)?;
     let start = named_user(image, user)?;
     let (given, rest) = (pair(image, start + user::GIVEN), unreserved(image));
-    demand(given - pair(image, start + user::USED) >= count, GIVEN_SHORT)?;
+    demand(
+        given - pair(image, start + user::USED) >= count,
+        GIVEN_SHORT,
+    )?;
     put_pair(image, start + user::GIVEN, given - count);
     put_pair(image, UNRESERVED, rest + count);
     Ok(0)

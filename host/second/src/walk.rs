@@ -2,7 +2,7 @@
 //! while it goes.
 
 use crate::bits::bit_place;
-use crate::image::{page_words, pair};
+use crate::image::{all_zero, page_words, pair};
 use crate::pointer::{index_blocks, slot, Pointer, SLOTS};
 
 /// The pages met so far.
@@ -97,11 +97,15 @@ impl<'a> Walk<'a> {
         self.mark(block);
         let image = self.image;
         let filled = (0..blocks).all(|n| {
-            let in_block = if n + 1 < blocks { SLOTS } else { count - n * SLOTS };
+            let in_block = if n + 1 < blocks {
+                SLOTS
+            } else {
+                count - n * SLOTS
+            };
             self.mark_index_block(slot(image, block, n), in_block)
         });
         let rest = &page_words(image, block)[2 * blocks as usize..];
-        filled && rest.iter().all(|&word| word == 0)
+        filled && all_zero(rest)
     }
 
     /// An index block with 1..512 slots filled. A block read before is held
@@ -124,6 +128,6 @@ impl<'a> Walk<'a> {
             }
             self.mark(page);
         }
-        rest.iter().all(|&word| word == 0)
+        all_zero(rest)
     }
 }
