@@ -23,3 +23,5 @@ pub mod Delete
 pub mod Call
 pub mod Packed
 pub mod NewVolume
+pub mod Sparse
+pub mod Broken
