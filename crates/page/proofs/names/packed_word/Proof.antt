@@ -1,3 +1,4 @@
+use Rattle.book.specs.Names.{packed}
 use borrow.Author.Needs.{needs}
 use Rattle.page.proofs.names.packed_word.Statement.{statement}
 use Rattle.page.proofs.names.packed_word.Tie as tie
@@ -35,7 +36,8 @@ add-result c = search needs
 
 -- src/names.rt:144:1
 returns : tie.Need-returns
-returns c = ?
+unfolding packed
+returns c = cc
 
 pub packed-word-spec : {M : Type 1} → statement M
 packed-word-spec =
