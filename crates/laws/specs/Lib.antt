@@ -21,3 +21,5 @@ pub mod First
 pub mod Runs
 pub mod Delete
 pub mod Call
+pub mod Reach
+pub mod Positions
