@@ -1,19 +1,17 @@
 -- Volumes without used entries; a formatted volume is sound: the rules can be met. Assumes nothing.
-use mathlib.Core.Path.{_≡_, refl, sym, ap, ap₂, _∙_, subst}
-use mathlib.Core.Logic.{_≢_, _⊎_, inl, inr}
-use Prim.Native.Nat.{ℕ, zero, suc, _+_, _-_, _*_, _/_, _%_, _^_, _≤_, _<_, zero-le, min}
-use native.Mathlib.Nat.{not-suc-le-zero}
-use native.Mathlib.Decide.{ℕ-discrete, decLt}
+use mathlib.Core.Path.{_≡_, sym, ap, _∙_, subst}
+use mathlib.Core.Logic.{inl}
+use Prim.Native.Nat.{ℕ, _+_, _-_, _*_, _/_, _%_, _<_, zero-le}
 use native.Mathlib.Omega.{arith}
-use Rattle.sums.specs.Search.{pick, pick-no}
+use Rattle.sums.specs.Search.{pick-no}
 use Rattle.sums.specs.Sum.{sum, is, sum-none}
-use Rattle.book.specs.Bits.{bitFile, bitPages, bit}
-use Rattle.book.specs.Entries.{Table, entry, userFile, objectFile, user, object, used, grant, given, usedPages, unreserved}
+use Rattle.book.specs.Bits.{bitFile, bit}
+use Rattle.book.specs.Entries.{entry, userFile, objectFile, user, object, used, grant, given, unreserved}
 use Rattle.book.specs.Files.{fileAt}
 use Rattle.book.specs.Holders.{hit, some, all, system, mine, holders, systemPages}
-use Rattle.book.specs.Pointers.{slot, flags, page, Zero}
+use Rattle.book.specs.Pointers.{slot, page, Zero}
 use Rattle.book.specs.Rules.{Rule1, Rule2, Rule3, Rule4, Rule5, Rule5By, Rule6, Rule7, Rule8, Rule9, Rule10, Sound}
-use Rattle.book.specs.Trees.{Root, run, weighR, pageAt, upto, rootAt}
+use Rattle.book.specs.Trees.{Root, run, weighR, pageAt}
 use Rattle.book.specs.Words.{Vol, two, word}
 use Rattle.laws.specs.Count.{root-0, zero-flags, zero-page, bit-le, file-unused}
 use Rattle.laws.specs.Frame.{upto-out}

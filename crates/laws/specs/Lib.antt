@@ -25,5 +25,6 @@ pub mod Packed
 pub mod NewVolume
 pub mod Sparse
 pub mod Broken
+pub mod BrokenLate
 pub mod Reach
 pub mod Positions

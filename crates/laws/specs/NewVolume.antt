@@ -1,13 +1,13 @@
 -- A freshly formatted volume is sound: for every number of pages, every name and every bit page. Assumes nothing.
-use mathlib.Core.Path.{_≡_, refl, sym, ap, ap₂, _∙_, subst}
-use mathlib.Core.Logic.{_≢_, _⊎_, inl, inr}
+use mathlib.Core.Path.{_≡_, refl, sym, ap, _∙_, subst}
+use mathlib.Core.Logic.{_⊎_, inl, inr}
 use mathlib.Core.List.{List}
-use Prim.Native.Nat.{ℕ, zero, suc, _+_, _-_, _*_, _/_, _%_, _≤_, _<_, zero-le}
+use Prim.Native.Nat.{ℕ, zero, suc, _+_, _-_, _/_, _%_, _≤_, _<_}
 use native.Mathlib.Nat.{not-suc-le-zero}
-use native.Mathlib.Decide.{ℕ-discrete, decLt}
+use native.Mathlib.Decide.{ℕ-discrete}
 use native.Mathlib.Omega.{arith}
 use Rattle.sums.specs.Sum.{sum, is, is-same, is-other, sum-suc, sum-zero, sum-ext, sum-const}
-use Rattle.book.specs.Words.{Words, Vol, two, word, put2, putWords, wipe}
+use Rattle.book.specs.Words.{Vol, two, put2, putWords, wipe}
 use Rattle.book.specs.Pointers.{flags, page, pointer, Zero}
 use Rattle.book.specs.Trees.{weighR, run}
 use Rattle.book.specs.Bits.{digit, bitPages, bitFile, bitPage, bit, mark}
@@ -16,7 +16,7 @@ use Rattle.book.specs.Holders.{hit, some}
 use Rattle.book.specs.Image.{BitArg}
 use Rattle.book.specs.Rules.{Rule1, Sound}
 use Rattle.book.specs.Format.{wipeRun, markRun, directory, format}
-use Rattle.book.specs.Written.{word-pos, put2-hi, put2-lo, put2-two, put2-page, put2-word, putWords-here, putWords-page, wipe-here, wipe-page}
+use Rattle.book.specs.Written.{word-pos, put2-hi, put2-lo, put2-two, put2-word, putWords-here, wipe-here, wipe-page}
 use Rattle.laws.specs.Tree.{hit-same, hit-other, some-pos, two-ext}
 use Rattle.laws.specs.Claim.{bitPage-is, bitPage-pos}
 use Rattle.laws.specs.Release.{mark-master, mark-bit, mark-other}

@@ -1,29 +1,28 @@
 -- A tree of pages loses its last position, and a file its last page. Assumes nothing.
-use mathlib.Core.Path.{_≡_, refl, sym, ap, ap₂, _∙_, subst, subst₂, subst₃}
-use mathlib.Core.Logic.{_≢_, _⊎_, inl, inr}
-use Prim.Native.Nat.{ℕ, zero, suc, _+_, _-_, _*_, _/_, _%_, _^_, _≤_, _<_, zero-le, min}
-use native.Mathlib.Nat.{le-refl, not-suc-le-zero, le-trans, mod-lt, mul-le-mul-right, div-one, mod-one}
-use native.Mathlib.Decide.{ℕ-discrete, decLt}
+use mathlib.Core.Path.{_≡_, refl, sym, ap, _∙_, subst, subst₂, subst₃}
+use mathlib.Core.Logic.{_≢_, inl}
+use Prim.Native.Nat.{ℕ, zero, suc, _+_, _-_, _*_, _/_, _%_, _^_, _≤_, _<_, min}
+use native.Mathlib.Nat.{mod-lt, mul-le-mul-right, div-one, mod-one}
+use native.Mathlib.Decide.{ℕ-discrete}
 use native.Mathlib.Omega.{arith}
-use Rattle.sums.specs.Sum.{sum, sum-zero, sum-ext, sum-none, sum-add, sum-at, sum-at₂, sum-change, sum-only, sum-only₂}
-use Rattle.book.specs.Bits.{bitFile, bit, mark}
+use Rattle.sums.specs.Sum.{sum, sum-zero, sum-none, sum-at, sum-at₂, sum-change, sum-only, sum-only₂}
+use Rattle.book.specs.Bits.{bitFile, mark}
 use Rattle.book.specs.Entries.{userFile, objectFile, user, object, used, given, usedPages}
 use Rattle.book.specs.Files.{fileAt, Shape}
 use Rattle.book.specs.Grow.{finish}
 use Rattle.book.specs.Holders.{hit, some, all, system, mine}
 use Rattle.book.specs.Pointers.{slot, flags, page, pointer, setSlot}
 use Rattle.book.specs.Rules.{Rule4, Rule10}
-use Rattle.book.specs.Trees.{Root, tree, run, weigh, blocks, weighR, pageAt, rootBy, Fill, Below}
-use Rattle.book.specs.Words.{Vol, two, word}
+use Rattle.book.specs.Trees.{Root, tree, weigh, blocks, weighR, pageAt, rootBy, Fill, Below}
+use Rattle.book.specs.Words.{Vol, two}
 use Rattle.book.specs.Written.{word-ext}
 use Rattle.laws.specs.Cases.{own, root-is, shape-is, hit-sym}
-use Rattle.laws.specs.Count.{Good, Most}
+use Rattle.laws.specs.Count.{Good}
 use Rattle.laws.specs.Edit.{weighR-nobody}
-use Rattle.laws.specs.Finish.{Blocks, Regrown, finish-good, owner-used}
+use Rattle.laws.specs.Finish.{Blocks, finish-good, owner-used}
 use Rattle.laws.specs.Grown.{slot-here, slot-other, setSlot-page, setSlot-agree, fill-zero, below-zero, part-old, part-here, part-other}
-use Rattle.laws.specs.Part.{file-le}
 use Rattle.laws.specs.Release.{release-good}
-use Rattle.laws.specs.Tree.{Agree, hit-zero, hit-same, hit-other, some-pos, some-zero, slot-zero, slot-same, weigh-none, weigh-frame, Below-frame, Fill-frame, pow-pos, slot-lt}
+use Rattle.laws.specs.Tree.{Agree, hit-zero, hit-same, some-pos, some-zero, slot-zero, slot-same, weigh-none, weigh-frame, Below-frame, Fill-frame, pow-pos, slot-lt}
 
 -- the tree under t had n + 1 positions; under t′ it has n
 pub record Shrunk (P : ℕ) (v v′ : Vol) (l t t′ n : ℕ) (gone : (ℕ → ℕ) → ℕ) : Type 0 where

@@ -1,17 +1,15 @@
 -- Volumes written down cell by cell, all other words zero: for examples. Assumes nothing.
-use mathlib.Core.Path.{_≡_, refl, sym, ap, _∙_, subst}
+use mathlib.Core.Path.{_≡_, refl, ap, _∙_}
 use mathlib.Core.Logic.{_≢_}
 use mathlib.Core.List.{List, [], _∷_}
-use Prim.Native.Nat.{ℕ, zero, suc, _+_, _-_, _*_, _/_, _%_, _^_, _≤_, _<_}
+use Prim.Native.Nat.{ℕ, zero, _+_, _-_, _*_, _/_, _%_, _≤_, _<_}
 use native.Mathlib.Decide.{ℕ-discrete, decLt}
 use native.Mathlib.Omega.{arith}
-use Rattle.book.specs.Words.{Words, Vol, two, word, put}
+use Rattle.book.specs.Words.{Vol, word, put}
 use Rattle.book.specs.Pointers.{slot}
-use Rattle.book.specs.Trees.{Root, tree, run, leaf, pageAt, upto}
-use Rattle.book.specs.Entries.{entry, used}
-use Rattle.book.specs.Names.{Letter, Text, NameText, packed}
-use Rattle.book.specs.Rules.{Rule1}
-use Rattle.book.specs.Written.{put-here, put-page, put-word}
+use Rattle.book.specs.Trees.{tree, leaf, pageAt}
+use Rattle.book.specs.Entries.{entry}
+use Rattle.book.specs.Written.{put-page, put-word}
 use Rattle.laws.specs.Tree.{word-zero}
 use Rattle.laws.specs.Frame.{upto-in, upto-out}
 

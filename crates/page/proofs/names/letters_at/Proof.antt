@@ -104,10 +104,12 @@ loop-again c =
     let t = c .before .letter2 in
     let w = vol (a .img .now) (a .p) in
     let d : c .before .before .before .before .before .high .result ≡ byteAt w (a .k) (2 * l .i) = omega (arith, byte-high w (a .k) (l .i)) in
-    let e : c .before .before .low .result ≡ byteAt w (a .k) (2 * l .i + 1) = omega (arith, byte-low w (a .k) (l .i)) in
-    (omega arith, word-more (λ j. Letter (byteAt w (a .k) j)) (l .i) (l .inv .1)
-    (subst Letter d (holds (s .result) _ (s .ensures) (c .before .before .before .if1 .left)))
-    (subst Letter e (holds (t .result) _ (t .ensures) (c .if2 .left))))
+    let e : c .before .before .low .result ≡ byteAt w (a .k) (2 * l .i + 1) = omega (arith, byte-low w (a .k) (l .i)) in (
+      omega arith,
+      word-more (λ j. Letter (byteAt w (a .k) j)) (l .i) (l .inv .1)
+          (subst Letter d (holds (s .result) _ (s .ensures) (c .before .before .before .if1 .left)))
+          (subst Letter e (holds (t .result) _ (t .ensures) (c .if2 .left))),
+    )
 
 -- src/names.rt:56:1
 returns-3 : tie.Need-returns-3 Inv-loop μ-loop
