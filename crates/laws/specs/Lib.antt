@@ -21,3 +21,4 @@ pub mod First
 pub mod Runs
 pub mod Delete
 pub mod Call
+pub mod Places
