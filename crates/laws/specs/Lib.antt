@@ -22,3 +22,5 @@ pub mod Runs
 pub mod Delete
 pub mod Call
 pub mod Places
+pub mod After
+pub mod Still
