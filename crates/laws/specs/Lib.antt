@@ -24,3 +24,8 @@ pub mod Call
 pub mod Places
 pub mod After
 pub mod Still
+pub mod There
+pub mod UserWords
+pub mod UserCall
+pub mod Move
+pub mod Give

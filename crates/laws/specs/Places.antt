@@ -51,6 +51,10 @@ only-wider A B v v′ w o p k a = o p k (λ h. a (w p k h))
 pub only-then : (A B : Places) (v v₁ v₂ : Vol) → OnlyAt A v v₁ → OnlyAt B v₁ v₂ → OnlyAt (Either A B) v v₂
 only-then A B v v₁ v₂ o l p k a = l p k (λ h. a (inr h)) ∙ o p k (λ h. a (inl h))
 
+-- a word apart from both
+pub only-either : (A B : Places) (v v′ : Vol) → OnlyAt (Either A B) v v′ → (p k : ℕ) → Apart A p k → Apart B p k → v′ p k ≡ v p k
+only-either A B v v′ o p k a b = o p k (λ h. elim h [ inl x ↦ a x | inr y ↦ b y ])
+
 module _ (v : Vol) (q : ℕ) where
   pub only-put : (j x : ℕ) → OnlyAt (WordsOf q j 1) v (put v q j x)
   only-put j x p k a = elim (ℕ-discrete p q) [
