@@ -29,3 +29,4 @@ pub mod UserWords
 pub mod UserCall
 pub mod Move
 pub mod Give
+pub mod DeleteUser
