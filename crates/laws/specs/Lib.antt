@@ -30,3 +30,4 @@ pub mod UserCall
 pub mod Move
 pub mod Give
 pub mod DeleteUser
+pub mod Quiet
