@@ -18,11 +18,11 @@ use Rattle.book.specs.Trees.{pageAt}
 use Rattle.book.specs.Words.{Vol, vol, zeros}
 use Rattle.book.specs.Written.{putWords-here, put2-page, put2-two}
 use Rattle.laws.specs.After.{after-done}
+use Rattle.laws.specs.Called.{Stepped, Called, called}
 use Rattle.laws.specs.Count.{grant-used}
 use Rattle.laws.specs.Places.{Places, EntryOf, UnreservedWords, Either, OnlyAt, only-then, only-put2, only-putWords}
 use Rattle.laws.specs.Rules.{used-ext}
-use Rattle.laws.specs.UserCall.{UserStep, UserCalled, user-call}
-use Rattle.laws.specs.UserWords.{user-has-page, user-now, user-beside, user-sound}
+use Rattle.laws.specs.UserWords.{Beside, beside-same, user-has-page, user-now, user-beside, user-sound}
 
 -- user u's entry, and the unreserved words
 abbrev pub UserWordsOf : Vol → ℕ → Places
@@ -67,7 +67,7 @@ module _ (P : ℕ) (v : Vol) (S : Sound P v) (pos : 0 < P) (u : ℕ) (hu : u < 2
   unfolding grant
   no-grant = pick-no (used (user v′ u)) (given (user v′) u) 0 unused
 
-  deleted-step : NoFiles v u → UserStep P v u (deleteUser v u)
+  deleted-step : NoFiles v u → Stepped P (λ w. Beside v w u) (deleteUser v u)
   unfolding v′
   deleted-step none = record {
     sound = user-sound P v S pos u hu uu v′ only
@@ -76,13 +76,13 @@ module _ (P : ℕ) (v : Vol) (S : Sound P v) (pos : 0 < P) (u : ℕ) (hu : u < 2
         (λ q i. unused)
         (omega (arith, deleted-back v u, no-grant, grant-used v u uu))
         (λ h. absurd (let r : ⊥ = omega (arith, unused) in r));
-    beside = user-beside P v S pos u hu uu v′ only;
+    leaves = user-beside P v S pos u hu uu v′ only;
   }
 
 module _ (img : List ℕ) (u : ℕ) (r : Numbers ℕ) (img′ : List ℕ) (o : Outcome (deleteUserCall img u) img r img′) where
-  delete : UserCalled img (UserWordsOf (vol img) u) u img′
+  delete : Called img (UserWordsOf (vol img) u) (λ w. Beside (vol img) w u) img′
   unfolding deleteUserCall Clear
-  delete = user-call img _ _ _ _ u (deleted-only (vol img) u)
+  delete = called img _ _ _ _ _ (deleted-only (vol img) u) (beside-same (vol img) u)
       (λ W A S c. deleted-step (pages img) (vol img) S (omega arith) u (omega (arith, A)) (c .0) (c .1 .0)) r img′ o
 
   pub kept-delete-user : Sound (pages img) (vol img) → Sound (pages img′) (vol img′)
@@ -92,18 +92,18 @@ module _ (img : List ℕ) (u : ℕ) (r : Numbers ℕ) (img′ : List ℕ) (o : O
   frame-delete-user = delete .frame
 
   pub users-delete-user : (x : ℕ) → x ≢ u → (k : ℕ) → k < 32 → user (vol img′) x k ≡ user (vol img) x k
-  users-delete-user = delete .beside .users
+  users-delete-user = delete .leaves .users
 
   pub objects-delete-user : (e : ℕ) → object (vol img′) e ≡ object (vol img) e
-  objects-delete-user e = ap (λ (O : Table). O e) (delete .beside .objects)
+  objects-delete-user e = ap (λ (O : Table). O e) (delete .leaves .objects)
 
   pub addresses-delete-user : (e : ℕ) → e < 65536 → (m : ℕ) → pageAt (vol img′) (fileAt (vol img′) e) m ≡ pageAt (vol img) (fileAt (vol img) e) m
-  addresses-delete-user = delete .beside .addresses
+  addresses-delete-user = delete .leaves .addresses
 
   -- going back: his given pages go to unreserved, and a subindexed object file stays so
   pub delete-user-back : r .number ≡ 0 → (unreserved (vol img′) ≡ unreserved (vol img) + given (user (vol img)) u) × (objectFile (vol img′) ≡ objectFile (vol img))
   unfolding deleteUserCall call Above
   delete-user-back z = (
     after-done img _ _ 0 _ _ r img′ o (λ w. unreserved w ≡ unreserved (vol img) + given (user (vol img)) u) (omega arith, (omega arith, tt)) z (λ W A S c. deleted-back (vol img) u),
-    delete .beside .root,
+    delete .leaves .root,
   )

@@ -26,8 +26,9 @@ pub mod After
 pub mod Still
 pub mod There
 pub mod UserWords
-pub mod UserCall
+pub mod Called
 pub mod Move
 pub mod Give
 pub mod DeleteUser
 pub mod Quiet
+pub mod Open

@@ -8,13 +8,13 @@ use Rattle.book.specs.Rules.{UserOk, Rule4, Rule10, Sound}
 use Rattle.book.specs.Steps.{moved}
 use Rattle.book.specs.Words.{Vol, two, put2}
 use Rattle.book.specs.Written.{put2-page, put2-two, put2-hi, put2-lo}
+use Rattle.laws.specs.Called.{Stepped}
 use Rattle.laws.specs.Count.{grant-used}
 use Rattle.laws.specs.Names.{Legal-ext, SameName-ext}
 use Rattle.laws.specs.Places.{EntryOf, FieldOf, UnreservedWords, Either, OnlyAt, only-wider, only-then, only-either, only-put2}
 use Rattle.laws.specs.Rules.{UserNew, used-ext}
 use Rattle.laws.specs.There.{high-unused}
 use Rattle.laws.specs.Tree.{two-ext}
-use Rattle.laws.specs.UserCall.{UserStep}
 use Rattle.laws.specs.UserWords.{Beside, user-has-page, user-now, user-beside, user-sound}
 
 -- words 14 and 15 of his entry and the unreserved words alone
@@ -97,11 +97,11 @@ module _ (P : ℕ) (v : Vol) (S : Sound P v) (pos : 0 < P) (u : ℕ) (hu : u < 2
           (SameName-ext (user v x) (user v u) (user v′ x) (user v′ u) (λ k l. else (1 + k) (omega arith)) (λ k l. kept (1 + k) (omega arith) (omega arith)) q));
     }
 
-    pub moved-step : UserStep P v u (moved v u g s)
+    pub moved-step : Stepped P (λ w. Beside v w u) (moved v u g s)
     unfolding v′ Rule10
     moved-step = record {
       sound = user-sound P v S pos u hu uu v′ only new (λ h i q. omega (arith, used-now)) (λ q i. used-now ∙ high-unused P v (S .r5) q u i hu)
           (omega (arith, left-now, balance, given-now, grant-used v′ u (omega (arith, used-now)), grant-used v u uu))
           (λ h. spent-now ∙ S .r10 .0 u hu uu);
-      beside = beside;
+      leaves = beside;
     }
