@@ -32,3 +32,5 @@ pub mod Give
 pub mod DeleteUser
 pub mod Quiet
 pub mod Open
+pub mod Write
+pub mod Find
