@@ -1,5 +1,4 @@
 -- From a step that changes few words to its call: sound again, no other word changed, and what else holds of it. Assumes nothing.
-use mathlib.Core.Path.{_≡_}
 use mathlib.Core.List.{List}
 use Prim.Native.Nat.{ℕ}
 use Rattle.book.specs.Answers.{Numbers}

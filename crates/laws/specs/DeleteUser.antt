@@ -2,13 +2,13 @@
 use mathlib.Core.Path.{_≡_, ap, _∙_}
 use mathlib.Core.Logic.{_≢_}
 use mathlib.Core.List.{List}
-use Prim.Native.Nat.{ℕ, _+_, _-_, _*_, _/_, _%_, _≤_, _<_}
+use Prim.Native.Nat.{ℕ, _+_, _/_, _≤_, _<_}
 use native.Mathlib.Omega.{arith}
 use Rattle.sums.specs.Search.{pick-no}
 use Rattle.book.specs.Answers.{Numbers}
 use Rattle.book.specs.Calls.{NoFiles, deleteUserCall}
 use Rattle.book.specs.Delete.{deleteUser}
-use Rattle.book.specs.Entries.{Table, user, object, objectFile, used, given, grant, userPage, entryWord, putEntry, fileEntry, unreserved}
+use Rattle.book.specs.Entries.{Table, user, object, objectFile, used, given, grant, userPage, entryWord, putEntry, unreserved}
 use Rattle.book.specs.Files.{fileAt}
 use Rattle.book.specs.Image.{pages}
 use Rattle.book.specs.Outcome.{call, Outcome}
@@ -21,7 +21,6 @@ use Rattle.laws.specs.After.{after-done}
 use Rattle.laws.specs.Called.{Stepped, Called, called}
 use Rattle.laws.specs.Count.{grant-used}
 use Rattle.laws.specs.Places.{Places, EntryOf, UnreservedWords, Either, OnlyAt, only-then, only-put2, only-putWords}
-use Rattle.laws.specs.Rules.{used-ext}
 use Rattle.laws.specs.UserWords.{Beside, beside-same, user-has-page, user-now, user-beside, user-sound}
 
 -- user u's entry, and the unreserved words

@@ -1,7 +1,7 @@
 -- A name finds one user, and a name and type one file of a user. Assumes nothing.
-use mathlib.Core.Path.{_≡_, sym, _∙_}
+use mathlib.Core.Path.{sym, _∙_}
 use mathlib.Core.List.{List}
-use Prim.Native.Nat.{ℕ, _+_, _<_}
+use Prim.Native.Nat.{ℕ}
 use native.Mathlib.Omega.{arith}
 use Rattle.book.specs.Calls.{findUserCall, findFileCall}
 use Rattle.book.specs.Names.{Same}

@@ -2,14 +2,14 @@
 use mathlib.Core.Path.{_≡_, ap}
 use mathlib.Core.Logic.{_≢_}
 use mathlib.Core.List.{List}
-use Prim.Native.Nat.{ℕ, _+_, _-_, _≤_, _<_}
+use Prim.Native.Nat.{ℕ, _≤_, _<_}
 use native.Mathlib.Omega.{arith}
 use Rattle.book.specs.Answers.{Numbers}
 use Rattle.book.specs.Calls.{giveCall, takeCall}
-use Rattle.book.specs.Entries.{Table, user, object, userPage, given, unreserved, spare}
+use Rattle.book.specs.Entries.{Table, user, object, userPage, unreserved, spare}
 use Rattle.book.specs.Files.{fileAt}
 use Rattle.book.specs.Image.{pages}
-use Rattle.book.specs.Outcome.{call, Outcome}
+use Rattle.book.specs.Outcome.{Outcome}
 use Rattle.book.specs.Rows.{Clear}
 use Rattle.book.specs.Rules.{Rule4, Sound}
 use Rattle.book.specs.Trees.{pageAt}

@@ -1,9 +1,9 @@
 -- A user's given pages and the unreserved count change, their sum does not: give and take. Assumes nothing.
 use mathlib.Core.Path.{_≡_, refl, sym, ap, _∙_}
-use mathlib.Core.Logic.{_≢_, _⊎_, inl, inr}
-use Prim.Native.Nat.{ℕ, zero, suc, _+_, _-_, _*_, _/_, _%_, _≤_, _<_}
+use mathlib.Core.Logic.{_≢_, inl, inr}
+use Prim.Native.Nat.{ℕ, suc, _+_, _/_, _%_, _≤_, _<_}
 use native.Mathlib.Omega.{arith}
-use Rattle.book.specs.Entries.{user, used, given, usedPages, grant, userPage, entryWord, unreserved}
+use Rattle.book.specs.Entries.{user, used, given, usedPages, userPage, entryWord, unreserved}
 use Rattle.book.specs.Rules.{UserOk, Rule4, Rule10, Sound}
 use Rattle.book.specs.Steps.{moved}
 use Rattle.book.specs.Words.{Vol, two, put2}

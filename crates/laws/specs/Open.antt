@@ -2,21 +2,21 @@
 use mathlib.Core.Path.{_≡_, refl, sym, ap, _∙_, subst}
 use mathlib.Core.Logic.{_≢_, _⊎_, inl, inr}
 use mathlib.Core.List.{List}
-use Prim.Native.Nat.{ℕ, _+_, _-_, _*_, _/_, _%_, _≤_, _<_}
+use Prim.Native.Nat.{ℕ, _+_, _*_, _/_, _%_, _≤_, _<_}
 use native.Mathlib.Decide.{ℕ-discrete}
 use native.Mathlib.Omega.{arith}
-use Rattle.sums.specs.Sum.{sum, is}
+use Rattle.sums.specs.Sum.{is}
 use Rattle.book.specs.Answers.{Numbers}
 use Rattle.book.specs.Calls.{openCall}
 use Rattle.book.specs.Entries.{Table, entry, userFile, objectFile, user, object, used, objectPage, entryWord, fileEntry}
 use Rattle.book.specs.Files.{fileAt}
-use Rattle.book.specs.Holders.{hit, all, mine}
+use Rattle.book.specs.Holders.{hit}
 use Rattle.book.specs.Image.{pages}
-use Rattle.book.specs.Outcome.{call, Outcome}
+use Rattle.book.specs.Outcome.{Outcome}
 use Rattle.book.specs.Rows.{Clear}
 use Rattle.book.specs.Rules.{Sound}
 use Rattle.book.specs.Steps.{openStep}
-use Rattle.book.specs.Trees.{Root, weighR, blocksR, pageAt}
+use Rattle.book.specs.Trees.{Root, weighR, pageAt}
 use Rattle.book.specs.Words.{Vol, vol, word}
 use Rattle.book.specs.Written.{word-ext}
 use Rattle.laws.specs.Called.{Stepped, Called, called}
@@ -27,8 +27,8 @@ use Rattle.laws.specs.Frame.{Roots, objs-root, pageAt-frame, blocksR-le}
 use Rattle.laws.specs.Part.{rest, all-rest}
 use Rattle.laws.specs.Places.{Places, FieldOf, OnlyAt, only-put}
 use Rattle.laws.specs.Quiet.{Quiet, Stays, quiet-address, quiet-sound}
-use Rattle.laws.specs.Still.{users-still, blocks-nobody}
-use Rattle.laws.specs.Tree.{Agree, hit-same, hit-zero, hit-other}
+use Rattle.laws.specs.Still.{agree-at, users-still, blocks-nobody}
+use Rattle.laws.specs.Tree.{Agree, hit-zero, hit-other}
 
 -- word 19 of object entry e
 abbrev pub OpensWord : Vol → ℕ → Places
@@ -60,8 +60,8 @@ module _ (P : ℕ) (v : Vol) (S : Sound P v) (pos : 0 < P) (e : ℕ) (ue : 0 < u
   else p k h = only p k (λ a. let r : ⊥ = h (a .0) (omega (arith, a .1, a .2)) in r)
 
   agree : Agree (hit O) v v′
-  unfolding Agree
-  agree q h k = word-ext v v′ q k (λ p. else q k (λ i. absurd (let r : ⊥ = omega (arith, h, subst (λ (x : ℕ). hit O x ≡ 1) (sym i) (hit-same O isO)) in r)))
+  unfolding objectPage
+  agree = agree-at v v′ (OpensWord v e) O isO (λ p k i a. a .0) only
 
   master : (k : ℕ) → v′ 0 k ≡ v 0 k
   master k = else 0 k (λ i. absurd (let o = isO in let r : ⊥ = omega arith in r))

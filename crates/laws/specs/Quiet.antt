@@ -1,9 +1,9 @@
 -- A quiet change: pages that are no tree's block and hold no bit; the users stay, and of the objects all but word 19. Assumes nothing.
-use mathlib.Core.Path.{_≡_, refl, sym, ap, ap₂, _∙_, subst}
+use mathlib.Core.Path.{_≡_, refl, sym, ap, _∙_, subst}
 use mathlib.Core.Logic.{_≢_}
-use Prim.Native.Nat.{ℕ, _+_, _*_, _/_, _%_, _≤_, _<_}
+use Prim.Native.Nat.{ℕ, _+_, _/_, _%_, _≤_, _<_}
 use native.Mathlib.Omega.{arith}
-use Rattle.sums.specs.Sum.{sum, is, sum-ext}
+use Rattle.sums.specs.Sum.{sum, sum-ext}
 use Rattle.book.specs.Bits.{bitFile, bitPage, bit, digit}
 use Rattle.book.specs.Entries.{Table, userFile, objectFile, user, object, used, usedPages, grant, fileEntry, unreserved}
 use Rattle.book.specs.Files.{fileAt}
@@ -12,7 +12,7 @@ use Rattle.book.specs.Names.{SameFile}
 use Rattle.book.specs.Rules.{FileOk, Rule4, Rule6, Rule7, Rule10, Sound}
 use Rattle.book.specs.Trees.{Root, weighR, blocksR, pageAt}
 use Rattle.book.specs.Words.{Vol, word}
-use Rattle.laws.specs.Count.{Good, good, sound}
+use Rattle.laws.specs.Count.{good, sound}
 use Rattle.laws.specs.Frame.{Roots, users-root, objs-root, bits-root, pageAt-le, pageAt-frame, weighR-frame, blocksR-le, file-kept}
 use Rattle.laws.specs.Names.{Legal-ext, SameFile-ext}
 use Rattle.laws.specs.Rules.{Master, rule1, rule2, rule3, rule5, used-ext, shape-kept}

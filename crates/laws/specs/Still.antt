@@ -1,17 +1,25 @@
 -- A change of pages that are no block of any tree: entries elsewhere and every file's pages stay. Assumes nothing.
-use mathlib.Core.Path.{_≡_, ap, _∙_, subst, fun-ext}
+use mathlib.Core.Path.{_≡_, sym, ap, _∙_, subst, fun-ext}
 use mathlib.Core.Logic.{_≢_}
-use Prim.Native.Nat.{ℕ, _+_, _*_, _/_, _%_, _≤_, _<_}
+use Prim.Native.Nat.{ℕ, _/_, _%_, _≤_, _<_}
 use native.Mathlib.Omega.{arith}
 use Rattle.sums.specs.Sum.{sum}
 use Rattle.book.specs.Entries.{entry, userFile, objectFile, user, object, fileEntry}
 use Rattle.book.specs.Files.{fileAt}
-use Rattle.book.specs.Holders.{mine}
+use Rattle.book.specs.Holders.{hit, mine}
 use Rattle.book.specs.Trees.{Root, weighR, blocksR, pageAt}
 use Rattle.book.specs.Words.{Words, Vol}
+use Rattle.book.specs.Written.{word-ext}
 use Rattle.laws.specs.Frame.{Roots, Kept, users-root, objs-root, entry-frame, file-kept, pageAt-frame, blocksR-le}
 use Rattle.laws.specs.Part.{file-le}
-use Rattle.laws.specs.Tree.{Agree, two-ext}
+use Rattle.laws.specs.Places.{Places, OnlyAt}
+use Rattle.laws.specs.Tree.{Agree, hit-same, two-ext}
+
+-- the words of A are on page q, or on page 0, which no pointer names
+pub agree-at : (v v′ : Vol) (A : Places) (q : ℕ) → 0 < q → ((p k : ℕ) → 0 < p → A p k → p ≡ q) → OnlyAt A v v′ → Agree (hit q) v v′
+unfolding Agree
+agree-at v v′ A q h on only p z k = word-ext v v′ p k (λ i. only p k (λ a.
+    let r : ⊥ = omega (arith, z, subst (λ (x : ℕ). hit q x ≡ 1) (sym (on p k i a)) (hit-same q h)) in r))
 
 module _ (v v′ : Vol) (R : Roots v v′) (C : ℕ → ℕ) (c0 : C 0 ≡ 0) (A : Agree C v v′) where
   -- entries of a file that holds none of those pages

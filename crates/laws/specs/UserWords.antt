@@ -1,5 +1,5 @@
 -- Only words of one used user's entry and the unreserved count change: give, take, delete a user. Assumes nothing.
-use mathlib.Core.Path.{_≡_, refl, sym, ap, _∙_, subst}
+use mathlib.Core.Path.{_≡_, refl, ap, _∙_}
 use mathlib.Core.Logic.{_≢_, _⊎_, inl, inr}
 use Prim.Native.Nat.{ℕ, _+_, _*_, _/_, _%_, _≤_, _<_}
 use native.Mathlib.Omega.{arith}
@@ -17,8 +17,8 @@ use Rattle.laws.specs.Finish.{used-page}
 use Rattle.laws.specs.Frame.{Roots, objs-root}
 use Rattle.laws.specs.Places.{EntryOf, UnreservedWords, Either, OnlyAt, only-either}
 use Rattle.laws.specs.Rules.{UserNew}
-use Rattle.laws.specs.Still.{objects-still, address-still, kept-words, blocks-nobody}
-use Rattle.laws.specs.Tree.{Agree, hit-same, hit-zero}
+use Rattle.laws.specs.Still.{agree-at, objects-still, address-still, kept-words, blocks-nobody}
+use Rattle.laws.specs.Tree.{Agree, hit-zero}
 use Rattle.laws.specs.UserOnly.{user-there, users-else, user-good}
 
 -- what stands beside user u's entry is as it was: other users, all objects, the pages of their files
@@ -42,10 +42,8 @@ module _ (P : ℕ) (v : Vol) (S : Sound P v) (pos : 0 < P) (u : ℕ) (hu : u < 2
   user-has-page = used-page v (userFile v) u uu
 
   agree : Agree (hit (pageAt v (userFile v) (u / 32))) v v′
-  unfolding Agree userPage
-  agree q h k = word-ext v v′ q k (λ p. only-either (EntryOf U u) UnreservedWords v v′ only q k
-      (λ a. let r : ⊥ = omega (arith, h, subst (λ (x : ℕ). hit U x ≡ 1) (sym (a .0)) (hit-same U user-has-page)) in r)
-      (λ b. let r : ⊥ = omega (arith, b .0) in r))
+  unfolding userPage
+  agree = agree-at v v′ (Either (EntryOf U u) UnreservedWords) U user-has-page (λ p k i c. elim c [ inl a ↦ a .0 | inr b ↦ absurd (let r : ⊥ = omega (arith, b .0) in r) ]) only
 
   master : (k : ℕ) → k < 1022 → v′ 0 k ≡ v 0 k
   master k h = only-either (EntryOf U u) UnreservedWords v v′ only 0 k (λ a. let i = user-has-page in let r : ⊥ = omega (arith, a .0) in r) (λ b. let r : ⊥ = omega (arith, b .1) in r)

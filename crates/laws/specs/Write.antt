@@ -1,11 +1,10 @@
 -- Write a file's page: the image stays sound, and that page's words alone differ. Assumes nothing.
-use mathlib.Core.Path.{_≡_, refl, sym, ap, _∙_, subst}
-use mathlib.Core.Logic.{_≢_}
+use mathlib.Core.Path.{_≡_, refl, sym, ap, subst}
 use mathlib.Core.List.{List}
-use Prim.Native.Nat.{ℕ, _+_, _-_, _*_, _/_, _%_, _≤_, _<_}
+use Prim.Native.Nat.{ℕ, _+_, _/_, _%_, _≤_, _<_}
 use native.Mathlib.Decide.{ℕ-discrete}
 use native.Mathlib.Omega.{arith}
-use Rattle.sums.specs.Sum.{sum, is}
+use Rattle.sums.specs.Sum.{sum}
 use Rattle.book.specs.Answers.{Numbers}
 use Rattle.book.specs.Bits.{bitFile}
 use Rattle.book.specs.Calls.{positionRows, writeCall}
@@ -13,21 +12,21 @@ use Rattle.book.specs.Entries.{Table, userFile, objectFile, user, object, used,
 use Rattle.book.specs.Files.{fileAt}
 use Rattle.book.specs.Holders.{hit, all, mine}
 use Rattle.book.specs.Image.{pages}
-use Rattle.book.specs.Outcome.{call, Outcome}
+use Rattle.book.specs.Outcome.{Outcome}
 use Rattle.book.specs.Rows.{Clear}
 use Rattle.book.specs.Rules.{Sound}
 use Rattle.book.specs.Steps.{writeStep}
 use Rattle.book.specs.Trees.{weighR, blocksR, pageAt}
 use Rattle.book.specs.Words.{Vol, vol}
-use Rattle.book.specs.Written.{word-ext, putWords-page}
+use Rattle.book.specs.Written.{putWords-page}
 use Rattle.laws.specs.Called.{Stepped, Called, called}
-use Rattle.laws.specs.Count.{Good, good, most, bit-le, sound-within}
+use Rattle.laws.specs.Count.{good, most, bit-le, sound-within}
 use Rattle.laws.specs.Edit.{file-le₂}
 use Rattle.laws.specs.Frame.{Roots, pageAt-le, pageAt-below, blocksR-le}
 use Rattle.laws.specs.Part.{rest, all-rest, file-le}
 use Rattle.laws.specs.Places.{Places, PageOf, OnlyAt}
 use Rattle.laws.specs.Quiet.{Quiet, Stays, quiet-address, quiet-sound}
-use Rattle.laws.specs.Still.{users-still, objects-still}
+use Rattle.laws.specs.Still.{agree-at, users-still, objects-still}
 use Rattle.laws.specs.There.{position-page}
 use Rattle.laws.specs.Tree.{Agree, hit-same, hit-zero}
 
@@ -101,8 +100,7 @@ module _ (P : ℕ) (v : Vol) (S : Sound P v) (pos : 0 < P) (a f : ℕ) (ha : a <
 
   module _ (v′ : Vol) (only : OnlyAt (DataPage v e n) v v′) where
     agree : Agree (hit q) v v′
-    unfolding Agree
-    agree p h k = word-ext v v′ p k (λ i. only p k (λ j. let r : ⊥ = omega (arith, h, subst (λ (x : ℕ). hit q x ≡ 1) (sym j) (hit-same q isq)) in r))
+    agree = agree-at v v′ (DataPage v e n) q isq (λ p k i a. a) only
 
     master : (k : ℕ) → v′ 0 k ≡ v 0 k
     master k = only 0 k (λ j. let i = isq in let r : ⊥ = omega arith in r)
