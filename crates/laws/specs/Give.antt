@@ -23,6 +23,8 @@ use Rattle.laws.specs.UserWords.{Beside, beside-same}
 abbrev pub GivenWords : Vol → ℕ → Places
 GivenWords v u = Either (FieldOf (userPage v u) u 14 2) UnreservedWords
 
+-- ---- give: unreserved pages become the user's
+
 module _ (img : List ℕ) (u n : ℕ) (r : Numbers ℕ) (img′ : List ℕ) (o : Outcome (giveCall img u n) img r img′) where
   give : Called img (GivenWords (vol img) u) (λ w. Beside (vol img) w u) img′
   unfolding giveCall Clear Rule4
@@ -45,6 +47,8 @@ module _ (img : List ℕ) (u n : ℕ) (r : Numbers ℕ) (img′ : List ℕ) (o :
 
   pub addresses-give : (e : ℕ) → e < 65536 → (m : ℕ) → pageAt (vol img′) (fileAt (vol img′) e) m ≡ pageAt (vol img) (fileAt (vol img) e) m
   addresses-give = give .leaves .addresses
+
+-- ---- take: they go back
 
 module _ (img : List ℕ) (u n : ℕ) (r : Numbers ℕ) (img′ : List ℕ) (o : Outcome (takeCall img u n) img r img′) where
   take : Called img (GivenWords (vol img) u) (λ w. Beside (vol img) w u) img′
