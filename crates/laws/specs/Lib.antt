@@ -28,3 +28,16 @@ pub mod Broken
 pub mod BrokenLate
 pub mod Reach
 pub mod Positions
+pub mod Places
+pub mod After
+pub mod Still
+pub mod There
+pub mod UserWords
+pub mod Called
+pub mod Move
+pub mod Give
+pub mod DeleteUser
+pub mod Quiet
+pub mod Open
+pub mod Write
+pub mod Find
