@@ -8,7 +8,6 @@ use lib.Pow.{pow-pos, pow-lt, shl-exact, shr-shr, mod-pow-add}
 use lib.Bits.{bitAnd, bitOr, and-step, or-step, or-zero-r, and-mask}
 use lib.Count.{ones, ones-cat, trailingZeros, under}
 use Rattle.book.specs.Bits.{digit, toDigit}
-use Rattle.book.specs.Written.{digit-le}
 
 -- what `1 << j` is
 pub power-is : (j : ℕ) → j < 16 → 1 * 2 ^ j % 65536 ≡ 2 ^ j

@@ -2,13 +2,13 @@
 use mathlib.Core.Path.{_≡_, refl, sym, ap, ap₂, _∙_, subst}
 use mathlib.Core.Logic.{inl, inr}
 use Prim.Native.Nat.{ℕ, zero, suc, _+_, _-_, _*_, _/_, _%_, _^_, _≤_, _<_}
-use native.Mathlib.Nat.{one-mul, add-zero, add-suc, mod-eq-of-lt, eq-zero-or-pos}
+use native.Mathlib.Nat.{add-zero, add-suc, mod-eq-of-lt, eq-zero-or-pos}
 use native.Mathlib.Numerals.{add-one}
-use native.Mathlib.Decide.{ℕ-discrete, decLt}
+use native.Mathlib.Decide.{decLt}
 use native.Mathlib.Omega.{arith}
 use lib.Count.{ones}
 use Rattle.sums.specs.Sum.{sum, sum-suc, sum-le, sum-const}
-use Rattle.sums.specs.Search.{every, every-yes, every-at}
+use Rattle.sums.specs.Search.{every-yes, every-at}
 use Rattle.book.specs.Words.{Vol, word, put, wipe}
 use Rattle.book.specs.Pointers.{page, bitPointer}
 use Rattle.book.specs.Trees.{pageAt, upto}

@@ -10,7 +10,6 @@ use word::ones_in;
 use word::ones_low;
 use word::with_one;
 use word::with_zero;
-
 ghost use mathlib.Core.Path.{_≡_};
 ghost use Prim.Native.Nat.{ℕ, _+_, _*_, _≤_, _<_};
 ghost use lib.ListN.{length};

@@ -1,3 +1,4 @@
+-- `bits::claim_run` meets its contract. Assumes nothing.
 use mathlib.Core.Path.{_≡_, refl, sym, ap, _∙_, subst}
 use Prim.Native.Nat.{ℕ, _+_, _-_, _≤_}
 use native.Mathlib.Omega.{arith}
@@ -8,9 +9,6 @@ use Rattle.bits.specs.File.{BitsAt}
 use Rattle.bits.proofs.Places.{run-none, run-more, bits-run}
 use Rattle.bits.proofs.claim_run.Statement.{statement}
 use Rattle.bits.proofs.claim_run.Tie as tie
-use Rattle.bits.proofs.claim_run.Reads as reads
-use Rattle.bits.proofs.claim_run.Lts as lts
-use Rattle.bits.proofs.claim.Reads as claim-reads
 
 abbrev Inv-loop : tie.InvT-loop
 Inv-loop img₀ b s n i₀ img i =
@@ -19,43 +17,38 @@ Inv-loop img₀ b s n i₀ img i =
 abbrev μ-loop : tie.MeasureT-loop
 μ-loop img₀ b s n i₀ img i = n - i
 
--- src/lib.rt:62:5
 loop-holds : tie.Need-loop-holds Inv-loop μ-loop
 loop-holds c = (omega arith, refl, λ P f h. run-none P _ _)
 
--- src/lib.rt:63:23
 add-claim : tie.Need-add-claim Inv-loop μ-loop
 add-claim c = omega arith
 
--- src/lib.rt:63:9
 claim-requires : tie.Need-claim-requires Inv-loop μ-loop
 claim-requires c κs = omega arith
 
--- src/lib.rt:64:9
 add-i : tie.Need-add-i Inv-loop μ-loop
 add-i c = omega arith
 
--- src/lib.rt:62:5
 loop-less : tie.Need-loop-less Inv-loop μ-loop
 loop-less c = omega arith
 
--- src/lib.rt:62:5
 loop-again : tie.Need-loop-again Inv-loop μ-loop
 loop-again c =
     let a = c .before .before .before .before .before .before .before .args in
     let l = c .before .before .before .before .before .loop in
     let v = vol (a .img .now) in
-    let d = c .before .before .claim in
-    (omega arith, d .kept .0 ∙ l .inv .1, λ P f h.
-    let e = l .inv .2 P f h in
-    let g : BitsAt P (vol (l .img)) (a .b) = subst (λ (w : Vol). BitsAt P w (a .b)) (sym e) (bits-run P v (a .b) (a .s) (l .i) (omega arith) (omega arith) f) in
-    d .ensures P g (omega arith) ∙ ap (λ (w : Vol). claim P w (a .s + l .i)) e ∙ sym (run-more P v (a .s) (l .i)))
+    let d = c .before .before .claim in (
+      omega arith,
+      d .kept .0 ∙ l .inv .1,
+      λ P f h.
+          let e = l .inv .2 P f h in
+          let g : BitsAt P (vol (l .img)) (a .b) = subst (λ (w : Vol). BitsAt P w (a .b)) (sym e) (bits-run P v (a .b) (a .s) (l .i) (omega arith) (omega arith) f) in
+          d .ensures P g (omega arith) ∙ ap (λ (w : Vol). claim P w (a .s + l .i)) e ∙ sym (run-more P v (a .s) (l .i)),
+    )
 
--- src/lib.rt:57:1
 same-length : tie.Need-same-length Inv-loop μ-loop
 same-length c = c .before .loop .inv .1
 
--- src/lib.rt:57:1
 returns : tie.Need-returns Inv-loop μ-loop
 returns c = λ P f h.
     let a = c .before .before .before .args in

@@ -1,3 +1,4 @@
+-- `bits::highest_run` meets its contract. Assumes nothing.
 use mathlib.Core.Path.{_≡_, sym, ap, _∙_}
 use Prim.Native.Nat.{ℕ, suc, _+_, _-_, _≤_, _<_}
 use native.Mathlib.Nat.{add-zero}
@@ -9,9 +10,6 @@ use Rattle.book.specs.Bits.{bit, freeRun, highestRun}
 use Rattle.bits.proofs.Places.{run-free, run-broken}
 use Rattle.bits.proofs.highest_run.Statement.{statement}
 use Rattle.bits.proofs.highest_run.Tie as tie
-use Rattle.bits.proofs.highest_run.Reads as reads
-use Rattle.bits.proofs.highest_run.Lts as lts
-use Rattle.bits.proofs.test.Reads as test-reads
 
 -- from p on: `run` free pages, then the end or a reserved one; and no start of n
 record Seen (P : ℕ) (v : Vol) (n p run : ℕ) : Type 0 where
@@ -65,7 +63,6 @@ Inv-loop img b pages n p₀ run₀ p run = Seen pages (vol img) n p run
 abbrev μ-loop : tie.MeasureT-loop
 μ-loop img b pages n p₀ run₀ p run = p
 
--- src/lib.rt:114:5
 loop-holds : tie.Need-loop-holds Inv-loop μ-loop
 loop-holds c = record {
   within = omega arith;
@@ -75,19 +72,15 @@ loop-holds c = record {
   none = λ s h l. absurd (let r : ⊥ = omega arith in r);
 }
 
--- src/lib.rt:115:9
 sub-p : tie.Need-sub-p Inv-loop μ-loop
 sub-p c = omega arith
 
--- src/lib.rt:116:12
 test-requires : tie.Need-test-requires Inv-loop μ-loop
 test-requires c κs = omega arith
 
--- src/lib.rt:114:5
 loop-less : tie.Need-loop-less Inv-loop μ-loop
 loop-less c = omega arith
 
--- src/lib.rt:114:5
 loop-again : tie.Need-loop-again Inv-loop μ-loop
 loop-again c =
     let s = c .before .before .before .before .before in
@@ -95,11 +88,9 @@ loop-again c =
     let e = c .before .test .ensures .0 (s .args .pages) (s .pre .1) (omega arith) in
     reserved (s .args .pages) (vol (s .args .img .now)) (s .args .n) (l .p) (l .run) (l .inv) (omega arith) (omega arith) (omega arith)
 
--- src/lib.rt:119:13
 add-run : tie.Need-add-run Inv-loop μ-loop
 add-run c = omega arith
 
--- src/lib.rt:121:17
 returns : tie.Need-returns Inv-loop μ-loop
 returns c =
     let s = c .before .before .before .before .before .before in
@@ -108,11 +99,9 @@ returns c =
     let e = t .ensures .0 (s .args .pages) (s .pre .1) (omega arith) in
     sym (found (s .args .pages) (vol (s .args .img .now)) (s .args .n) (l .p) (l .run) (l .inv) (omega arith) (omega arith) (omega (arith, t .ensures .1)))
 
--- src/lib.rt:114:5
 loop-less-2 : tie.Need-loop-less-2 Inv-loop μ-loop
 loop-less-2 c = omega arith
 
--- src/lib.rt:114:5
 loop-again-2 : tie.Need-loop-again-2 Inv-loop μ-loop
 loop-again-2 c =
     let s = c .before .before .before .before .before .before in
@@ -121,7 +110,6 @@ loop-again-2 c =
     let e = t .ensures .0 (s .args .pages) (s .pre .1) (omega arith) in
     free (s .args .pages) (vol (s .args .img .now)) (s .args .n) (l .p) (l .run) (l .inv) (omega arith) (omega arith) (omega (arith, t .ensures .1))
 
--- src/lib.rt:108:1
 returns-2 : tie.Need-returns-2 Inv-loop μ-loop
 unfolding highestRun
 returns-2 c =

@@ -1,4 +1,5 @@
-use mathlib.Core.Path.{_≡_, sym, ap, _∙_, subst}
+-- `bits::lowest_free` meets its contract. Assumes nothing.
+use mathlib.Core.Path.{_≡_, sym, subst}
 use Prim.Native.Nat.{ℕ, _+_, _-_, _*_, _<_}
 use native.Mathlib.Omega.{arith}
 use borrow.Author.Needs.{needs}
@@ -9,10 +10,6 @@ use Rattle.bits.specs.Word.{FirstClear}
 use Rattle.bits.proofs.Places.{bit-in, full-more}
 use Rattle.bits.proofs.lowest_free.Statement.{statement}
 use Rattle.bits.proofs.lowest_free.Tie as tie
-use Rattle.bits.proofs.lowest_free.Reads as reads
-use Rattle.bits.proofs.lowest_free.Lts as lts
-use Rattle.bits.proofs.word.first_clear.Reads as first-clear-reads
-use Rattle.page.proofs.read.word_at.Reads as word-at-reads
 
 abbrev Inv-loop : tie.InvT-loop
 Inv-loop img b pages i₀ i = (i * 16 < pages + 16) × ((k : ℕ) → k < i * 16 → k < pages → bit pages (vol img) k ≡ 1)
@@ -20,31 +17,24 @@ Inv-loop img b pages i₀ i = (i * 16 < pages + 16) × ((k : ℕ) → k < i * 16
 abbrev μ-loop : tie.MeasureT-loop
 μ-loop img b pages i₀ i = pages - i * 16
 
--- src/lib.rt:93:5
 loop-holds : tie.Need-loop-holds Inv-loop μ-loop
 loop-holds c = (omega arith, λ k h. absurd (let r : ⊥ = omega arith in r))
 
--- src/lib.rt:93:11
 mul-loop : tie.Need-mul-loop Inv-loop μ-loop
 mul-loop c = omega arith
 
--- src/lib.rt:94:29
 word-at-requires : tie.Need-word-at-requires Inv-loop μ-loop
 word-at-requires c κs = omega arith
 
--- src/lib.rt:94:13
 first-clear-requires : tie.Need-first-clear-requires Inv-loop μ-loop
 first-clear-requires c κs = search needs
 
--- src/lib.rt:96:21
 mul-p : tie.Need-mul-p Inv-loop μ-loop
 mul-p c = omega arith
 
--- src/lib.rt:96:21
 add-p : tie.Need-add-p Inv-loop μ-loop
 add-p c = omega arith
 
--- src/lib.rt:98:17
 returns : tie.Need-returns Inv-loop μ-loop
 unfolding lowestFree
 returns c =
@@ -58,7 +48,6 @@ returns c =
     (omega (arith, bit-in (a .pages) v (a .b) (s .pre .1) (l .i) t (omega arith) (omega arith), f .there (omega arith)))
     (λ k h. omega (arith, full-more (a .pages) v (a .b) (s .pre .1) (l .i) t (f .most) (f .below) (l .inv .1) k h (omega arith))))
 
--- src/lib.rt:100:13
 returns-2 : tie.Need-returns-2 Inv-loop μ-loop
 unfolding lowestFree
 returns-2 c =
@@ -71,15 +60,12 @@ returns-2 c =
     sym (lowest-none (λ p. 1 - bit (a .pages) v p) (a .pages)
     (λ k h. omega (arith, full-more (a .pages) v (a .b) (s .pre .1) (l .i) t (f .most) (f .below) (l .inv .1) k (omega arith) h)))
 
--- src/lib.rt:102:9
 add-i : tie.Need-add-i Inv-loop μ-loop
 add-i c = omega arith
 
--- src/lib.rt:93:5
 loop-less : tie.Need-loop-less Inv-loop μ-loop
 loop-less c = omega arith
 
--- src/lib.rt:93:5
 loop-again : tie.Need-loop-again Inv-loop μ-loop
 loop-again c =
     let s = c .before .before .before .before .before .before in
@@ -90,7 +76,6 @@ loop-again c =
     let f : FirstClear (v (a .b) (l .i)) t = subst (λ (w : ℕ). FirstClear w t) (c .before .before .word-at .ensures) (c .before .first-clear .ensures) in
     (omega arith, λ k h. full-more (a .pages) v (a .b) (s .pre .1) (l .i) t (f .most) (f .below) (l .inv .1) k (omega arith))
 
--- src/lib.rt:88:1
 returns-3 : tie.Need-returns-3 Inv-loop μ-loop
 unfolding lowestFree
 returns-3 c =

@@ -1,5 +1,6 @@
-use Prim.Native.Nat.{_%_, _^_, ℕ, _+_, _-_, _*_, _/_, _≤_, _<_}
+-- `bits::reserved` meets its contract. Assumes nothing.
 use mathlib.Core.Path.{_≡_, refl, ap, _∙_}
+use Prim.Native.Nat.{_%_, _^_, ℕ, _-_, _*_, _/_, _≤_, _<_}
 use native.Mathlib.Omega.{arith}
 use lib.Count.{ones}
 use borrow.Author.Needs.{needs}
@@ -9,11 +10,6 @@ use Rattle.book.specs.Bits.{bit, reserved}
 use Rattle.bits.proofs.Places.{sum-full, sum-last, sum-bits-le}
 use Rattle.bits.proofs.reserved.Statement.{statement}
 use Rattle.bits.proofs.reserved.Tie as tie
-use Rattle.bits.proofs.reserved.Reads as reads
-use Rattle.bits.proofs.reserved.Lts as lts
-use Rattle.bits.proofs.word.ones_in.Reads as ones-in-reads
-use Rattle.bits.proofs.word.ones_low.Reads as ones-low-reads
-use Rattle.page.proofs.read.word_at.Reads as word-at-reads
 
 abbrev Inv-loop : tie.InvT-loop
 Inv-loop img b pages full rest n₀ i₀ n i = (i ≤ full) × (n ≡ sum (i * 16) (bit pages (vol img)))
@@ -21,34 +17,27 @@ Inv-loop img b pages full rest n₀ i₀ n i = (i ≤ full) × (n ≡ sum (i * 1
 abbrev μ-loop : tie.MeasureT-loop
 μ-loop img b pages full rest n₀ i₀ n i = full - i
 
--- src/lib.rt:77:5
 loop-holds : tie.Need-loop-holds Inv-loop μ-loop
 unfolding sum
 loop-holds c = (omega arith, refl)
 
--- src/lib.rt:78:22
 word-at-requires : tie.Need-word-at-requires Inv-loop μ-loop
 word-at-requires c κs = omega arith
 
--- src/lib.rt:78:14
 ones-in-requires : tie.Need-ones-in-requires Inv-loop μ-loop
 ones-in-requires c κs = search needs
 
--- src/lib.rt:78:9
 add-n : tie.Need-add-n Inv-loop μ-loop
 add-n c =
     let a = c .before .before .before .before .before .args in
     omega (arith, sum-bits-le (a .pages) (vol (a .img .now)) (c .before .before .before .loop .i * 16))
 
--- src/lib.rt:79:9
 add-i : tie.Need-add-i Inv-loop μ-loop
 add-i c = omega arith
 
--- src/lib.rt:77:5
 loop-less : tie.Need-loop-less Inv-loop μ-loop
 loop-less c = omega arith
 
--- src/lib.rt:77:5
 loop-again : tie.Need-loop-again Inv-loop μ-loop
 loop-again c =
     let s = c .before .before .before .before .before in
@@ -58,7 +47,6 @@ loop-again c =
     let lt : v (a .b) i < 65536 = omega (arith, c .before .word-at .ensures) in
     (omega arith, omega (arith, sum-full (a .pages) v (a .b) (s .pre .1) i lt (omega arith), ap ones (c .before .word-at .ensures)))
 
--- src/lib.rt:82:9
 returns : tie.Need-returns Inv-loop μ-loop
 unfolding reserved
 returns c =
@@ -67,21 +55,17 @@ returns c =
     let e : l .i * 16 ≡ a .pages = omega arith in
     l .inv .1 ∙ ap (λ (k : ℕ). sum k (bit (a .pages) (vol (a .img .now)))) e
 
--- src/lib.rt:84:18
 word-at-requires-2 : tie.Need-word-at-requires-2 Inv-loop μ-loop
 word-at-requires-2 c κs = omega arith
 
--- src/lib.rt:84:9
 ones-low-requires : tie.Need-ones-low-requires Inv-loop μ-loop
 ones-low-requires c κs = omega arith
 
--- src/lib.rt:84:5
 add-result : tie.Need-add-result Inv-loop μ-loop
 add-result c =
     let a = c .before .before .before .before .before .before .args in
     omega (arith, sum-bits-le (a .pages) (vol (a .img .now)) (c .before .before .before .before .loop .i * 16))
 
--- src/lib.rt:69:1
 returns-2 : tie.Need-returns-2 Inv-loop μ-loop
 unfolding reserved
 returns-2 c =

@@ -1,3 +1,4 @@
+-- `bits::word::first_clear` meets its contract. Assumes nothing.
 use Prim.Native.Nat.{_-_, _<_}
 use native.Mathlib.Omega.{arith}
 use lib.Count.{trailingZeros, trailing-le}
@@ -5,14 +6,10 @@ use Rattle.book.specs.Written.{digit-le}
 use Rattle.bits.proofs.Digits.{digit-not, trailing-below, trailing-at}
 use Rattle.bits.proofs.word.first_clear.Statement.{statement}
 use Rattle.bits.proofs.word.first_clear.Tie as tie
-use Rattle.bits.proofs.word.first_clear.Reads as reads
-use Rattle.bits.proofs.word.first_clear.Lts as lts
 
--- src/word.rt:59:5
 cast-result : tie.Need-cast-result
 cast-result c = omega (arith, trailing-le 16 (65535 - c .args .w))
 
--- src/word.rt:56:1
 returns : tie.Need-returns
 returns c =
     let w = c .args .w in

@@ -1,3 +1,4 @@
+-- `bits::word::ones_low` meets its contract. Assumes nothing.
 use mathlib.Core.Path.{ap, _∙_}
 use Prim.Native.Nat.{ℕ, _-_}
 use native.Mathlib.Omega.{arith}
@@ -7,24 +8,16 @@ use lib.Count.{ones}
 use borrow.Author.Needs.{needs}
 use Rattle.bits.proofs.word.ones_low.Statement.{statement}
 use Rattle.bits.proofs.word.ones_low.Tie as tie
-use Rattle.bits.proofs.word.ones_low.Reads as reads
-use Rattle.bits.proofs.word.ones_low.Lts as lts
-use Rattle.bits.proofs.word.ones_in.Reads as ones-in-reads
-use Rattle.bits.proofs.word.power.Reads as power-reads
 
--- src/word.rt:52:18
 power-requires : tie.Need-power-requires
 power-requires c κs = search needs
 
--- src/word.rt:52:18
 sub-ones-in : tie.Need-sub-ones-in
 sub-ones-in c = omega (arith, c .power .ensures, pow-pos (c .before .args .n))
 
--- src/word.rt:52:5
 ones-in-requires : tie.Need-ones-in-requires
 ones-in-requires c κs = search needs
 
--- src/word.rt:48:1
 returns : tie.Need-returns
 returns c =
     let a = c .before .before .args in

@@ -1,19 +1,15 @@
+-- `bits::word::with_one` meets its contract. Assumes nothing.
 use mathlib.Core.Path.{ap, _∙_}
 use Prim.Native.Nat.{ℕ}
 use lib.Bits.{bitOr}
-use Rattle.bits.proofs.Digits.{one-or}
 use borrow.Author.Needs.{needs}
+use Rattle.bits.proofs.Digits.{one-or}
 use Rattle.bits.proofs.word.with_one.Statement.{statement}
 use Rattle.bits.proofs.word.with_one.Tie as tie
-use Rattle.bits.proofs.word.with_one.Reads as reads
-use Rattle.bits.proofs.word.with_one.Lts as lts
-use Rattle.bits.proofs.word.power.Reads as power-reads
 
--- src/word.rt:29:9
 power-requires : tie.Need-power-requires
 power-requires c κs = search needs
 
--- src/word.rt:25:1
 returns : tie.Need-returns
 returns c = let a = c .before .args in ap (λ (x : ℕ). bitOr (a .w) x) (c .power .ensures) ∙ one-or (a .j) (a .w)
 
