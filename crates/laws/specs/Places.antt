@@ -16,6 +16,10 @@ Places = ℕ → ℕ → Type 0
 abbrev pub PageOf : ℕ → Places
 PageOf q p k = p ≡ q
 
+-- the n pages from s on
+abbrev pub RunOf : ℕ → ℕ → Places
+RunOf s n p k = (s ≤ p) × (p < s + n)
+
 -- the n words from j on of page q
 abbrev pub WordsOf : ℕ → ℕ → ℕ → Places
 WordsOf q j n p k = (p ≡ q) × (j ≤ k) × (k < j + n)
