@@ -25,3 +25,5 @@ pub mod Packed
 pub mod NewVolume
 pub mod Sparse
 pub mod Broken
+pub mod Several
+pub mod Node
