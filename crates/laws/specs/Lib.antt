@@ -27,3 +27,4 @@ pub mod Sparse
 pub mod Broken
 pub mod Several
 pub mod Node
+pub mod Roles

@@ -70,14 +70,24 @@ Differ a b = a .depth ≡ b .depth → a .place ≡ b .place → ⊥
 pub node-pos : (v : Vol) (p l t : ℕ) → 0 < p → Node v p l t → 0 < weigh v l t (hit p)
 node-pos v p l t pos a = omega (arith, node-le v (hit p) l (a .depth) t (a .place) (a .deep) (a .room), ap (hit p) (a .here), hit-same p pos)
 
-pub node-two : (v : Vol) (p l t : ℕ) → 0 < p → (a b : Node v p l t) → Differ a b → 2 ≤ weigh v l t (hit p)
-node-two v p l t pos a b d = omega (
-  arith,
-  node-le₂ v (hit p) l (a .depth) (b .depth) t (a .place) (b .place) (a .deep) (b .deep) (a .room) (b .room) d,
-  ap (hit p) (a .here),
-  ap (hit p) (b .here),
-  hit-same p pos,
-)
+-- a page that is counted at most once has one node
+pub node-one : (v : Vol) (p l t : ℕ) → 0 < p → weigh v l t (hit p) ≤ 1 → (a b : Node v p l t) → (a .depth ≡ b .depth) × (a .place ≡ b .place)
+node-one v p l t pos le a b = elim (ℕ-discrete (a .depth) (b .depth)) [
+  | yes e ↦ elim (ℕ-discrete (a .place) (b .place)) [
+    | yes i ↦ (e, i)
+    | no ne ↦ absurd (two (λ q i. ne i))
+  ]
+  | no ne ↦ absurd (two (λ q i. ne q))
+]
+  where
+    two : Differ a b → ⊥
+    two d = omega (
+      arith,
+      node-le₂ v (hit p) l (a .depth) (b .depth) t (a .place) (b .place) (a .deep) (b .deep) (a .room) (b .room) d,
+      ap (hit p) (a .here),
+      ap (hit p) (b .here),
+      hit-same p pos,
+    )
 
 module _ (v : Vol) (p : ℕ) where
   top : (l t : ℕ) → 0 < hit p t → Node v p l t
