@@ -28,3 +28,4 @@ pub mod Broken
 pub mod Several
 pub mod Node
 pub mod Roles
+pub mod Owners
