@@ -29,3 +29,4 @@ pub mod Several
 pub mod Node
 pub mod Roles
 pub mod Owners
+pub mod Holder

@@ -45,7 +45,7 @@ at-node l Subindex j n j′ n′ a b = (omega arith, omega arith)
 at-node l (Index m) j n j′ n′ a b = (omega arith, omega arith)
 at-node l (Data m) j n j′ n′ a b = (omega arith, omega arith)
 
-upto-pos : (n m x p : ℕ) → 0 < p → upto n m x ≡ p → (n < m) × (x ≡ p)
+pub upto-pos : (n m x p : ℕ) → 0 < p → upto n m x ≡ p → (n < m) × (x ≡ p)
 upto-pos n m x p pos e = elim (decLt n m) [
   | yes h ↦ (h, sym (upto-in n m x h) ∙ e)
   | no h ↦ absurd (let r : ⊥ = omega (arith, e, upto-out n m x (omega arith)) in r)
