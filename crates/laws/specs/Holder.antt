@@ -2,22 +2,21 @@
 use mathlib.Core.Path.{_≡_, refl, sym, ap, ap₂, _∙_, subst}
 use mathlib.Core.Logic.{_≢_, _⊎_, inl, inr}
 use Prim.Native.Nat.{ℕ, zero, suc, _+_, _*_, _/_, _%_, _≤_, _<_}
-use native.Mathlib.Decide.{ℕ-discrete, decLt}
+use native.Mathlib.Decide.{ℕ-discrete}
 use native.Mathlib.Omega.{arith}
 use lib.Arith.{lt-one}
 use Rattle.sums.specs.Sum.{sum, is, is-same, is-other, sum-none, sum-at, sum-at₂, sum-find}
 use Rattle.book.specs.declared.Role.{Role}
 use Rattle.book.specs.declared.Role.the-variants.{Subindex, Index, Data}
-use Rattle.book.specs.declared.FileHolder.{FileHolder}
 use Rattle.book.specs.declared.Holder.{Holder}
 use Rattle.book.specs.declared.Holder.the-variants.{Free, Master, BitFile, UserIndex, UserPage, ObjectSubindex, ObjectIndex, ObjectPage, File}
 use Rattle.book.specs.Bits.{bitFile}
-use Rattle.book.specs.Entries.{userFile, objectFile, fileEntry}
+use Rattle.book.specs.Entries.{userFile, fileEntry}
 use Rattle.book.specs.Files.{fileAt}
-use Rattle.book.specs.Holders.{hit, all, holders, rolePage, heldPage, Exists, Holds, Told}
+use Rattle.book.specs.Holders.{hit, holders, rolePage, Exists, Holds}
 use Rattle.book.specs.Pointers.{page, Inside, userPointer}
 use Rattle.book.specs.Rules.{Rule2}
-use Rattle.book.specs.Trees.{Root, tree, run, weighR, upto, pageAt, indexAt, subindexOf}
+use Rattle.book.specs.Trees.{Root, tree, run, weighR, indexAt, subindexOf}
 use Rattle.book.specs.Words.{Vol}
 use Rattle.laws.specs.Count.{root-0, root-1, zero-flags}
 use Rattle.laws.specs.Edit.{weighR-nobody}
@@ -195,14 +194,18 @@ module _ (P : ℕ) (v : Vol) where
             sym (joined-same h (a .0)) ∙ ap₂ joined e x ∙ joined-same k (b .0)
       ]
 
+  -- an owner that has a page has it in some role
+  pub owner-holds : Rule2 P v → (p i : ℕ) → i < owners → 0 < W p i → (x : Role) × Joined P v p i x
+  owner-holds two p i h q = let x = role-find v (suc p) (rootOf P v i) (owner-shallow P v i) q in (x .0, join P v p two i (x .0) h (x .1))
+
   -- one that is counted has one
   pub holder-find : Rule2 P v → (p : ℕ) → 0 < holders P v p → (h : Holder) × Holds P v p h
   unfolding Holds
   holder-find two zero h = (Master, refl)
   holder-find two (suc p) h =
       let i = sum-find owners (W p) (omega (arith, held-sum P v p)) in
-      let x = role-find v (suc p) (rootOf P v (i .0)) (owner-shallow P v (i .0)) (i .2) in
-      (joined (i .0) (x .0), join P v p two (i .0) (x .0) (i .1) (x .1) .holds)
+      let a = owner-holds two p (i .0) (i .1) (i .2) in
+      (joined (i .0) (a .0), a .1 .holds)
 
   -- and one that is counted twice has two
   pub holder-two : Rule2 P v → (p : ℕ) → 2 ≤ holders P v p → (h : Holder) × (k : Holder) × (h ≢ k) × Holds P v p h × Holds P v p k
@@ -211,10 +214,8 @@ module _ (P : ℕ) (v : Vol) where
     where
       go : Twice owners (W p) → (h : Holder) × (k : Holder) × (h ≢ k) × Holds P v (suc p) h × Holds P v (suc p) k
       go (apart i j hi hj ne pi pj) =
-          let x = role-find v (suc p) (rootOf P v i) (owner-shallow P v i) pi in
-          let y = role-find v (suc p) (rootOf P v j) (owner-shallow P v j) pj in
-          let a = join P v p two i (x .0) hi (x .1) in let b = join P v p two j (y .0) hj (y .1) in
-          (joined i (x .0), joined j (y .0), (λ e. ne (sym (a .owner) ∙ ap ownerOf e ∙ b .owner)), a .holds, b .holds)
+          let a = owner-holds two p i hi pi in let b = owner-holds two p j hj pj in
+          (joined i (a .0), joined j (b .0), (λ e. ne (sym (a .1 .owner) ∙ ap ownerOf e ∙ b .1 .owner)), a .1 .holds, b .1 .holds)
       go (within i hi pi) =
           let xy = role-find₂ v (suc p) (rootOf P v i) (owner-shallow P v i) pi in
           let x = xy .0 in let y = xy .1 in

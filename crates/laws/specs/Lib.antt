@@ -30,3 +30,5 @@ pub mod Node
 pub mod Roles
 pub mod Owners
 pub mod Holder
+pub mod Visits
+pub mod Who

@@ -6,7 +6,7 @@ use native.Mathlib.Nat.{le-refl, not-suc-le-zero, mod-lt, div-add-mod', le-of-su
 use native.Mathlib.Decide.{ℕ-discrete, decLt}
 use native.Mathlib.Omega.{arith}
 use lib.Arith.{lt-one, digits-div, digits-mod, digits-lt}
-use Rattle.sums.specs.Sum.{sum, sum-at, sum-at₂, sum-find}
+use Rattle.sums.specs.Sum.{sum-at, sum-at₂, sum-find}
 use Rattle.book.specs.Holders.{hit}
 use Rattle.book.specs.Pointers.{slot}
 use Rattle.book.specs.Trees.{weigh, leaf}
@@ -54,6 +54,21 @@ module _ (v : Vol) (g : ℕ → ℕ) where
             (node-le₂ l j j′ (slot v t a) (n % 512 ^ j) (n′ % 512 ^ j′) (le-of-suc-le-suc h) (le-of-suc-le-suc h′) ma mb d) in
             omega (arith, r, sum-at 512 W a (slot-lt j n i))
       ]
+
+-- one level deeper: pointer k of the block at place n
+pub down-lt : (j n k : ℕ) → n < 512 ^ j → k < 512 → 512 * n + k < 512 ^ suc j
+down-lt j n k h i = subst (λ (x : ℕ). 512 * n + k < x) (sym (pow-suc 512 j)) (omega arith)
+
+pub leaf-down : (v : Vol) (j t n k : ℕ) → n < 512 ^ j → k < 512 → leaf v (suc j) t (512 * n + k) ≡ slot v (leaf v j t n) k
+unfolding leaf
+leaf-down v zero t n k h i = let z = lt-one h in ap (slot v t) (omega arith)
+leaf-down v (suc j) t n k h i =
+    let q : ℕ = n / 512 ^ j in let r : ℕ = n % 512 ^ j in
+    let lt : r < 512 ^ j = mod-lt n (pow-pos j) in
+    let e : 512 * n + k ≡ q * 512 ^ suc j + (512 * r + k) = omega (arith, div-add-mod' n (512 ^ j), ap (λ (x : ℕ). q * x) (pow-suc 512 j)) in
+    let room : 512 * r + k < 512 ^ suc j = down-lt j r k lt i in
+    ap₂ (λ (x y : ℕ). leaf v (suc j) (slot v t x) y) (ap (λ (x : ℕ). x / 512 ^ suc j) e ∙ digits-div q room) (ap (λ (x : ℕ). x % 512 ^ suc j) e ∙ digits-mod q room)
+    ∙ leaf-down v j (slot v t q) r k lt i
 
 -- ---- where page p is in the tree of level l at t
 

@@ -1,7 +1,6 @@
 -- The owners in a row: the bit file, the user file, the object file, then every object entry. Assumes nothing.
-use mathlib.Core.Path.{_≡_, refl, sym, ap, _∙_, subst}
-use mathlib.Core.Logic.{_⊎_, inl, inr}
-use Prim.Native.Nat.{ℕ, zero, suc, _+_, _*_, _/_, _%_, _≤_, _<_}
+use mathlib.Core.Path.{_≡_, ap}
+use Prim.Native.Nat.{ℕ, zero, suc, _+_}
 use native.Mathlib.Omega.{arith}
 use Rattle.sums.specs.Search.{pick}
 use Rattle.sums.specs.Sum.{sum, sum-zero, sum-suc, sum-ext}

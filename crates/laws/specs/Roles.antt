@@ -1,20 +1,19 @@
 -- The pages of a root by role: to count a page is to find its role. Assumes nothing.
 use mathlib.Core.Path.{_≡_, refl, sym, ap, _∙_, subst, subst₂}
-use mathlib.Core.Logic.{_≢_, _⊎_, inl, inr}
-use Prim.Native.Nat.{ℕ, zero, suc, _+_, _-_, _*_, _^_, _≤_, _<_, zero-le}
-use native.Mathlib.Nat.{le-refl, not-suc-le-zero}
-use native.Mathlib.Decide.{ℕ-discrete, decLt}
+use mathlib.Core.Logic.{_≢_, inl, inr}
+use Prim.Native.Nat.{ℕ, zero, suc, _+_, _-_, _^_, _≤_, _<_, zero-le}
+use native.Mathlib.Nat.{le-refl, eq-zero-or-pos}
+use native.Mathlib.Decide.{decLt}
 use native.Mathlib.Omega.{arith}
 use lib.Arith.{lt-one}
-use Rattle.sums.specs.Search.{pick}
-use Rattle.sums.specs.Sum.{sum, sum-at, sum-find}
+use Rattle.sums.specs.Sum.{sum-at, sum-find}
 use Rattle.book.specs.declared.Role.{Role}
 use Rattle.book.specs.declared.Role.the-variants.{Subindex, Index, Data}
 use Rattle.book.specs.Holders.{hit, rolePage}
-use Rattle.book.specs.Trees.{Root, tree, run, weigh, weighR, leaf, upto, pageAt, indexAt, subindexOf, rootBy}
+use Rattle.book.specs.Trees.{Root, tree, run, weighR, leaf, upto, pageAt, indexAt, subindexOf, rootBy}
 use Rattle.book.specs.Words.{Vol}
 use Rattle.laws.specs.Frame.{upto-in, upto-out}
-use Rattle.laws.specs.Node.{Node, Differ, node-pos, node-one, node-find, node-find₂}
+use Rattle.laws.specs.Node.{Node, node-pos, node-one, node-find, node-find₂}
 use Rattle.laws.specs.Several.{Twice, apart, within, sum-find₂}
 use Rattle.laws.specs.Tree.{hit-same, hit-le, hit-eq}
 
@@ -67,7 +66,7 @@ module _ (v : Vol) (p : ℕ) where
   leaf-page l m t a i e q =
       subst₂ (λ (i m : ℕ). upto m (512 ^ i) (leaf v i t m) ≡ p) e q (upto-in (a .place) (512 ^ a .depth) (leaf v (a .depth) t (a .place)) (a .room) ∙ a .here)
 
-  -- and back: no node of a tree of level 1 or 2 is without a role
+  -- and back
   node-page : (l t : ℕ) (x : Role) (a : Node v p l t) → At l x (a .depth) (a .place) → rolePage v (tree l t) x ≡ p
   unfolding subindexOf indexAt pageAt leaf At
   node-page zero t Subindex a h = absurd (let r : ⊥ = omega arith in r)
@@ -77,15 +76,24 @@ module _ (v : Vol) (p : ℕ) where
   node-page (suc l) t (Index m) a h = leaf-page (suc l) m t a l (omega arith) (h .1)
   node-page l t (Data m) a h = leaf-page l m t a l (h .0) (h .1)
 
-node-role : (l j n : ℕ) → 0 < l → l ≤ 2 → j ≤ l → n < 512 ^ j → (x : Role) × At l x j n
+-- the role of a page at place n with h levels below it, in a tree of level 1 or 2
+abbrev pub roleBy : ℕ → ℕ → Role
+roleBy zero n = Data n
+roleBy (suc zero) n = Index n
+roleBy (suc (suc h)) n = Subindex
+
+at-by : (l h j n : ℕ) → 0 < l → l ≤ 2 → h + j ≡ l → n < 512 ^ j → At l (roleBy h n) j n
 unfolding At
-node-role l j n pos le h i = elim (ℕ-discrete j l) [
-  | yes e ↦ (Data n, (e, refl))
-  | no d ↦ elim (ℕ-discrete (suc j) l) [
-    | yes e ↦ (Index n, (e, refl))
-    | no k ↦ let z : j ≡ 0 = omega arith in (Subindex, (omega arith, z, lt-one (subst (λ (x : ℕ). n < 512 ^ x) z i)))
-  ]
-]
+at-by l zero j n pos le e i = (omega arith, refl)
+at-by l (suc zero) j n pos le e i = (omega arith, refl)
+at-by l (suc (suc h)) j n pos le e i = let z : j ≡ 0 = omega arith in (omega arith, z, lt-one (subst (λ (x : ℕ). n < 512 ^ x) z i))
+
+pub role-by : (v : Vol) (p l t h j n : ℕ) → 0 < l → l ≤ 2 → h + j ≡ l → n < 512 ^ j → leaf v j t n ≡ p → rolePage v (tree l t) (roleBy h n) ≡ p
+role-by v p l t h j n pos le e i q =
+    node-page v p l t (roleBy h n) (record { depth = j; place = n; deep = omega arith; room = i; here = q }) (at-by l h j n pos le e i)
+
+node-role : {v : Vol} {p l t : ℕ} → 0 < l → l ≤ 2 → (a : Node v p l t) → (x : Role) × At l x (a .depth) (a .place)
+node-role {l = l} pos le a = (roleBy (l - a .depth) (a .place), at-by l (l - a .depth) (a .depth) (a .place) pos le (omega arith) (a .room))
 
 -- ---- roots
 
@@ -129,17 +137,23 @@ module _ (v : Vol) (p : ℕ) where
   pub role-find : (r : Root) → Shallow r → 0 < weighR v r (hit p) → (x : Role) × (rolePage v r x ≡ p)
   unfolding weighR pageAt Shallow
   role-find (tree l t) sh h =
-      let a = node-find v p l t h in let x = node-role l (a .depth) (a .place) (sh .0) (sh .1) (a .deep) (a .room) in
+      let a = node-find v p l t h in let x = node-role (sh .0) (sh .1) a in
       (x .0, node-page v p l t (x .0) a (x .1))
   role-find (run s m) sh h = let i = sum-find m (λ i. hit p (s + i)) h in
       (Data (i .0), upto-in (i .0) m (s + i .0) (i .1) ∙ hit-eq p (s + i .0) (i .2))
+
+  pub role-none : (r : Root) → Shallow r → ((x : Role) → rolePage v r x ≢ p) → weighR v r (hit p) ≡ 0
+  role-none r sh none = elim (eq-zero-or-pos (weighR v r (hit p))) [
+    | inl z ↦ z
+    | inr q ↦ let x = role-find r sh q in absurd (none (x .0) (x .1))
+  ]
 
   pub role-find₂ : (r : Root) → Shallow r → 2 ≤ weighR v r (hit p) → (x : Role) × (y : Role) × (x ≢ y) × (rolePage v r x ≡ p) × (rolePage v r y ≡ p)
   unfolding weighR Shallow
   role-find₂ (tree l t) sh h =
       let ab = node-find₂ v p l t h in let a = ab .0 in let b = ab .1 in
-      let x = node-role l (a .depth) (a .place) (sh .0) (sh .1) (a .deep) (a .room) in
-      let y = node-role l (b .depth) (b .place) (sh .0) (sh .1) (b .deep) (b .room) in
+      let x = node-role (sh .0) (sh .1) a in
+      let y = node-role (sh .0) (sh .1) b in
       let d : x .0 ≢ y .0 = λ e. let q = at-node l (x .0) _ _ _ _ (x .1) (subst (λ (z : Role). At l z (b .depth) (b .place)) (sym e) (y .1)) in ab .2 (q .0) (q .1) in
       (x .0, y .0, d, node-page v p l t (x .0) a (x .1), node-page v p l t (y .0) b (y .1))
   role-find₂ (run s m) sh h = absurd (go (sum-find₂ m (λ i. hit p (s + i)) h))

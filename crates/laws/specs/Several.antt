@@ -1,12 +1,12 @@
 -- Sums that are two or more, and sums cut up: what counting holders needs. Assumes nothing.
-use mathlib.Core.Path.{_≡_, refl, sym, ap, _∙_, subst}
-use mathlib.Core.Logic.{_≢_, _⊎_, inl, inr}
+use mathlib.Core.Path.{_≡_}
+use mathlib.Core.Logic.{_≢_}
 use Prim.Native.Nat.{ℕ, zero, suc, _+_, _*_, _≤_, _<_}
 use native.Mathlib.Nat.{le-refl, not-suc-le-zero}
 use native.Mathlib.Numerals.{unary-clauses}
 use native.Mathlib.Decide.{decLt}
 use native.Mathlib.Omega.{arith}
-use Rattle.sums.specs.Sum.{sum, sum-find, sum-ext}
+use Rattle.sums.specs.Sum.{sum, sum-find}
 
 -- a sum of two or more: two summands that are not 0, or one of two or more
 pub data Twice (n : ℕ) (f : ℕ → ℕ) : Type 0 where
