@@ -94,7 +94,7 @@ joined-same (File h) e =
 held-role : (P : ℕ) (v : Vol) (p : ℕ) (h : Holder) → Holds P v (suc p) h → (ownerOf h < owners) × (rolePage v (rootOf P v (ownerOf h)) (roleOf h) ≡ suc p)
 unfolding Holds rootOf
 held-role P v p Free a = absurd (a .0)
-held-role P v p Master a = absurd (let r : ⊥ = omega (arith, a .1) in r)
+held-role P v p Master a = absurd (omega (arith, a .1))
 held-role P v p (BitFile n) a = (omega arith, a .1)
 held-role P v p UserIndex a = (omega arith, a .1)
 held-role P v p (UserPage n) a = (omega arith, a .1)
@@ -121,7 +121,7 @@ user-subindex P v p two e = elim (user-root P v two) [
 user-index : (P : ℕ) (v : Vol) (p n : ℕ) → Rule2 P v → indexAt v (userFile v) n ≡ suc p → n ≡ 0
 unfolding indexAt
 user-index P v p n two e = elim (user-root P v two) [
-  | inl q ↦ absurd (let r : ⊥ = omega (arith, e, ap (λ (r : Root). indexAt v r n) q) in r)
+  | inl q ↦ absurd (omega (arith, e, ap (λ (r : Root). indexAt v r n) q))
   | inr q ↦ lt-one (upto-pos n 1 _ (suc p) (omega arith) (sym (ap (λ (r : Root). indexAt v r n) q) ∙ e) .0)
 ]
 
@@ -133,8 +133,8 @@ pub record Joined (P : ℕ) (v : Vol) (p i : ℕ) (x : Role) : Type 0 where
 
 join : (P : ℕ) (v : Vol) (p : ℕ) → Rule2 P v → (i : ℕ) (x : Role) → i < owners → rolePage v (rootOf P v i) x ≡ suc p → Joined P v p i x
 unfolding Holds rootOf bitFile subindexOf indexAt
-join P v p two zero Subindex h e = absurd (let r : ⊥ = omega arith in r)
-join P v p two zero (Index n) h e = absurd (let r : ⊥ = omega arith in r)
+join P v p two zero Subindex h e = absurd (omega arith)
+join P v p two zero (Index n) h e = absurd (omega arith)
 join P v p two zero (Data n) h e = record { holds = (tt, e); owner = refl; role = refl }
 join P v p two (suc zero) Subindex h e = absurd (user-subindex P v p two e)
 join P v p two (suc zero) (Index n) h e = let z : n ≡ 0 = user-index P v p n two e in
@@ -187,7 +187,7 @@ module _ (P : ℕ) (v : Vol) where
       let ri = role-pos v (suc p) pos (rootOf P v i) (roleOf h) (r .1) in
       let sj = role-pos v (suc p) pos (rootOf P v j) (roleOf k) (s .1) in
       elim (ℕ-discrete i j) [
-        | no ne ↦ absurd (let q : ⊥ = omega (arith, held-sum P v p, sum-at₂ owners (W p) i j (r .0) (s .0) ne, ri, sj) in q)
+        | no ne ↦ absurd (omega (arith, held-sum P v p, sum-at₂ owners (W p) i j (r .0) (s .0) ne, ri, sj))
         | yes e ↦
             let le₁ : W p i ≤ 1 = omega (arith, held-sum P v p, sum-at owners (W p) i (r .0)) in
             let x : roleOf h ≡ roleOf k = role-one v (suc p) pos (rootOf P v i) le₁ (roleOf h) (roleOf k) (r .1) (ap (λ (m : ℕ). rolePage v (rootOf P v m) (roleOf k)) e ∙ s .1) in
@@ -209,7 +209,7 @@ module _ (P : ℕ) (v : Vol) where
 
   -- and one that is counted twice has two
   pub holder-two : Rule2 P v → (p : ℕ) → 2 ≤ holders P v p → (h : Holder) × (k : Holder) × (h ≢ k) × Holds P v p h × Holds P v p k
-  holder-two two zero h = absurd (let r : ⊥ = omega (arith, holders-zero P v) in r)
+  holder-two two zero h = absurd (omega (arith, holders-zero P v))
   holder-two two (suc p) h = go (sum-find₂ owners (W p) (omega (arith, held-sum P v p)))
     where
       go : Twice owners (W p) → (h : Holder) × (k : Holder) × (h ≢ k) × Holds P v (suc p) h × Holds P v (suc p) k

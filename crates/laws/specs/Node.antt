@@ -22,7 +22,8 @@ module _ (v : Vol) (g : ℕ → ℕ) where
   node-le zero (suc j) t n h i = absurd (not-suc-le-zero h)
   node-le (suc l) zero t n h i = omega arith
   node-le (suc l) (suc j) t n h i =
-      omega (arith, node-le l j (slot v t (n / 512 ^ j)) (n % 512 ^ j) (le-of-suc-le-suc h) (mod-lt n (pow-pos j)), sum-at 512 (λ k. weigh v l (slot v t k) g) (n / 512 ^ j) (slot-lt j n i))
+      let a : ℕ = n / 512 ^ j in
+      omega (arith, node-le l j (slot v t a) (n % 512 ^ j) (le-of-suc-le-suc h) (mod-lt n (pow-pos j)), sum-at 512 (λ k. weigh v l (slot v t k) g) a (slot-lt j n i))
 
   -- and those of two pages are
   pub node-le₂ : (l j j′ t n n′ : ℕ) → j ≤ l → j′ ≤ l → n < 512 ^ j → n′ < 512 ^ j′ → ((j ≡ j′) → (n ≡ n′) → ⊥) → g (leaf v j t n) + g (leaf v j′ t n′) ≤ weigh v l t g
@@ -32,9 +33,11 @@ module _ (v : Vol) (g : ℕ → ℕ) where
   node-le₂ zero (suc j) zero t n n′ h h′ i i′ ne = absurd (not-suc-le-zero h)
   node-le₂ zero (suc j) (suc j′) t n n′ h h′ i i′ ne = absurd (not-suc-le-zero h)
   node-le₂ (suc l) zero (suc j) t n n′ h h′ i i′ ne =
-      omega (arith, node-le l j (slot v t (n′ / 512 ^ j)) (n′ % 512 ^ j) (le-of-suc-le-suc h′) (mod-lt n′ (pow-pos j)), sum-at 512 (λ k. weigh v l (slot v t k) g) (n′ / 512 ^ j) (slot-lt j n′ i′))
+      let b : ℕ = n′ / 512 ^ j in
+      omega (arith, node-le l j (slot v t b) (n′ % 512 ^ j) (le-of-suc-le-suc h′) (mod-lt n′ (pow-pos j)), sum-at 512 (λ k. weigh v l (slot v t k) g) b (slot-lt j n′ i′))
   node-le₂ (suc l) (suc j) zero t n n′ h h′ i i′ ne =
-      omega (arith, node-le l j (slot v t (n / 512 ^ j)) (n % 512 ^ j) (le-of-suc-le-suc h) (mod-lt n (pow-pos j)), sum-at 512 (λ k. weigh v l (slot v t k) g) (n / 512 ^ j) (slot-lt j n i))
+      let a : ℕ = n / 512 ^ j in
+      omega (arith, node-le l j (slot v t a) (n % 512 ^ j) (le-of-suc-le-suc h) (mod-lt n (pow-pos j)), sum-at 512 (λ k. weigh v l (slot v t k) g) a (slot-lt j n i))
   node-le₂ (suc l) (suc j) (suc j′) t n n′ h h′ i i′ ne =
       let W : ℕ → ℕ = λ k. weigh v l (slot v t k) g in
       let a : ℕ = n / 512 ^ j in let b : ℕ = n′ / 512 ^ j′ in
@@ -148,7 +151,7 @@ module _ (v : Vol) (p : ℕ) where
 
   pub node-find₂ : (l t : ℕ) → 2 ≤ weigh v l t (hit p) → (a : Node v p l t) × (b : Node v p l t) × Differ a b
   unfolding weigh
-  node-find₂ zero t h = absurd (let r : ⊥ = omega (arith, h, hit-le p t) in r)
+  node-find₂ zero t h = absurd (omega (arith, h, hit-le p t))
   node-find₂ (suc l) t h = elim (decLt 0 (hit p t)) [
     | yes q ↦
         let s = sum-find 512 (λ k. weigh v l (slot v t k) (hit p)) (omega (arith, hit-le p t)) in

@@ -44,13 +44,17 @@ owners-sum P v g =
     )
 
 -- each owner's root is a run or a tree of level 1 or 2
-pub owner-shallow : (P : ℕ) (v : Vol) (i : ℕ) → Shallow (rootOf P v i)
-unfolding rootOf rootAt bitFile userFile objectFile fileAt Shallow pick
-owner-shallow P v zero = tt
-owner-shallow P v (suc zero) = shallow-by _ _ _
-owner-shallow P v (suc (suc zero)) = shallow-by _ _ _
-owner-shallow P v (suc (suc (suc e))) = go (used (object v e))
+pub file-shallow : (v : Vol) (e : ℕ) → Shallow (fileAt v e)
+unfolding rootAt fileAt Shallow pick
+file-shallow v e = go (used (object v e))
   where
     go : (x : ℕ) → Shallow (pick x (rootAt (object v e) filePointer (pageCount (object v e))) (run 0 0))
     go zero = tt
     go (suc x) = shallow-by _ _ _
+
+pub owner-shallow : (P : ℕ) (v : Vol) (i : ℕ) → Shallow (rootOf P v i)
+unfolding rootOf rootAt bitFile userFile objectFile Shallow
+owner-shallow P v zero = tt
+owner-shallow P v (suc zero) = shallow-by _ _ _
+owner-shallow P v (suc (suc zero)) = shallow-by _ _ _
+owner-shallow P v (suc (suc (suc e))) = file-shallow v e

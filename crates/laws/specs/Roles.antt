@@ -29,13 +29,13 @@ At l (Data m) j n = (j ≡ l) × (n ≡ m)
 at-role : (l j n : ℕ) (x y : Role) → At l x j n → At l y j n → x ≡ y
 unfolding At
 at-role l j n Subindex Subindex a b = refl
-at-role l j n Subindex (Index m) a b = absurd (let r : ⊥ = omega arith in r)
-at-role l j n Subindex (Data m) a b = absurd (let r : ⊥ = omega arith in r)
-at-role l j n (Index k) Subindex a b = absurd (let r : ⊥ = omega arith in r)
+at-role l j n Subindex (Index m) a b = absurd (omega arith)
+at-role l j n Subindex (Data m) a b = absurd (omega arith)
+at-role l j n (Index k) Subindex a b = absurd (omega arith)
 at-role l j n (Index k) (Index m) a b = ap Index (sym (a .1) ∙ b .1)
-at-role l j n (Index k) (Data m) a b = absurd (let r : ⊥ = omega arith in r)
-at-role l j n (Data k) Subindex a b = absurd (let r : ⊥ = omega arith in r)
-at-role l j n (Data k) (Index m) a b = absurd (let r : ⊥ = omega arith in r)
+at-role l j n (Index k) (Data m) a b = absurd (omega arith)
+at-role l j n (Data k) Subindex a b = absurd (omega arith)
+at-role l j n (Data k) (Index m) a b = absurd (omega arith)
 at-role l j n (Data k) (Data m) a b = ap Data (sym (a .1) ∙ b .1)
 
 at-node : (l : ℕ) (x : Role) (j n j′ n′ : ℕ) → At l x j n → At l x j′ n′ → (j ≡ j′) × (n ≡ n′)
@@ -44,19 +44,20 @@ at-node l Subindex j n j′ n′ a b = (omega arith, omega arith)
 at-node l (Index m) j n j′ n′ a b = (omega arith, omega arith)
 at-node l (Data m) j n j′ n′ a b = (omega arith, omega arith)
 
+-- a position with a page is one of the file
 pub upto-pos : (n m x p : ℕ) → 0 < p → upto n m x ≡ p → (n < m) × (x ≡ p)
 upto-pos n m x p pos e = elim (decLt n m) [
   | yes h ↦ (h, sym (upto-in n m x h) ∙ e)
-  | no h ↦ absurd (let r : ⊥ = omega (arith, e, upto-out n m x (omega arith)) in r)
+  | no h ↦ absurd (omega (arith, e, upto-out n m x (omega arith)))
 ]
 
 module _ (v : Vol) (p : ℕ) where
   role-node : 0 < p → (l t : ℕ) (x : Role) → rolePage v (tree l t) x ≡ p → (a : Node v p l t) × At l x (a .depth) (a .place)
   unfolding subindexOf indexAt pageAt leaf At
-  role-node pos zero t Subindex e = absurd (let r : ⊥ = omega arith in r)
-  role-node pos (suc zero) t Subindex e = absurd (let r : ⊥ = omega arith in r)
+  role-node pos zero t Subindex e = absurd (omega arith)
+  role-node pos (suc zero) t Subindex e = absurd (omega arith)
   role-node pos (suc (suc l)) t Subindex e = (record { depth = 0; place = 0; deep = zero-le; room = le-refl 1; here = e }, (omega arith, refl, refl))
-  role-node pos zero t (Index n) e = absurd (let r : ⊥ = omega arith in r)
+  role-node pos zero t (Index n) e = absurd (omega arith)
   role-node pos (suc l) t (Index n) e = let u = upto-pos n (512 ^ l) (leaf v l t n) p pos e in
       (record { depth = l; place = n; deep = omega arith; room = u .0; here = u .1 }, (refl, refl))
   role-node pos l t (Data n) e = let u = upto-pos n (512 ^ l) (leaf v l t n) p pos e in
@@ -69,10 +70,10 @@ module _ (v : Vol) (p : ℕ) where
   -- and back
   node-page : (l t : ℕ) (x : Role) (a : Node v p l t) → At l x (a .depth) (a .place) → rolePage v (tree l t) x ≡ p
   unfolding subindexOf indexAt pageAt leaf At
-  node-page zero t Subindex a h = absurd (let r : ⊥ = omega arith in r)
-  node-page (suc zero) t Subindex a h = absurd (let r : ⊥ = omega arith in r)
+  node-page zero t Subindex a h = absurd (omega arith)
+  node-page (suc zero) t Subindex a h = absurd (omega arith)
   node-page (suc (suc l)) t Subindex a h = ap (λ (j : ℕ). leaf v j t (a .place)) (sym (h .1)) ∙ a .here
-  node-page zero t (Index m) a h = absurd (let r : ⊥ = omega arith in r)
+  node-page zero t (Index m) a h = absurd (omega arith)
   node-page (suc l) t (Index m) a h = leaf-page (suc l) m t a l (omega arith) (h .1)
   node-page l t (Data m) a h = leaf-page l m t a l (h .0) (h .1)
 
@@ -88,6 +89,7 @@ at-by l zero j n pos le e i = (omega arith, refl)
 at-by l (suc zero) j n pos le e i = (omega arith, refl)
 at-by l (suc (suc h)) j n pos le e i = let z : j ≡ 0 = omega arith in (omega arith, z, lt-one (subst (λ (x : ℕ). n < 512 ^ x) z i))
 
+-- what a search that counts levels has found
 pub role-by : (v : Vol) (p l t h j n : ℕ) → 0 < l → l ≤ 2 → h + j ≡ l → n < 512 ^ j → leaf v j t n ≡ p → rolePage v (tree l t) (roleBy h n) ≡ p
 role-by v p l t h j n pos le e i q =
     node-page v p l t (roleBy h n) (record { depth = j; place = n; deep = omega arith; room = i; here = q }) (at-by l h j n pos le e i)
@@ -115,8 +117,8 @@ module _ (v : Vol) (p : ℕ) where
   pub role-pos : 0 < p → (r : Root) (x : Role) → rolePage v r x ≡ p → 0 < weighR v r (hit p)
   unfolding weighR subindexOf indexAt pageAt
   role-pos pos (tree l t) x e = node-pos v p l t pos (role-node v p pos l t x e .0)
-  role-pos pos (run s m) Subindex e = absurd (let r : ⊥ = omega arith in r)
-  role-pos pos (run s m) (Index n) e = absurd (let r : ⊥ = omega arith in r)
+  role-pos pos (run s m) Subindex e = omega arith
+  role-pos pos (run s m) (Index n) e = omega arith
   role-pos pos (run s m) (Data n) e = let u = upto-pos n m (s + n) p pos e in
       omega (arith, sum-at m (λ i. hit p (s + i)) n (u .0), ap (hit p) (u .1), hit-same p pos)
 
@@ -127,13 +129,13 @@ module _ (v : Vol) (p : ℕ) where
       let a = role-node v p pos l t x e in let b = role-node v p pos l t y i in
       let q = node-one v p l t pos le (a .0) (b .0) in
       at-role l _ _ x y (a .1) (subst₂ (λ (j n : ℕ). At l y j n) (sym (q .0)) (sym (q .1)) (b .1))
-  role-one pos (run s m) le Subindex y e i = absurd (let r : ⊥ = omega arith in r)
-  role-one pos (run s m) le (Index n) y e i = absurd (let r : ⊥ = omega arith in r)
-  role-one pos (run s m) le (Data n) Subindex e i = absurd (let r : ⊥ = omega arith in r)
-  role-one pos (run s m) le (Data n) (Index k) e i = absurd (let r : ⊥ = omega arith in r)
+  role-one pos (run s m) le Subindex y e i = absurd (omega arith)
+  role-one pos (run s m) le (Index n) y e i = absurd (omega arith)
+  role-one pos (run s m) le (Data n) Subindex e i = absurd (omega arith)
+  role-one pos (run s m) le (Data n) (Index k) e i = absurd (omega arith)
   role-one pos (run s m) le (Data n) (Data k) e i = ap Data (omega (arith, upto-pos n m (s + n) p pos e .1, upto-pos k m (s + k) p pos i .1))
 
-  -- one that is counted has a role, and one that is counted twice has two
+  -- one that is counted has a role, one that has none is not counted, and one that is counted twice has two
   pub role-find : (r : Root) → Shallow r → 0 < weighR v r (hit p) → (x : Role) × (rolePage v r x ≡ p)
   unfolding weighR pageAt Shallow
   role-find (tree l t) sh h =

@@ -1,8 +1,8 @@
 -- What is told of a page's holder: one thing, and how a search gets it. Assumes nothing.
-use mathlib.Core.Path.{_≡_, refl, sym, _∙_, subst}
+use mathlib.Core.Path.{_≡_, refl, sym, _∙_}
 use mathlib.Core.Logic.{inl, inr}
 use mathlib.Core.List.{List}
-use Prim.Native.Nat.{ℕ, zero, suc, _+_, _≤_, _<_}
+use Prim.Native.Nat.{ℕ, zero, suc, _≤_, _<_}
 use native.Mathlib.Nat.{not-suc-le-zero, eq-zero-or-pos}
 use native.Mathlib.Omega.{arith}
 use Rattle.sums.specs.Sum.{sum, is, is-other, sum-none}
@@ -18,20 +18,20 @@ use Rattle.book.specs.Image.{pages}
 use Rattle.book.specs.Outcome.{Single, asking, judged}
 use Rattle.book.specs.Rows.{Clear}
 use Rattle.book.specs.Rules.{Rule2, Rule8, Sound}
-use Rattle.book.specs.Trees.{Root, weighR}
+use Rattle.book.specs.Trees.{weighR}
 use Rattle.book.specs.Words.{Vol, vol}
 use Rattle.laws.specs.Count.{bit-holders}
 use Rattle.laws.specs.Holder.{fileHolder, holder-some, holder-one, holder-find}
-use Rattle.laws.specs.Owners.{root-file, owner-shallow}
-use Rattle.laws.specs.Roles.{Shallow, role-find}
+use Rattle.laws.specs.Owners.{file-shallow}
+use Rattle.laws.specs.Roles.{role-find}
 
 -- ---- one thing is told
 
 pub told-one : (P : ℕ) (v : Vol) (p : ℕ) → holders P v p ≤ 1 → (h k : Holder) → Told P v p h → Told P v p k → h ≡ k
 unfolding Told
 told-one P v p le h k (inl a) (inl b) = a .1 ∙ sym (b .1)
-told-one P v p le h k (inl a) (inr b) = absurd (let r : ⊥ = omega (arith, a .0, holder-some P v p k b) in r)
-told-one P v p le h k (inr a) (inl b) = absurd (let r : ⊥ = omega (arith, b .0, holder-some P v p h a) in r)
+told-one P v p le h k (inl a) (inr b) = absurd (omega (arith, a .0, holder-some P v p k b))
+told-one P v p le h k (inr a) (inl b) = absurd (omega (arith, b .0, holder-some P v p h a))
 told-one P v p le h k (inr a) (inr b) = holder-one P v p le h k a b
 
 pub single-who : (img : List ℕ) (p : ℕ) → Single (whoCall img p)
@@ -59,6 +59,7 @@ module _ (P : ℕ) (v : Vol) where
     | inr q ↦ let r = holder-find P v two p q in absurd (none (r .0) (r .1))
   ]
 
+  -- so is one that no owner has
   pub holders-none : (p : ℕ) → 0 < p → weighR v (bitFile P v) (hit p) ≡ 0 → weighR v (userFile v) (hit p) ≡ 0 → weighR v (objectFile v) (hit p) ≡ 0
       → ((u f : ℕ) → u < 256 → f < 256 → weighR v (fileAt v (fileEntry u f)) (hit p) ≡ 0) → holders P v p ≡ 0
   unfolding holders all system mine
@@ -69,7 +70,7 @@ module _ (P : ℕ) (v : Vol) where
         (λ u h. sum-none 256 (λ f. weighR v (fileAt v (fileEntry u f)) (hit p)) (λ f i. none u f h i)),
   )
 
-  -- one whose bit is 0 is free, and one whose bit is 1 has a holder
+  -- a page whose bit is 0 is free, and one whose bit is 1 has a holder
   pub told-free : Sound P v → (p : ℕ) → p < P → bit P v p ≡ 0 → Told P v p Free
   unfolding Told
   told-free s p h e = inl (sym (bit-holders P v s p h) ∙ e, refl)
@@ -80,7 +81,7 @@ module _ (P : ℕ) (v : Vol) where
   -- a file that has the page is its holder, in some role
   pub file-holds : (p u f : ℕ) → 0 < p → u < 256 → f < 256 → 0 < weighR v (fileAt v (fileEntry u f)) (hit p) → (x : Role) × Holds P v p (fileHolder u f x)
   file-holds p u f pos hu hf q =
-      let x = role-find v p (fileAt v (fileEntry u f)) (subst (λ (r : Root). Shallow r) (root-file P v (fileEntry u f)) (owner-shallow P v (3 + fileEntry u f))) q in
+      let x = role-find v p (fileAt v (fileEntry u f)) (file-shallow v (fileEntry u f)) q in
       (x .0, holds-held p (fileHolder u f (x .0)) pos (hu, hf) (x .1))
 
   -- and the only one
