@@ -42,3 +42,10 @@ pub mod Open
 pub mod Write
 pub mod Find
 pub mod FormatCall
+pub mod Several
+pub mod Node
+pub mod Roles
+pub mod Owners
+pub mod Holder
+pub mod Visits
+pub mod Who
