@@ -49,3 +49,4 @@ pub mod Owners
 pub mod Holder
 pub mod Visits
 pub mod Who
+pub mod Singles
