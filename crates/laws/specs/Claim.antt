@@ -18,6 +18,7 @@ use Rattle.book.specs.Written.{digit-same, digit-other, word-pos, word-ext, put
 use Rattle.laws.specs.Count.{Good, Most, bit-le, free}
 use Rattle.laws.specs.Frame.{pageAt-le, Roots, bits-root, upto-in}
 use Rattle.laws.specs.Part.{rest, all-rest, rest-add, all-calm, most-calm, user-calm, obj-calm, page-calm}
+use Rattle.laws.specs.Still.{Still, still-calm}
 use Rattle.laws.specs.Tree.{Agree, hit-zero, hit-same, hit-le, hit-other}
 
 -- ---- the bit file's pages
@@ -105,6 +106,9 @@ module _ (P : ℕ) (v : Vol) (hand : ℕ → ℕ) (G : Good P v hand) (d : ℕ) 
 
   pub claim-obj : object (claim P v d) ≡ object v
   claim-obj = obj-calm v (claim P v d) roots C c0 claim-agree quiet
+
+  pub claim-still : Still P v (claim P v d)
+  claim-still = still-calm P v (claim P v d) C c0 claim-agree quiet claim-master
 
   pub claim-page : (e : ℕ) → e < 65536 → (m : ℕ) → pageAt (claim P v d) (fileAt (claim P v d) e) m ≡ pageAt v (fileAt v e) m
   claim-page e h m = page-calm v (claim P v d) roots C c0 claim-agree quiet e h m

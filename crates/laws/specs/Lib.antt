@@ -21,3 +21,8 @@ pub mod First
 pub mod Runs
 pub mod Delete
 pub mod Call
+pub mod Still
+pub mod Edited
+pub mod Levels
+pub mod Longer
+pub mod Finished
