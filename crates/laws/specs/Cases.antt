@@ -24,7 +24,7 @@ use Rattle.laws.specs.Grown.{slot-here, slot-other, setSlot-page, setSlo
 use Rattle.laws.specs.Levels.{last, last-mid, last-block, last-raise, need-mid, need-block, need-raise, index-1, index-2}
 use Rattle.laws.specs.Longer.{Longer}
 use Rattle.laws.specs.Part.{rest, all-rest, rest-add, file-le, weighR-add}
-use Rattle.laws.specs.Still.{Beside}
+use Rattle.laws.specs.Leave.{Beside}
 use Rattle.laws.specs.Tree.{Agree, hit-zero, hit-same, hit-le, hit-other, some-pos, slot-zero, weigh-none, slot-same, pow-pos, blocks-le}
 
 pub hit-sym : (p d : ℕ) → hit p d ≡ hit d p

@@ -10,7 +10,7 @@ use Rattle.book.specs.Words.{Vol}
 use Rattle.laws.specs.Count.{Good}
 use Rattle.laws.specs.Edit.{Change, c-users, c-objs, c-file, file-root, w-file, zeroB, users-words, objs-words, edit-all}
 use Rattle.laws.specs.Frame.{pageAt-frame}
-use Rattle.laws.specs.Still.{Beside, places-frame}
+use Rattle.laws.specs.Leave.{Beside, places-frame}
 
 module _ (P : ℕ) (v : Vol) (hand : ℕ → ℕ) (G : Good P v hand) (pos : 0 < P) (a f : ℕ) (ha : a < 256) (hf : f < 256) (D : ℕ → ℕ) (v′ : Vol)
     (E : Change P v hand G pos a f ha hf D v′) where

@@ -13,7 +13,7 @@ use Rattle.laws.specs.Count.{Good}
 use Rattle.laws.specs.Edited.{edit-beside}
 use Rattle.laws.specs.Finish.{Blocks, Regrown, finish-good, finish-page, change, master, weight, new-root, new-pages, new-spent, obj-kept, user-kept, agreeB, quiet}
 use Rattle.laws.specs.Levels.{indexAt-frame}
-use Rattle.laws.specs.Still.{Beside}
+use Rattle.laws.specs.Leave.{Beside}
 
 -- v became v₂ by its blocks and v₃ by its entries: the file has n pages under a pointer with flags x to t, and its owner has used y
 pub record Finished (P : ℕ) (v v₂ v₃ : Vol) (a e n x t y : ℕ) (gone new : (ℕ → ℕ) → ℕ) (hand : ℕ → ℕ) : Type 0 where

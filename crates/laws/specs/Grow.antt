@@ -16,11 +16,12 @@ use Rattle.book.specs.Rules.{Rule6, Rule7, Sound}
 use Rattle.book.specs.Trees.{Root, weigh, weighR, pageAt, rootBy, Fill, Below}
 use Rattle.book.specs.Words.{Vol, two, word}
 use Rattle.laws.specs.Cases.{Grew, caseA, caseB, caseC, caseD, caseE, root-is, shape-is}
-use Rattle.laws.specs.Claim.{claim-good, claim-user, claim-obj, claim-keeps, claim-still, claim-zero, claim-free, free-pos}
+use Rattle.laws.specs.Claim.{claim-good, claim-user, claim-obj, claim-keeps, claim-zero, claim-free, free-pos}
 use Rattle.laws.specs.Count.{Good, Most, good, sound, free, free-count, room}
 use Rattle.laws.specs.Longer.{Longer, longer-still}
 use Rattle.laws.specs.Part.{all-rest, file-le, rest}
-use Rattle.laws.specs.Still.{Still, still-trans, still-beside, beside-trans}
+use Rattle.laws.specs.Marks.{claim-still}
+use Rattle.laws.specs.Leave.{Still, still-trans, still-beside, beside-trans}
 use Rattle.laws.specs.Tree.{hit-same, some-pos, slot-same, slot-zero, pow-pos, two-ext}
 
 -- ---- a full tree has as many pages

@@ -21,8 +21,13 @@ pub mod First
 pub mod Runs
 pub mod Delete
 pub mod Call
-pub mod Still
+pub mod Leave
 pub mod Edited
 pub mod Levels
 pub mod Longer
 pub mod Finished
+pub mod Marks
+pub mod Choose
+pub mod Places
+pub mod After
+pub mod ShrinkCases

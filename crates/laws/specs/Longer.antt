@@ -8,7 +8,7 @@ use Rattle.book.specs.Files.{fileAt, need}
 use Rattle.book.specs.Trees.{weighR, pageAt}
 use Rattle.book.specs.Words.{Vol, two}
 use Rattle.laws.specs.Levels.{last}
-use Rattle.laws.specs.Still.{Still}
+use Rattle.laws.specs.Leave.{Still}
 
 -- the file at e of user a has n pages in v; in v′ it has position n too, with the pages that this one needs, and is else the same
 pub record Longer (v v′ : Vol) (a e n : ℕ) : Type 0 where

@@ -10,7 +10,7 @@ use Rattle.book.specs.Holders.{all}
 use Rattle.book.specs.Trees.{Root, weighR, blocksR, pageAt}
 use Rattle.book.specs.Words.{Vol, two}
 use Rattle.laws.specs.Frame.{Roots, users-root, objs-root, bits-root, pageAt-frame, weighR-frame, blocksR-le}
-use Rattle.laws.specs.Part.{rest, q-entry, user-calm, obj-calm, file-calm, page-calm, all-calm}
+use Rattle.laws.specs.Part.{rest, all-rest, q-entry, user-calm, obj-calm, file-calm, page-calm, all-calm}
 use Rattle.laws.specs.Tree.{Agree}
 
 -- where the entries lie
@@ -43,6 +43,16 @@ places-sym v w L = record { master = λ k. sym (L .master k); ofUser = λ u. sym
 
 places-trans : (v w z : Vol) → SamePlaces v w → SamePlaces w z → SamePlaces v z
 places-trans v w z L M = record { master = λ k. M .master k ∙ L .master k; ofUser = λ u. M .ofUser u ∙ L .ofUser u; ofObject = λ x. M .ofObject x ∙ L .ofObject x }
+
+pub still-refl : (P : ℕ) (v : Vol) → Still P v v
+still-refl P v = record {
+  places = record { master = λ k. refl; ofUser = λ u. refl; ofObject = λ x. refl };
+  users = refl;
+  objects = refl;
+  address = λ x h m. refl;
+  holding = λ x h g. refl;
+  held = λ g. refl;
+}
 
 pub still-sym : (P : ℕ) (v w : Vol) → Still P v w → Still P w v
 still-sym P v w S = record {
@@ -116,3 +126,7 @@ still-calm P v v′ C c0 A q m = record {
 pub bitPage-same : (P : ℕ) (v v′ : Vol) → SamePlaces v v′ → (p : ℕ) → bitPage P v′ p ≡ bitPage P v p
 unfolding bitPage bitFile pageAt Roots
 bitPage-same P v v′ L p = ap (λ (r : Root). pageAt v r (p / 16384)) (bits-root v v′ (λ k i j. L .master k) P)
+
+pub rest-same : (P : ℕ) (v v′ : Vol) → Still P v v′ → (g : ℕ → ℕ) → rest v′ g ≡ rest v g
+unfolding bitFile weighR Roots
+rest-same P v v′ S g = omega (arith, S .held g, all-rest P v′ g, all-rest P v g, ap (λ (r : Root). weighR v r g) (bits-root v v′ (λ k i j. S .places .master k) P))
