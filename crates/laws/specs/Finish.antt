@@ -113,7 +113,7 @@ module _ (P : ℕ) (v : Vol) (hand : ℕ → ℕ) (G : Good P v hand) (pos : 0 <
   abbrev OO : ℕ
   OO = pageAt v (objectFile v) (ee / 32)
 
-  isO : 0 < OO
+  pub isO : 0 < OO
   unfolding object
   isO = used-page v (objectFile v) ee uf
 
@@ -121,11 +121,11 @@ module _ (P : ℕ) (v : Vol) (hand : ℕ → ℕ) (G : Good P v hand) (pos : 0 <
   unfolding Rule6
   owner-used = G .most .r6 .0 a f ha hf uf .owner
 
-  isU : 0 < UU
+  pub isU : 0 < UU
   unfolding user
   isU = used-page v (userFile v) a owner-used
 
-  UO : UU ≢ OO
+  pub UO : UU ≢ OO
   UO i = omega (arith, pageAt-le v (hit UU) (hit-zero UU) (objectFile v) (ee / 32), user-page P v hand G pos (a / 32) .1, subst (λ (y : ℕ). hit UU y ≡ 1) i (hit-same UU isU))
 
   -- the blocks have changed: v₂ differs from v only at D, where only this file and the hand hold pages

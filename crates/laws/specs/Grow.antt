@@ -18,6 +18,7 @@ use Rattle.book.specs.Words.{Vol, two, word}
 use Rattle.laws.specs.Cases.{Grew, caseA, caseB, caseC, caseD, caseE, root-is, shape-is}
 use Rattle.laws.specs.Claim.{claim-good, claim-user, claim-obj, claim-keeps, claim-zero, claim-free, free-pos}
 use Rattle.laws.specs.Count.{Good, Most, good, sound, free, free-count, room}
+use Rattle.laws.specs.Kinds.{kind-empty, kind-low, kind-high}
 use Rattle.laws.specs.Longer.{Longer, longer-still}
 use Rattle.laws.specs.Part.{all-rest, file-le, rest}
 use Rattle.laws.specs.Marks.{claim-still}
@@ -67,34 +68,13 @@ module _ (choose : Vol → ℕ) (P : ℕ) (ch : Chooser P choose) (v : Vol) (S :
     shape = shape-is P v (λ p. 0) G0 pos (omega arith) a f ha hf uf (flags (object v e) 30) refl
 
     flag-first : n ≡ 0 → flags (object v e) 30 ≡ 0
-    unfolding Shape
-    flag-first z = go (flags (object v e) 30) shape
-      where
-        go : (x : ℕ) → Shape P v x (page (object v e) 30) n → x ≡ 0
-        go zero h = refl
-        go (suc zero) h = absurd (let q : ⊥ = omega (arith, h .0) in q)
-        go (suc (suc zero)) h = absurd (let q : ⊥ = omega (arith, h .0) in q)
-        go (suc (suc (suc x))) h = absurd h
+    flag-first z = kind-empty P v (page (object v e) 30) n (flags (object v e) 30) shape z
 
     flag-low : 0 < n → n ≤ 512 → flags (object v e) 30 ≡ 1
-    unfolding Shape
-    flag-low z i = go (flags (object v e) 30) refl shape
-      where
-        go : (x : ℕ) → flags (object v e) 30 ≡ x → Shape P v x (page (object v e) 30) n → x ≡ 1
-        go zero q h = absurd (let r : ⊥ = omega (arith, kind q) in r)
-        go (suc zero) q h = refl
-        go (suc (suc zero)) q h = absurd (let r : ⊥ = omega (arith, h .0) in r)
-        go (suc (suc (suc x))) q h = absurd h
+    flag-low z i = kind-low P v (page (object v e) 30) n (flags (object v e) 30) shape kind z i
 
     flag-high : 512 < n → flags (object v e) 30 ≡ 2
-    unfolding Shape
-    flag-high z = go (flags (object v e) 30) refl shape
-      where
-        go : (x : ℕ) → flags (object v e) 30 ≡ x → Shape P v x (page (object v e) 30) n → x ≡ 2
-        go zero q h = absurd (let r : ⊥ = omega (arith, kind q) in r)
-        go (suc zero) q h = absurd (let r : ⊥ = omega (arith, h .1) in r)
-        go (suc (suc zero)) q h = refl
-        go (suc (suc (suc x))) q h = absurd h
+    flag-high z = kind-high P v (page (object v e) 30) n (flags (object v e) 30) shape kind z
 
     -- the volume is too small for a file of 262,144 pages
     small : 512 < n → n < 262144

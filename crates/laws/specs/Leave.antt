@@ -3,12 +3,13 @@ use mathlib.Core.Path.{_≡_, refl, sym, ap, ap₂, _∙_, subst}
 use mathlib.Core.Logic.{_≢_}
 use Prim.Native.Nat.{ℕ, zero, suc, _+_, _*_, _/_, _%_, _≤_, _<_}
 use native.Mathlib.Omega.{arith}
-use Rattle.book.specs.Bits.{bitFile, bitPage}
+use Rattle.book.specs.Bits.{bitFile, bitPage, bit}
 use Rattle.book.specs.Entries.{Table, userFile, objectFile, user, object, userPage, objectPage}
 use Rattle.book.specs.Files.{fileAt}
-use Rattle.book.specs.Holders.{all}
+use Rattle.book.specs.Holders.{hit, all}
 use Rattle.book.specs.Trees.{Root, weighR, blocksR, pageAt}
 use Rattle.book.specs.Words.{Vol, two}
+use Rattle.laws.specs.Count.{Good}
 use Rattle.laws.specs.Frame.{Roots, users-root, objs-root, bits-root, pageAt-frame, weighR-frame, blocksR-le}
 use Rattle.laws.specs.Part.{rest, all-rest, q-entry, user-calm, obj-calm, file-calm, page-calm, all-calm}
 use Rattle.laws.specs.Tree.{Agree}
@@ -130,3 +131,8 @@ bitPage-same P v v′ L p = ap (λ (r : Root). pageAt v r (p / 16384)) (bits-roo
 pub rest-same : (P : ℕ) (v v′ : Vol) → Still P v v′ → (g : ℕ → ℕ) → rest v′ g ≡ rest v g
 unfolding bitFile weighR Roots
 rest-same P v v′ S g = omega (arith, S .held g, all-rest P v′ g, all-rest P v g, ap (λ (r : Root). weighR v r g) (bits-root v v′ (λ k i j. S .places .master k) P))
+
+-- so the bits change as the file's pages do
+pub beside-bits : (P : ℕ) (v v′ : Vol) (a e : ℕ) → Good P v (λ p. 0) → Good P v′ (λ p. 0) → Beside P v v′ a e → (p : ℕ) → p < P
+    → bit P v′ p + weighR v (fileAt v e) (hit p) ≡ bit P v p + weighR v′ (fileAt v′ e) (hit p)
+beside-bits P v v′ a e G H B p h = omega (arith, G .held p h, H .held p h, B .held (hit p))

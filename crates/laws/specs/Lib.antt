@@ -31,3 +31,6 @@ pub mod Choose
 pub mod Places
 pub mod After
 pub mod ShrinkCases
+pub mod Kinds
+pub mod Shrink
+pub mod DeleteFile
