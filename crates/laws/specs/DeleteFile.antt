@@ -31,7 +31,7 @@ pub record Deleted (P : ℕ) (v v′ : Vol) (a e : ℕ) : Type 0 where
   pub clear : (k : ℕ) → k < 32 → object v′ e k ≡ 0
   pub spent : usedPages (user v′) a + weighR v (fileAt v e) some ≡ usedPages (user v) a
 
-used-zero : (w : Words) → w 0 ≡ 0 → used w ≡ 0
+pub used-zero : (w : Words) → w 0 ≡ 0 → used w ≡ 0
 unfolding used
 used-zero w h = ap (λ (x : ℕ). x / 32768) h
 

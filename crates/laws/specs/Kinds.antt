@@ -2,8 +2,9 @@
 use mathlib.Core.Path.{_≡_, refl}
 use mathlib.Core.Logic.{_⊎_, inl, inr}
 use Prim.Native.Nat.{ℕ, zero, suc, _≤_, _<_}
+use native.Mathlib.Nat.{eq-zero-or-pos}
 use native.Mathlib.Omega.{arith}
-use Rattle.book.specs.Files.{Shape}
+use Rattle.book.specs.Files.{Shape, isRun}
 use Rattle.book.specs.Words.{Vol}
 
 module _ (P : ℕ) (v : Vol) (t n : ℕ) where
@@ -27,3 +28,7 @@ module _ (P : ℕ) (v : Vol) (t n : ℕ) where
   kind-high (suc zero) s k i = absurd (let q : ⊥ = omega (arith, s .1) in q)
   kind-high (suc (suc zero)) s k i = refl
   kind-high (suc (suc (suc x))) s k i = absurd s
+
+-- what the calls ask of the kind
+pub grows-kind : (x n : ℕ) → (isRun x n → ⊥) → x ≡ 0 → n ≡ 0
+grows-kind x n g q = elim (eq-zero-or-pos n) [ inl z ↦ z | inr h ↦ absurd (g (q, h)) ]

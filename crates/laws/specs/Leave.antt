@@ -39,6 +39,9 @@ pub record Beside (P : ℕ) (v v′ : Vol) (a e : ℕ) : Type 0 where
   pub holding : (x : ℕ) → x < 65536 → x ≢ e → (g : ℕ → ℕ) → weighR v′ (fileAt v′ x) g ≡ weighR v (fileAt v x) g
   pub held : (g : ℕ → ℕ) → all P v′ g + weighR v (fileAt v e) g ≡ all P v g + weighR v′ (fileAt v′ e) g
 
+places-refl : (v : Vol) → SamePlaces v v
+places-refl v = record { master = λ k. refl; ofUser = λ u. refl; ofObject = λ x. refl }
+
 places-sym : (v w : Vol) → SamePlaces v w → SamePlaces w v
 places-sym v w L = record { master = λ k. sym (L .master k); ofUser = λ u. sym (L .ofUser u); ofObject = λ x. sym (L .ofObject x) }
 
@@ -47,7 +50,7 @@ places-trans v w z L M = record { master = λ k. M .master k ∙ L .master k; of
 
 pub still-refl : (P : ℕ) (v : Vol) → Still P v v
 still-refl P v = record {
-  places = record { master = λ k. refl; ofUser = λ u. refl; ofObject = λ x. refl };
+  places = places-refl v;
   users = refl;
   objects = refl;
   address = λ x h m. refl;
@@ -84,6 +87,17 @@ still-beside P v w a e he S = record {
   address = λ x h n m. S .address x h m;
   holding = λ x h n g. S .holding x h g;
   held = λ g. omega (arith, S .held g, S .holding e he g);
+}
+
+pub beside-refl : (P : ℕ) (v : Vol) (a e : ℕ) → Beside P v v a e
+beside-refl P v a e = record {
+  places = places-refl v;
+  users = λ u n k h. refl;
+  owner = λ k h i j. refl;
+  files = λ x n k h. refl;
+  address = λ x h n m. refl;
+  holding = λ x h n g. refl;
+  held = λ g. refl;
 }
 
 pub beside-trans : (P : ℕ) (v w z : Vol) (a e : ℕ) → Beside P v w a e → Beside P w z a e → Beside P v z a e

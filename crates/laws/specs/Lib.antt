@@ -34,3 +34,7 @@ pub mod ShrinkCases
 pub mod Kinds
 pub mod Shrink
 pub mod DeleteFile
+pub mod Done
+pub mod GrowCall
+pub mod ShrinkCall
+pub mod DeleteFileCall
