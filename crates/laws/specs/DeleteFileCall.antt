@@ -55,13 +55,13 @@ module _ (img : List ℕ) (u f : ℕ) where
 
     -- done: the file is gone
     module _ (z : r .number ≡ 0) where
-      was-done : DoneAs (deleteFileCall img u f) img r img′
+      pub delete-done : DoneAs (deleteFileCall img u f) img r img′
       unfolding deleteFileCall call asking judged Above
-      was-done = done (deleteFileCall img u f) img r img′ (omega arith, (omega arith, (omega arith, (omega arith, tt)))) o z
+      delete-done = done (deleteFileCall img u f) img r img′ (omega arith, (omega arith, (omega arith, (omega arith, tt)))) o z
 
       pub deleted-call : Deleted P v v′ u e
       unfolding deleteFileCall call asking judged Clear
-      deleted-call = let c = was-done .clear in subst (λ (w : Vol). Deleted P v w u e) (sym (was-done .image)) (delete-step (c .0) (c .1 .0) (c .1 .1 .0) (c .1 .1 .1 .0))
+      deleted-call = let c = delete-done .clear in subst (λ (w : Vol). Deleted P v w u e) (sym (delete-done .image)) (delete-step (c .0) (c .1 .0) (c .1 .1 .0) (c .1 .1 .1 .0))
 
       -- it holds nothing
       pub delete-none : (g : ℕ → ℕ) → weighR v′ (fileAt v′ e) g ≡ 0

@@ -70,19 +70,19 @@ module _ (img : List ℕ) (u f : ℕ) where
 
     -- done: the file has one page more, which is the page returned, the lowest free
     module _ (z : r .number ≡ 0) where
-      was-done : DoneAs (growCall img u f) img r img′
+      pub grow-done : DoneAs (growCall img u f) img r img′
       unfolding growCall call asking judged Above
-      was-done = done (growCall img u f) img r img′ (omega arith, (omega arith, (omega arith, (omega arith, (omega arith, (omega arith, tt)))))) o z
+      grow-done = done (growCall img u f) img r img′ (omega arith, (omega arith, (omega arith, (omega arith, (omega arith, (omega arith, tt)))))) o z
 
       pub grew-call : Grew P v v′ u e n (r .value)
       unfolding growCall call asking judged Clear
       grew-call =
-          let c = was-done .clear in
-          subst₂ (λ (w : Vol) (d : ℕ). Grew P v w u e n d) (sym (was-done .image)) (sym (was-done .value)) (grow-step (c .0) (c .1 .0) (c .1 .1 .0) (c .1 .1 .1 .0) (c .1 .1 .1 .1 .0) (c .1 .1 .1 .1 .1 .0))
+          let c = grow-done .clear in
+          subst₂ (λ (w : Vol) (d : ℕ). Grew P v w u e n d) (sym (grow-done .image)) (sym (grow-done .value)) (grow-step (c .0) (c .1 .0) (c .1 .1 .0) (c .1 .1 .1 .0) (c .1 .1 .1 .1 .0) (c .1 .1 .1 .1 .1 .0))
 
       pub grow-value : r .value ≡ lowestFree P v
       unfolding growCall call asking
-      grow-value = was-done .value
+      grow-value = grow-done .value
 
       pub grow-new : pageAt v′ (fileAt v′ e) n ≡ r .value
       grow-new = grew-call .at

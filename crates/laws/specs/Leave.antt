@@ -4,7 +4,7 @@ use mathlib.Core.Logic.{_≢_}
 use Prim.Native.Nat.{ℕ, zero, suc, _+_, _*_, _/_, _%_, _≤_, _<_}
 use native.Mathlib.Omega.{arith}
 use Rattle.book.specs.Bits.{bitFile, bitPage, bit}
-use Rattle.book.specs.Entries.{Table, userFile, objectFile, user, object, userPage, objectPage}
+use Rattle.book.specs.Entries.{Table, userFile, objectFile, user, object, userPage, objectPage, used, given, unreserved}
 use Rattle.book.specs.Files.{fileAt}
 use Rattle.book.specs.Holders.{hit, all}
 use Rattle.book.specs.Trees.{Root, weighR, blocksR, pageAt}
@@ -12,7 +12,8 @@ use Rattle.book.specs.Words.{Vol, two}
 use Rattle.laws.specs.Count.{Good}
 use Rattle.laws.specs.Frame.{Roots, users-root, objs-root, bits-root, pageAt-frame, weighR-frame, blocksR-le}
 use Rattle.laws.specs.Part.{rest, all-rest, q-entry, user-calm, obj-calm, file-calm, page-calm, all-calm}
-use Rattle.laws.specs.Tree.{Agree}
+use Rattle.laws.specs.Rules.{used-ext}
+use Rattle.laws.specs.Tree.{Agree, two-ext}
 
 -- where the entries lie
 pub record SamePlaces (v v′ : Vol) : Type 0 where
@@ -150,3 +151,26 @@ rest-same P v v′ S g = omega (arith, S .held g, all-rest P v′ g, all-rest P 
 pub beside-bits : (P : ℕ) (v v′ : Vol) (a e : ℕ) → Good P v (λ p. 0) → Good P v′ (λ p. 0) → Beside P v v′ a e → (p : ℕ) → p < P
     → bit P v′ p + weighR v (fileAt v e) (hit p) ≡ bit P v p + weighR v′ (fileAt v′ e) (hit p)
 beside-bits P v v′ a e G H B p h = omega (arith, G .held p h, H .held p h, B .held (hit p))
+
+-- ---- the master page and the owner
+
+module _ (v v′ : Vol) (L : SamePlaces v v′) where
+  pub places-unreserved : unreserved v′ ≡ unreserved v
+  unfolding unreserved
+  places-unreserved = two-ext (v′ 0) (v 0) 1022 (L .master 1022) (L .master 1023)
+
+  pub places-users : userFile v′ ≡ userFile v
+  unfolding Roots
+  places-users = users-root v v′ (λ k i j. L .master k)
+
+  pub places-objects : objectFile v′ ≡ objectFile v
+  unfolding Roots
+  places-objects = objs-root v v′ (λ k i j. L .master k)
+
+module _ (P : ℕ) (v v′ : Vol) (a e : ℕ) (B : Beside P v v′ a e) where
+  pub beside-used : used (user v′ a) ≡ used (user v a)
+  beside-used = used-ext (user v′ a) (user v a) (B .owner 0 (omega arith) (omega arith) (omega arith))
+
+  pub beside-given : given (user v′) a ≡ given (user v) a
+  unfolding given
+  beside-given = two-ext (user v′ a) (user v a) 14 (B .owner 14 (omega arith) (omega arith) (omega arith)) (B .owner 15 (omega arith) (omega arith) (omega arith))

@@ -3,13 +3,14 @@ use mathlib.Core.Path.{_≡_, refl, sym, ap, ap₂, _∙_, subst}
 use mathlib.Core.Logic.{_≢_}
 use Prim.Native.Nat.{ℕ, zero, suc, _+_, _-_, _*_, _/_, _%_, _^_, _≤_, _<_, min}
 use native.Mathlib.Nat.{div-one, mod-lt, div-add-mod'}
+use native.Mathlib.Decide.{decLt}
 use native.Mathlib.Omega.{arith}
 use Rattle.sums.specs.Sum.{sum, is, is-same, is-other, sum-le}
-use Rattle.book.specs.Files.{need}
+use Rattle.book.specs.Files.{Shape, need}
 use Rattle.book.specs.Pointers.{slot}
-use Rattle.book.specs.Trees.{Root, tree, run, blocks, blocksR, leaf, upto, pageAt, indexAt, subindexOf, Fill}
+use Rattle.book.specs.Trees.{Root, tree, run, blocks, blocksR, leaf, upto, pageAt, indexAt, subindexOf, rootBy, Fill}
 use Rattle.book.specs.Words.{Vol}
-use Rattle.laws.specs.Frame.{upto-in, pageAt-frame}
+use Rattle.laws.specs.Frame.{upto-in, upto-out, pageAt-frame}
 use Rattle.laws.specs.Tree.{Agree, pow-pos, slot-lt}
 
 module _ (v : Vol) (t : ℕ) where
@@ -50,6 +51,19 @@ leaf-none v (suc l) t n F m h i =
     let j : ℕ = m / 512 ^ l in
     leaf-none v l (slot v t j) (min (n - j * 512 ^ l) (512 ^ l)) (F .2 j (slot-lt l m i)) (m % 512 ^ l)
     (omega (arith, div-add-mod' m (512 ^ l))) (mod-lt m (pow-pos l))
+
+pub page-none : (P : ℕ) (v : Vol) (x t n : ℕ) → Shape P v x t n → (m : ℕ) → n ≤ m → pageAt v (rootBy x t n) m ≡ 0
+unfolding Shape rootBy pageAt
+page-none P v zero t n s m h = upto-out m n (t + m) h
+page-none P v (suc zero) t n s m h = elim (decLt m 512) [
+  | yes i ↦ ap (upto m 512) (leaf-none v 1 t n (s .2) m h i) ∙ upto-in m 512 0 i
+  | no i ↦ upto-out m 512 (leaf v 1 t m) (omega arith)
+]
+page-none P v (suc (suc zero)) t n s m h = elim (decLt m 262144) [
+  | yes i ↦ ap (upto m 262144) (leaf-none v 2 t n (s .2) m h i) ∙ upto-in m 262144 0 i
+  | no i ↦ upto-out m 262144 (leaf v 2 t m) (omega arith)
+]
+page-none P v (suc (suc (suc x))) t n s m h = absurd s
 
 -- ---- the pages that position n of a file needs and the positions below it do not: its own, its index block if it is the first there, the subindex block at 512
 

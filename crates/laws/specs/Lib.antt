@@ -38,3 +38,5 @@ pub mod Done
 pub mod GrowCall
 pub mod ShrinkCall
 pub mod DeleteFileCall
+pub mod Return
+pub mod Counts

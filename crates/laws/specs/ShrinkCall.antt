@@ -65,15 +65,15 @@ module _ (img : List ℕ) (u f : ℕ) where
 
     -- done: the file has one page less
     module _ (z : r .number ≡ 0) where
-      was-done : DoneAs (shrinkCall img u f) img r img′
+      pub shrink-done : DoneAs (shrinkCall img u f) img r img′
       unfolding shrinkCall call asking judged Above
-      was-done = done (shrinkCall img u f) img r img′ (omega arith, (omega arith, (omega arith, (omega arith, (omega arith, tt))))) o z
+      shrink-done = done (shrinkCall img u f) img r img′ (omega arith, (omega arith, (omega arith, (omega arith, (omega arith, tt))))) o z
 
       pub shrunk-call : Lost P v v′ u e (n - 1) (λ p. 0)
       unfolding shrinkCall call asking judged Clear
       shrunk-call =
-          let c = was-done .clear in
-          subst (λ (w : Vol). Lost P v w u e (n - 1) (λ p. 0)) (sym (was-done .image)) (shrink-step (c .0) (c .1 .0) (c .1 .1 .0) (c .1 .1 .1 .0) (c .1 .1 .1 .1 .0))
+          let c = shrink-done .clear in
+          subst (λ (w : Vol). Lost P v w u e (n - 1) (λ p. 0)) (sym (shrink-done .image)) (shrink-step (c .0) (c .1 .0) (c .1 .1 .0) (c .1 .1 .1 .0) (c .1 .1 .1 .1 .0))
 
       pub shrink-count : pageCount (object v′ e) + 1 ≡ n
       shrink-count = omega (arith, shrunk-call .longer .count, shrunk-call .longer .count′)
