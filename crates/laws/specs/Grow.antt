@@ -94,7 +94,7 @@ module _ (choose : Vol → ℕ) (P : ℕ) (ch : Chooser P choose) (v : Vol) (S :
         S2 : Shape P v 2 (page (object v e) 30) n
         S2 = subst (λ (x : ℕ). Shape P v x (page (object v e) 30) n) (flag-high z) shape
 
-    rooms : need n ≤ free P v
+    pub rooms : need n ≤ free P v
     rooms = omega (arith, room P v S pos a (need n) ha owner le)
 
     need-pos : 1 ≤ need n
@@ -105,7 +105,7 @@ module _ (choose : Vol → ℕ) (P : ℕ) (ch : Chooser P choose) (v : Vol) (S :
     abbrev d : ℕ
     d = choose v
 
-    dOk : (d < P) × (bit P v d ≡ 0)
+    pub dOk : (d < P) × (bit P v d ≡ 0)
     unfolding Chooser
     dOk = ch v (omega (arith, rooms, need-pos))
 
@@ -147,7 +147,7 @@ module _ (choose : Vol → ℕ) (P : ℕ) (ch : Chooser P choose) (v : Vol) (S :
       left₁ : free P v₁ + 1 ≡ free P v
       left₁ = claim-free P v (λ p. 0) G0 d (dOk .0) (dOk .1)
 
-      bOk : (b < P) × (bit P v₁ b ≡ 0)
+      pub bOk : (b < P) × (bit P v₁ b ≡ 0)
       unfolding Chooser
       bOk = ch v₁ (omega (arith, rooms, left₁))
 
@@ -180,7 +180,7 @@ module _ (choose : Vol → ℕ) (P : ℕ) (ch : Chooser P choose) (v : Vol) (S :
         left₂ : free P v₂ + 1 ≡ free P v₁
         left₂ = claim-free P v₁ (λ p. 0 + hit d p) G1 b (bOk .0) (bOk .1)
 
-        sOk : (s < P) × (bit P v₂ s ≡ 0)
+        pub sOk : (s < P) × (bit P v₂ s ≡ 0)
         unfolding Chooser
         sOk = ch v₂ (omega (arith, rooms, left₁, left₂))
 

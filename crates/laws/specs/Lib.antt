@@ -40,3 +40,4 @@ pub mod ShrinkCall
 pub mod DeleteFileCall
 pub mod Return
 pub mod Counts
+pub mod Space
