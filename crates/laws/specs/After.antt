@@ -1,12 +1,12 @@
 -- What holds of the volume before a call and of the step's volume holds of the volume after the call. Assumes nothing.
-use mathlib.Core.Path.{_≡_, sym, ap, subst}
+use mathlib.Core.Path.{_≡_, sym, subst}
 use mathlib.Core.Logic.{_⊎_, inl, inr}
 use mathlib.Core.List.{List}
 use Prim.Native.Nat.{ℕ, _<_}
 use native.Mathlib.Omega.{arith}
 use Rattle.book.specs.Words.{Vol, vol}
 use Rattle.book.specs.Rules.{Sound}
-use Rattle.book.specs.Rows.{Rows, Clear, Lowest, Above, lowest-applies, applies-above}
+use Rattle.book.specs.Rows.{Rows, Clear, Above, lowest-applies, applies-above}
 use Rattle.book.specs.Answers.{Numbers}
 use Rattle.book.specs.Image.{pages, Whole}
 use Rattle.book.specs.Outcome.{Call, asking, judged, Outcome, RefusedAs, DoneAs}

@@ -1,31 +1,30 @@
 -- The five ways in which a file grows by one page, over new pages in hand. Assumes nothing.
-use mathlib.Core.Path.{_≡_, refl, sym, ap, ap₂, _∙_, subst, subst₂, subst₃}
-use mathlib.Core.Logic.{_≢_, _⊎_, inl, inr}
-use Prim.Native.Nat.{ℕ, zero, suc, _+_, _-_, _*_, _/_, _%_, _^_, _≤_, _<_, zero-le, min}
-use native.Mathlib.Nat.{le-refl, not-suc-le-zero, le-trans, mod-lt, div-one, mod-one}
-use native.Mathlib.Decide.{ℕ-discrete, decLt}
+use mathlib.Core.Path.{_≡_, refl, sym, ap, _∙_, subst, subst₃}
+use mathlib.Core.Logic.{_≢_}
+use Prim.Native.Nat.{ℕ, zero, suc, _+_, _-_, _*_, _/_, _%_, _≤_, _<_, min}
+use native.Mathlib.Nat.{le-refl, mod-lt, div-one, mod-one}
 use native.Mathlib.Omega.{arith}
-use Rattle.sums.specs.Sum.{sum, is, is-same, is-other, is-sym, sum-at, sum-at₂, sum-at-zero, sum-ext, sum-none, sum-change}
-use Rattle.book.specs.Bits.{bitFile, bit}
+use Rattle.sums.specs.Sum.{sum, is, is-other, is-sym, sum-at, sum-at₂, sum-none}
+use Rattle.book.specs.Bits.{bitFile}
 use Rattle.book.specs.Entries.{userFile, objectFile, user, object, used, given, usedPages}
 use Rattle.book.specs.Files.{fileAt, Shape, FileShape, need}
 use Rattle.book.specs.Grow.{finish}
-use Rattle.book.specs.Holders.{hit, some, all, mine}
+use Rattle.book.specs.Holders.{hit, all}
 use Rattle.book.specs.Pointers.{slot, flags, page, pointer, setSlot}
 use Rattle.book.specs.Rules.{Rule7}
-use Rattle.book.specs.Trees.{Root, tree, run, weigh, blocks, weighR, blocksR, pageAt, indexAt, subindexOf, upto, leaf, rootAt, rootBy, Fill, Below}
-use Rattle.book.specs.Words.{Vol, two, word}
+use Rattle.book.specs.Trees.{Root, tree, run, weigh, blocks, weighR, pageAt, indexAt, subindexOf, upto, leaf, rootAt, rootBy, Fill, Below}
+use Rattle.book.specs.Words.{Vol, two}
 use Rattle.book.specs.Written.{word-ext}
-use Rattle.laws.specs.Count.{Good, Most, bit-le, file-unused}
+use Rattle.laws.specs.Count.{Good, bit-le}
 use Rattle.laws.specs.Finish.{Blocks, Regrown, file-used}
 use Rattle.laws.specs.Finished.{Finished, finished}
 use Rattle.laws.specs.Frame.{upto-in}
-use Rattle.laws.specs.Grown.{slot-here, slot-other, setSlot-page, setSlot-agree, Grown, grown-page, grown-block, grown-up, raise-weight, raise-fill, raise-below, raise-old, raise-at, fill-zero, part-old}
+use Rattle.laws.specs.Grown.{slot-here, slot-other, setSlot-page, setSlot-agree, Grown, grown-page, grown-block, grown-up, raise-weight, raise-fill, raise-below, raise-old, raise-at, part-old}
 use Rattle.laws.specs.Levels.{last, last-mid, last-block, last-raise, need-mid, need-block, need-raise, index-1, index-2}
 use Rattle.laws.specs.Longer.{Longer}
 use Rattle.laws.specs.Part.{rest, all-rest, rest-add, file-le, weighR-add}
 use Rattle.laws.specs.Leave.{Beside}
-use Rattle.laws.specs.Tree.{Agree, hit-zero, hit-same, hit-le, hit-other, some-pos, slot-zero, weigh-none, slot-same, pow-pos, blocks-le}
+use Rattle.laws.specs.Tree.{Agree, hit-zero, hit-same, some-pos, weigh-none, slot-same, blocks-le}
 
 pub hit-sym : (p d : ℕ) → hit p d ≡ hit d p
 unfolding hit

@@ -1,7 +1,7 @@
 -- Pages counted: what a file holds, what is reserved, visited and free. Assumes nothing.
-use mathlib.Core.Path.{_≡_, refl, sym, ap, _∙_, subst}
-use mathlib.Core.Logic.{_≢_, _⊎_, inl, inr}
-use Prim.Native.Nat.{ℕ, zero, suc, _+_, _-_, _*_, _/_, _%_, _≤_, _<_, min}
+use mathlib.Core.Path.{_≡_, refl, sym, ap, _∙_}
+use mathlib.Core.Logic.{inl, inr}
+use Prim.Native.Nat.{ℕ, zero, suc, _+_, _<_}
 use native.Mathlib.Nat.{eq-zero-or-pos}
 use native.Mathlib.Omega.{arith}
 use Rattle.sums.specs.Sum.{sum, sum-zero, sum-ext, sum-none, sum-const}
@@ -11,7 +11,7 @@ use Rattle.book.specs.Files.{fileAt, Shape, FileShape, cost, isRun}
 use Rattle.book.specs.Holders.{some, all, holders, visits}
 use Rattle.book.specs.Pointers.{flags, page}
 use Rattle.book.specs.Rules.{Rule7, Rule8, Sound}
-use Rattle.book.specs.Trees.{Root, tree, run, weighR, rootAt, rootBy}
+use Rattle.book.specs.Trees.{Root, run, weighR, rootAt, rootBy}
 use Rattle.book.specs.Words.{Vol}
 use Rattle.laws.specs.Cost.{fill-1, fill-2}
 use Rattle.laws.specs.Count.{free, free-count, good, most, bit-holders, holders-count, sound-within}

@@ -1,28 +1,27 @@
 -- Deleting a file leaves a sound volume sound, with the file's pages free. Assumes nothing.
-use mathlib.Core.Path.{_≡_, refl, sym, ap, ap₂, _∙_, subst}
+use mathlib.Core.Path.{_≡_, refl, sym, ap, _∙_, subst}
 use mathlib.Core.Logic.{_≢_, _⊎_, inl, inr}
-use Prim.Native.Nat.{ℕ, zero, suc, _+_, _-_, _*_, _/_, _%_, _≤_, _<_}
+use Prim.Native.Nat.{ℕ, suc, _+_, _-_, _*_, _/_, _%_, _≤_, _<_}
 use native.Mathlib.Omega.{arith}
-use Rattle.sums.specs.Sum.{is, sum-zero, sum-at}
+use Rattle.sums.specs.Sum.{sum-at}
 use Rattle.book.specs.Bits.{bit, markAll, freed}
 use Rattle.book.specs.Delete.{deleteFile}
-use Rattle.book.specs.Entries.{Table, entry, userFile, objectFile, userPage, objectPage, user, object, used, usedPages, putEntry}
+use Rattle.book.specs.Entries.{Table, entry, userFile, objectFile, userPage, objectPage, user, object, used, usedPages}
 use Rattle.book.specs.Files.{fileAt}
-use Rattle.book.specs.Holders.{hit, some, all, mine}
+use Rattle.book.specs.Holders.{hit, some, mine}
 use Rattle.book.specs.Rules.{Rule10, Sound}
-use Rattle.book.specs.Trees.{Root, run, weighR, pageAt}
+use Rattle.book.specs.Trees.{weighR, pageAt}
 use Rattle.book.specs.Words.{Words, Vol, two, word, put2, putWords, zeros}
 use Rattle.book.specs.Written.{word-pos, word-ext, put2-page, put2-word, put2-hi, put2-lo, putWords-here, putWords-page, putWords-low, putWords-high}
-use Rattle.laws.specs.Count.{Good, good, sound, bit-le, file-unused}
+use Rattle.laws.specs.Count.{Good, good, sound, bit-le}
 use Rattle.laws.specs.Delete.{delete-good}
 use Rattle.laws.specs.Edit.{Outside, Change, user-at, obj-at, weighR-nobody}
 use Rattle.laws.specs.Edited.{edit-beside}
 use Rattle.laws.specs.Finish.{isO, isU, UO, owner-used}
-use Rattle.laws.specs.Leave.{Beside, still-beside, beside-trans, beside-bits}
+use Rattle.laws.specs.Leave.{Beside, still-beside, beside-trans}
 use Rattle.laws.specs.Marks.{Marked, marked, marked-good, alone}
-use Rattle.laws.specs.Rules.{used-ext}
 use Rattle.laws.specs.Shrunk.{all-zero}
-use Rattle.laws.specs.Tree.{Agree, hit-same, two-ext}
+use Rattle.laws.specs.Tree.{Agree, hit-same}
 
 -- the file at e of user a is gone: its entry is clear, its pages are free and no longer counted, and all beside is as it was
 pub record Deleted (P : ℕ) (v v′ : Vol) (a e : ℕ) : Type 0 where

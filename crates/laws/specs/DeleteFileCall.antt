@@ -2,7 +2,7 @@
 use mathlib.Core.Path.{_≡_, refl, sym, ap, _∙_, subst}
 use mathlib.Core.Logic.{_↔_, _⊎_, inl, inr}
 use mathlib.Core.List.{List}
-use Prim.Native.Nat.{ℕ, zero, suc, _+_, _*_, _≤_, _<_}
+use Prim.Native.Nat.{ℕ, _+_, _<_}
 use native.Mathlib.Nat.{eq-zero-or-pos}
 use native.Mathlib.Omega.{arith}
 use Rattle.sums.specs.Sum.{sum-zero}
@@ -10,14 +10,14 @@ use Rattle.book.specs.Answers.{Numbers}
 use Rattle.book.specs.Bits.{bit}
 use Rattle.book.specs.Calls.{deleteFileCall, HasFile}
 use Rattle.book.specs.Delete.{deleteFile}
-use Rattle.book.specs.Entries.{user, object, fileEntry, used, usedPages}
+use Rattle.book.specs.Entries.{user, object, fileEntry, usedPages}
 use Rattle.book.specs.Files.{fileAt}
 use Rattle.book.specs.Holders.{hit, some}
 use Rattle.book.specs.Image.{pages, Whole, IndexArg}
 use Rattle.book.specs.Outcome.{Outcome, DoneAs, call, asking, judged}
 use Rattle.book.specs.Rows.{Clear, Above}
 use Rattle.book.specs.Rules.{Sound}
-use Rattle.book.specs.Trees.{Root, run, weighR}
+use Rattle.book.specs.Trees.{Root, weighR}
 use Rattle.book.specs.Words.{Vol, vol}
 use Rattle.laws.specs.After.{after-call}
 use Rattle.laws.specs.Call.{kept-call}

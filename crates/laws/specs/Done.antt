@@ -1,15 +1,15 @@
 -- A call that came back with 0 is done; one whose rows all hold is done with 0. Assumes nothing.
-use mathlib.Core.Path.{_≡_, sym, _∙_}
-use mathlib.Core.Logic.{_⊎_, inl, inr}
+use mathlib.Core.Path.{_≡_}
+use mathlib.Core.Logic.{inl, inr}
 use mathlib.Core.List.{List}
 use Prim.Native.Nat.{ℕ, _<_}
 use native.Mathlib.Omega.{arith}
 use Rattle.book.specs.Words.{Vol, vol}
 use Rattle.book.specs.Rules.{Sound}
-use Rattle.book.specs.Rows.{Rows, Clear, Lowest, Above, lowest-applies, applies-above, clear-none}
+use Rattle.book.specs.Rows.{Rows, Clear, Above, lowest-applies, applies-above, clear-none}
 use Rattle.book.specs.Answers.{Numbers}
 use Rattle.book.specs.Image.{pages, Whole}
-use Rattle.book.specs.Outcome.{Call, asking, judged, Outcome, RefusedAs, DoneAs}
+use Rattle.book.specs.Outcome.{Call, asking, judged, Outcome, DoneAs}
 
 -- no refusal has number 0
 pub done : {A : Type 0} (C : Call A) (img : List ℕ) (r : Numbers A) (img′ : List ℕ) → Above (C .table) 0 → Outcome C img r img′ → r .number ≡ 0 → DoneAs C img r img′

@@ -1,11 +1,11 @@
 -- One file changed, with its owner's used count: all beside is as it was. Assumes nothing.
-use mathlib.Core.Path.{_≡_, refl, sym, ap, _∙_, subst}
+use mathlib.Core.Path.{_≡_, ap, _∙_, subst}
 use mathlib.Core.Logic.{_≢_}
-use Prim.Native.Nat.{ℕ, zero, suc, _+_, _*_, _/_, _%_, _≤_, _<_}
+use Prim.Native.Nat.{ℕ, _+_, _*_, _/_, _%_, _<_}
 use native.Mathlib.Omega.{arith}
 use Rattle.book.specs.Entries.{user}
 use Rattle.book.specs.Files.{fileAt}
-use Rattle.book.specs.Trees.{Root, weighR, blocksR, pageAt}
+use Rattle.book.specs.Trees.{Root, weighR, pageAt}
 use Rattle.book.specs.Words.{Vol}
 use Rattle.laws.specs.Count.{Good}
 use Rattle.laws.specs.Edit.{Change, c-users, c-objs, c-file, file-root, w-file, zeroB, users-words, objs-words, edit-all}

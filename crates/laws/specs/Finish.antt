@@ -1,29 +1,26 @@
 -- After the blocks of a file have changed, its entry and its owner's are written. Assumes nothing.
-use mathlib.Core.Path.{_≡_, refl, sym, ap, ap₂, _∙_, subst, subst₂, fun-ext}
+use mathlib.Core.Path.{_≡_, sym, ap, ap₂, _∙_, subst, subst₂}
 use mathlib.Core.Logic.{_≢_, _⊎_, inl, inr}
-use Prim.Native.Nat.{ℕ, zero, suc, _+_, _-_, _*_, _/_, _%_, _^_, _≤_, _<_, zero-le, min}
-use native.Mathlib.Nat.{le-refl, not-suc-le-zero, le-trans, mod-lt, eq-zero-or-pos}
-use native.Mathlib.Decide.{ℕ-discrete, decLt}
+use Prim.Native.Nat.{ℕ, zero, suc, _+_, _-_, _*_, _/_, _%_, _≤_, _<_}
+use native.Mathlib.Nat.{not-suc-le-zero}
 use native.Mathlib.Omega.{arith}
 use Rattle.sums.specs.Search.{pick, pick-yes}
-use Rattle.sums.specs.Sum.{sum, is, is-same, is-other, sum-at, sum-at₂, sum-ext, sum-change}
-use Rattle.book.specs.Bits.{bitFile, bitPages, bitPage, bit, digit}
-use Rattle.book.specs.Entries.{Table, entry, userFile, objectFile, user, object, used, given, usedPages, grant}
+use Rattle.book.specs.Entries.{entry, userFile, objectFile, user, object, used, given, usedPages, grant}
 use Rattle.book.specs.Files.{fileAt, Shape, FileShape}
 use Rattle.book.specs.Grow.{finish}
-use Rattle.book.specs.Holders.{hit, some, all, system, mine}
-use Rattle.book.specs.Pointers.{slot, flags, page, pointer}
+use Rattle.book.specs.Holders.{hit, some, all}
+use Rattle.book.specs.Pointers.{flags, page, pointer}
 use Rattle.book.specs.Rules.{UserOk, FileOk, Rule4, Rule5, Rule5By, Rule6, Rule10}
 use Rattle.book.specs.Trees.{Root, tree, run, weighR, blocksR, pageAt, rootAt, rootBy}
 use Rattle.book.specs.Words.{Vol, two, word, put2}
 use Rattle.book.specs.Written.{word-pos, word-ext, put2-hi, put2-lo, put2-page, put2-word}
 use Rattle.laws.specs.Calm.{Shape-frame}
-use Rattle.laws.specs.Count.{Good, Most, bit-le, Within, sound-within, BelowR}
+use Rattle.laws.specs.Count.{Good, bit-le, sound-within}
 use Rattle.laws.specs.Edit.{Outside, Change, obj-page, user-page, user-at, obj-at, entries, edit-good, edit-mine, Fine}
-use Rattle.laws.specs.Frame.{pageAt-le, pageAt-le₂, pageAt-below, pageAt-frame, weighR-frame, Roots, bits-root, users-root, objs-root, blocksR-le}
-use Rattle.laws.specs.Part.{rest, all-rest, file-le, weighR-add, blocksR-add}
-use Rattle.laws.specs.Rules.{Entries, UserNew, FileNew, used-ext, used-same, obj-used-same}
-use Rattle.laws.specs.Tree.{Agree, some-zero, two-ext, hit-zero, hit-same, hit-le, hit-other}
+use Rattle.laws.specs.Frame.{pageAt-le, pageAt-below, pageAt-frame, weighR-frame, blocksR-le}
+use Rattle.laws.specs.Part.{rest, all-rest, file-le, weighR-add}
+use Rattle.laws.specs.Rules.{Entries, used-ext, used-same, obj-used-same}
+use Rattle.laws.specs.Tree.{Agree, some-zero, two-ext, hit-zero, hit-same}
 use Rattle.laws.specs.Names.{Legal-ext, SameName-ext, SameFile-ext}
 
 module _ (v : Vol) (U O a e n ptr x : ℕ) (apart : U ≢ O) where

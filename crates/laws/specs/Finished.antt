@@ -1,8 +1,6 @@
 -- The entries of a file and of its owner are written: all that is then known. Assumes nothing.
-use mathlib.Core.Path.{_≡_, refl, sym, ap, _∙_, subst}
-use mathlib.Core.Logic.{_≢_}
-use Prim.Native.Nat.{ℕ, zero, suc, _+_, _*_, _/_, _≤_, _<_}
-use native.Mathlib.Omega.{arith}
+use mathlib.Core.Path.{_≡_, ap, _∙_}
+use Prim.Native.Nat.{ℕ, _+_, _*_, _/_, _≤_, _<_}
 use Rattle.book.specs.Entries.{userFile, objectFile, user, object, used, usedPages}
 use Rattle.book.specs.Files.{fileAt}
 use Rattle.book.specs.Grow.{finish}

@@ -1,29 +1,28 @@
 -- Growing a file by one page leaves a sound volume sound, and has the pages it needs. Assumes nothing.
-use mathlib.Core.Path.{_≡_, refl, sym, ap, ap₂, _∙_, subst, subst₂, subst₃}
-use mathlib.Core.Logic.{_≢_, _⊎_, inl, inr}
-use Prim.Native.Nat.{ℕ, zero, suc, _+_, _-_, _*_, _/_, _%_, _^_, _≤_, _<_, zero-le, min}
-use native.Mathlib.Nat.{le-refl, not-suc-le-zero, le-trans, mod-lt, eq-zero-or-pos, pow-suc, mul-comm, mul-le-mul-right}
-use native.Mathlib.Decide.{ℕ-discrete, decLt}
+use mathlib.Core.Path.{_≡_, refl, sym, ap, _∙_, subst}
+use Prim.Native.Nat.{ℕ, zero, suc, _+_, _-_, _*_, _/_, _%_, _^_, _≤_, _<_, min}
+use native.Mathlib.Nat.{pow-suc, mul-comm, mul-le-mul-right}
+use native.Mathlib.Decide.{ℕ-discrete}
 use native.Mathlib.Omega.{arith}
-use Rattle.sums.specs.Sum.{sum, is, is-same, is-other, sum-le, sum-const}
+use Rattle.sums.specs.Sum.{is, is-same, sum-le, sum-const}
 use Rattle.book.specs.Bits.{bit, claim}
-use Rattle.book.specs.Entries.{Table, userFile, objectFile, user, object, used, given, usedPages}
-use Rattle.book.specs.Files.{fileAt, Shape, FileShape, need}
-use Rattle.book.specs.Grow.{finish, Phase, first, onward, raise, block, phaseBy, indexOf, taken₁, taken₂, taken₃, entered, growTo, grow}
-use Rattle.book.specs.Holders.{hit, some, all}
+use Rattle.book.specs.Entries.{Table, user, object, used, given, usedPages}
+use Rattle.book.specs.Files.{fileAt, Shape, need}
+use Rattle.book.specs.Grow.{first, onward, raise, block, phaseBy, indexOf, entered, growTo, grow}
+use Rattle.book.specs.Holders.{hit, some}
 use Rattle.book.specs.Pointers.{slot, flags, page, pointer, setSlot}
-use Rattle.book.specs.Rules.{Rule6, Rule7, Sound}
-use Rattle.book.specs.Trees.{Root, weigh, weighR, pageAt, rootBy, Fill, Below}
+use Rattle.book.specs.Rules.{Rule6, Sound}
+use Rattle.book.specs.Trees.{Root, weigh, weighR, pageAt, rootBy, Fill}
 use Rattle.book.specs.Words.{Vol, two, word}
 use Rattle.laws.specs.Cases.{Grew, caseA, caseB, caseC, caseD, caseE, root-is, shape-is}
 use Rattle.laws.specs.Claim.{claim-good, claim-user, claim-obj, claim-keeps, claim-zero, claim-free, free-pos}
-use Rattle.laws.specs.Count.{Good, Most, good, sound, free, free-count, room}
+use Rattle.laws.specs.Count.{Good, good, sound, free, free-count, room}
 use Rattle.laws.specs.Kinds.{kind-empty, kind-low, kind-high}
 use Rattle.laws.specs.Longer.{Longer, longer-still}
 use Rattle.laws.specs.Part.{all-rest, file-le, rest}
 use Rattle.laws.specs.Marks.{claim-still}
 use Rattle.laws.specs.Leave.{Still, still-trans, still-beside, beside-trans}
-use Rattle.laws.specs.Tree.{hit-same, some-pos, slot-same, slot-zero, pow-pos, two-ext}
+use Rattle.laws.specs.Tree.{hit-same, some-pos, slot-same}
 
 -- ---- a full tree has as many pages
 

@@ -1,14 +1,14 @@
 -- What a step leaves: all that entries and trees say (Still), or all but one file and its owner's used count (Beside). Assumes nothing.
-use mathlib.Core.Path.{_≡_, refl, sym, ap, ap₂, _∙_, subst}
+use mathlib.Core.Path.{_≡_, refl, sym, ap, _∙_}
 use mathlib.Core.Logic.{_≢_}
-use Prim.Native.Nat.{ℕ, zero, suc, _+_, _*_, _/_, _%_, _≤_, _<_}
+use Prim.Native.Nat.{ℕ, _+_, _/_, _<_}
 use native.Mathlib.Omega.{arith}
 use Rattle.book.specs.Bits.{bitFile, bitPage, bit}
 use Rattle.book.specs.Entries.{Table, userFile, objectFile, user, object, userPage, objectPage, used, given, unreserved}
 use Rattle.book.specs.Files.{fileAt}
 use Rattle.book.specs.Holders.{hit, all}
 use Rattle.book.specs.Trees.{Root, weighR, blocksR, pageAt}
-use Rattle.book.specs.Words.{Vol, two}
+use Rattle.book.specs.Words.{Vol}
 use Rattle.laws.specs.Count.{Good}
 use Rattle.laws.specs.Frame.{Roots, users-root, objs-root, bits-root, pageAt-frame, weighR-frame, blocksR-le}
 use Rattle.laws.specs.Part.{rest, all-rest, q-entry, user-calm, obj-calm, file-calm, page-calm, all-calm}

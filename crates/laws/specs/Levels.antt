@@ -1,11 +1,11 @@
 -- Pages and blocks of a tree of one and of two levels by slots; the pages that the last position of a file needs. Assumes nothing.
-use mathlib.Core.Path.{_≡_, refl, sym, ap, ap₂, _∙_, subst}
+use mathlib.Core.Path.{_≡_, refl, sym, ap, _∙_}
 use mathlib.Core.Logic.{_≢_}
 use Prim.Native.Nat.{ℕ, zero, suc, _+_, _-_, _*_, _/_, _%_, _^_, _≤_, _<_, min}
 use native.Mathlib.Nat.{div-one, mod-lt, div-add-mod'}
 use native.Mathlib.Decide.{decLt}
 use native.Mathlib.Omega.{arith}
-use Rattle.sums.specs.Sum.{sum, is, is-same, is-other, sum-le}
+use Rattle.sums.specs.Sum.{is, is-same, is-other, sum-le}
 use Rattle.book.specs.Files.{Shape, need}
 use Rattle.book.specs.Pointers.{slot}
 use Rattle.book.specs.Trees.{Root, tree, run, blocks, blocksR, leaf, upto, pageAt, indexAt, subindexOf, rootBy, Fill}

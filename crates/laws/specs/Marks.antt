@@ -1,13 +1,12 @@
 -- Marking pages, one or all, and taking one: no entry and no tree changes. Assumes nothing.
 use mathlib.Core.Path.{_≡_, refl, sym, ap, _∙_, subst}
 use mathlib.Core.Logic.{_≢_}
-use Prim.Native.Nat.{ℕ, zero, suc, _+_, _-_, _*_, _/_, _%_, _≤_, _<_}
+use Prim.Native.Nat.{ℕ, zero, suc, _+_, _≤_, _<_}
 use native.Mathlib.Nat.{not-suc-le-zero}
-use native.Mathlib.Decide.{ℕ-discrete, decLt}
+use native.Mathlib.Decide.{ℕ-discrete}
 use native.Mathlib.Omega.{arith}
-use Rattle.sums.specs.Sum.{is}
 use Rattle.book.specs.Bits.{bitPage, bit, mark, markAll, claim}
-use Rattle.book.specs.Holders.{hit, all}
+use Rattle.book.specs.Holders.{hit}
 use Rattle.book.specs.Rules.{Rule1}
 use Rattle.book.specs.Words.{Vol}
 use Rattle.laws.specs.Claim.{claim-agree, claim-quiet, claim-none, claim-master, bitPage-rest}

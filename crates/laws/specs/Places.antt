@@ -1,7 +1,7 @@
 -- Places: the words of a volume that a step may change, and that it leaves all others. Assumes nothing.
 use mathlib.Core.Path.{_≡_, _∙_}
 use mathlib.Core.Logic.{_⊎_, inl, inr}
-use Prim.Native.Nat.{ℕ, suc, _+_, _*_, _%_, _≤_, _<_}
+use Prim.Native.Nat.{ℕ, _+_, _≤_, _<_}
 use native.Mathlib.Decide.{ℕ-discrete, decLt}
 use native.Mathlib.Omega.{arith}
 use Rattle.book.specs.Entries.{entryWord}
@@ -15,6 +15,10 @@ Places = ℕ → ℕ → Type 0
 -- page q
 abbrev pub PageOf : ℕ → Places
 PageOf q p k = p ≡ q
+
+-- the n pages from s on
+abbrev pub RunOf : ℕ → ℕ → Places
+RunOf s n p k = (s ≤ p) × (p < s + n)
 
 -- the n words from j on of page q
 abbrev pub WordsOf : ℕ → ℕ → ℕ → Places

@@ -1,25 +1,24 @@
 -- A file grown and shrunk again: the volume says what it said before. Assumes nothing.
-use mathlib.Core.Path.{_≡_, refl, sym, ap, _∙_, subst, subst₂}
-use mathlib.Core.Logic.{_≢_}
+use mathlib.Core.Path.{_≡_, sym, ap, _∙_, subst}
 use mathlib.Core.List.{List}
-use Prim.Native.Nat.{ℕ, zero, suc, _+_, _-_, _*_, _/_, _≤_, _<_}
+use Prim.Native.Nat.{ℕ, _-_, _/_, _≤_, _<_}
 use native.Mathlib.Decide.{ℕ-discrete, decLt}
 use native.Mathlib.Omega.{arith}
 use Rattle.book.specs.Answers.{Numbers}
 use Rattle.book.specs.Bits.{bit}
 use Rattle.book.specs.Calls.{growCall, shrinkCall}
 use Rattle.book.specs.Entries.{user, object, used, usedPages, unreserved, pageCount, fileEntry}
-use Rattle.book.specs.Files.{fileAt, Shape, FileShape, need}
+use Rattle.book.specs.Files.{fileAt, FileShape}
 use Rattle.book.specs.Holders.{hit}
 use Rattle.book.specs.Image.{pages}
-use Rattle.book.specs.Outcome.{Outcome, DoneAs, call, asking, judged}
+use Rattle.book.specs.Outcome.{Outcome, call, asking, judged}
 use Rattle.book.specs.Pointers.{flags, page}
 use Rattle.book.specs.Rows.{Clear}
 use Rattle.book.specs.Rules.{Rule7, Sound}
-use Rattle.book.specs.Trees.{Root, weighR, pageAt, rootAt, rootBy}
-use Rattle.book.specs.Words.{Vol, two, vol}
+use Rattle.book.specs.Trees.{Root, pageAt, rootAt}
+use Rattle.book.specs.Words.{Vol, vol}
 use Rattle.laws.specs.Cases.{Grew}
-use Rattle.laws.specs.Count.{Good, Most, good}
+use Rattle.laws.specs.Count.{Most, good}
 use Rattle.laws.specs.Finish.{file-used}
 use Rattle.laws.specs.GrowCall.{grow-done, grow-count, grew-call}
 use Rattle.laws.specs.Leave.{Beside, beside-trans, beside-bits, places-unreserved}

@@ -1,12 +1,11 @@
 -- Shrinking a file by one page leaves a sound volume sound, and gives back the pages of its last position. Assumes nothing.
-use mathlib.Core.Path.{_≡_, refl, sym, ap, ap₂, _∙_, subst, subst₂}
-use mathlib.Core.Logic.{_≢_}
+use mathlib.Core.Path.{_≡_, refl, sym, subst}
 use Prim.Native.Nat.{ℕ, zero, suc, _+_, _-_, _*_, _/_, _%_, _≤_, _<_}
 use native.Mathlib.Omega.{arith}
 use Rattle.book.specs.Bits.{mark}
 use Rattle.book.specs.Entries.{user, object, used, usedPages}
 use Rattle.book.specs.Files.{Shape}
-use Rattle.book.specs.Grow.{Phase, first, onward, raise, block, phaseBy, indexOf, entered}
+use Rattle.book.specs.Grow.{first, onward, raise, block, phaseBy, indexOf, entered}
 use Rattle.book.specs.Holders.{hit}
 use Rattle.book.specs.Pointers.{slot, flags, page, pointer, setSlot}
 use Rattle.book.specs.Rules.{Sound}

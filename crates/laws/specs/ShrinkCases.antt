@@ -1,9 +1,8 @@
 -- The five ways in which a file loses its last page, up to giving the pages back. Assumes nothing.
 use mathlib.Core.Path.{_≡_, refl, sym, ap, ap₂, _∙_, subst, subst₂}
-use mathlib.Core.Logic.{_≢_, _⊎_, inl, inr}
-use Prim.Native.Nat.{ℕ, zero, suc, _+_, _-_, _*_, _/_, _%_, _≤_, _<_}
+use mathlib.Core.Logic.{_≢_, inl}
+use Prim.Native.Nat.{ℕ, suc, _+_, _-_, _*_, _/_, _%_, _≤_, _<_}
 use native.Mathlib.Nat.{mod-lt}
-use native.Mathlib.Decide.{ℕ-discrete}
 use native.Mathlib.Omega.{arith}
 use Rattle.sums.specs.Sum.{sum, sum-zero, sum-none, sum-at, sum-at₂, sum-only₂}
 use Rattle.book.specs.Entries.{userFile, objectFile, user, object, used, given, usedPages}
@@ -13,7 +12,7 @@ use Rattle.book.specs.Holders.{hit, some, all, mine}
 use Rattle.book.specs.Pointers.{slot, flags, page, pointer, setSlot}
 use Rattle.book.specs.Rules.{Rule4, Rule10}
 use Rattle.book.specs.Trees.{Root, tree, weigh, blocks, weighR, pageAt, indexAt, subindexOf, upto, rootBy, Fill, Below}
-use Rattle.book.specs.Words.{Vol, two, word}
+use Rattle.book.specs.Words.{Vol, two}
 use Rattle.book.specs.Written.{word-ext}
 use Rattle.laws.specs.Cases.{own, root-is, shape-is}
 use Rattle.laws.specs.Count.{Good}
