@@ -11,16 +11,17 @@ use Rattle.book.specs.Pointers.{slot}
 use Rattle.book.specs.Trees.{Root, tree, run, blocks, blocksR, leaf, upto, pageAt, indexAt, subindexOf, rootBy, Fill}
 use Rattle.book.specs.Words.{Vol}
 use Rattle.laws.specs.Frame.{upto-in, upto-out, pageAt-frame}
+use Rattle.laws.specs.Positions.{root-one, root-two}
 use Rattle.laws.specs.Tree.{Agree, pow-pos, slot-lt}
 
 module _ (v : Vol) (t : ℕ) where
   pub page-1 : (m : ℕ) → m < 512 → pageAt v (tree 1 t) m ≡ slot v t m
-  unfolding pageAt leaf
-  page-1 m h = upto-in m 512 (slot v t (m / 1)) h ∙ ap (slot v t) (div-one m)
+  unfolding rootBy
+  page-1 m h = root-one v 1 t 0 m refl h
 
   pub page-2 : (m : ℕ) → m < 262144 → pageAt v (tree 2 t) m ≡ slot v (slot v t (m / 512)) (m % 512)
-  unfolding pageAt leaf
-  page-2 m h = upto-in m 262144 (slot v (slot v t (m / 512)) (m % 512 / 1)) h ∙ ap (slot v (slot v t (m / 512))) (div-one (m % 512))
+  unfolding rootBy
+  page-2 m h = root-two v 2 t 0 m refl h
 
   pub index-1 : indexAt v (tree 1 t) 0 ≡ t
   unfolding indexAt leaf

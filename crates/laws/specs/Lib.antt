@@ -60,3 +60,4 @@ pub mod DeleteFileCall
 pub mod Return
 pub mod Counts
 pub mod Space
+pub mod Around

@@ -1,5 +1,6 @@
 -- Shrinking a file by one page leaves a sound volume sound, and gives back the pages of its last position. Assumes nothing.
-use mathlib.Core.Path.{_≡_, refl, sym, subst}
+use mathlib.Core.Path.{_≡_, refl, sym, subst, _∙_}
+use mathlib.Core.Logic.{inl}
 use Prim.Native.Nat.{ℕ, zero, suc, _+_, _-_, _*_, _/_, _%_, _≤_, _<_}
 use native.Mathlib.Omega.{arith}
 use Rattle.book.specs.Bits.{mark}
@@ -11,22 +12,25 @@ use Rattle.book.specs.Pointers.{slot, flags, page, pointer, setSlot}
 use Rattle.book.specs.Rules.{Sound}
 use Rattle.book.specs.Shrink.{shrinkTo, shrink}
 use Rattle.book.specs.Words.{Vol, two}
+use Rattle.laws.specs.Around.{Around, only-trans, only-mark}
 use Rattle.laws.specs.Cases.{shape-is, hit-sym}
 use Rattle.laws.specs.Count.{Good, good, sound}
 use Rattle.laws.specs.Kinds.{kind-low, kind-high}
-use Rattle.laws.specs.Leave.{Still, still-sym, still-beside, beside-trans}
+use Rattle.laws.specs.Leave.{Still, still-sym, still-beside, beside-trans, bitPage-same}
 use Rattle.laws.specs.Longer.{longer-still}
 use Rattle.laws.specs.Marks.{alone, mark-still}
 use Rattle.laws.specs.Release.{release-good}
 use Rattle.laws.specs.ShrinkCases.{Lost, Real, shrinkA, shrinkB, shrinkC, shrinkD, shrinkE}
 
 -- one of the pages in hand is given back
-pub lost-release : (P : ℕ) (v w : Vol) (a e n : ℕ) (hand hand′ : ℕ → ℕ) (d : ℕ) → e < 65536 → Lost P v w a e n hand → Real P d
+pub lost-release : (P : ℕ) (v w : Vol) (a e n : ℕ) (hand hand′ : ℕ → ℕ) (d : ℕ) → e < 65536 → Lost P v w a e n hand → Real P v e n d
     → ((p : ℕ) → hand′ p + hit p d ≡ hand p) → Lost P v (mark P w d 0) a e n hand′
 lost-release P v w a e n hand hand′ d he L r h = record {
   good = release-good P w hand hand′ (L .good) d (r .1) (r .0) (λ p i. omega (arith, h p, hit-sym p d));
   longer = longer-still P (mark P w d 0) w v a e n he (still-sym P w (mark P w d 0) S) (L .longer);
   beside = beside-trans P v w (mark P w d 0) a e (L .beside) (still-beside P w (mark P w d 0) a e he S);
+  words = only-trans (Around P v a e n) v w (mark P w d 0) (L .words)
+      (only-mark (Around P v a e n) P w d 0 (λ p j i. inl (d, r .2, (i .0 ∙ bitPage-same P v w (L .beside .places) d, i .1, i .2))));
 }
   where
     S : Still P w (mark P w d 0)

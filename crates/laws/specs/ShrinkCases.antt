@@ -1,6 +1,6 @@
 -- The five ways in which a file loses its last page, up to giving the pages back. Assumes nothing.
 use mathlib.Core.Path.{_≡_, refl, sym, ap, ap₂, _∙_, subst, subst₂}
-use mathlib.Core.Logic.{_≢_, inl}
+use mathlib.Core.Logic.{_≢_, inl, inr}
 use Prim.Native.Nat.{ℕ, suc, _+_, _-_, _*_, _/_, _%_, _≤_, _<_}
 use native.Mathlib.Nat.{mod-lt}
 use native.Mathlib.Omega.{arith}
@@ -14,6 +14,7 @@ use Rattle.book.specs.Rules.{Rule4, Rule10}
 use Rattle.book.specs.Trees.{Root, tree, weigh, blocks, weighR, pageAt, indexAt, subindexOf, upto, rootBy, Fill, Below}
 use Rattle.book.specs.Words.{Vol, two}
 use Rattle.book.specs.Written.{word-ext}
+use Rattle.laws.specs.Around.{Around, Needs, SlotOf, only-trans, only-slot}
 use Rattle.laws.specs.Cases.{own, root-is, shape-is}
 use Rattle.laws.specs.Count.{Good}
 use Rattle.laws.specs.Edit.{weighR-nobody}
@@ -23,6 +24,7 @@ use Rattle.laws.specs.Grown.{slot-here, slot-other, setSlot-page, setSlo
 use Rattle.laws.specs.Leave.{Beside}
 use Rattle.laws.specs.Levels.{last, last-mid, last-block, last-raise, need-mid, need-block, need-raise, page-1, page-2, index-1, index-2}
 use Rattle.laws.specs.Longer.{Longer}
+use Rattle.laws.specs.Places.{OnlyAt, only-wider}
 use Rattle.laws.specs.Shrunk.{Shrunk, shrunk-page, shrunk-block, shrunk-up, shrunk-leaf, all-zero}
 use Rattle.laws.specs.Tree.{Agree, hit-zero, hit-same, some-pos, some-zero, slot-same, weigh-none}
 
@@ -31,16 +33,17 @@ pub record Lost (P : ℕ) (v v′ : Vol) (a e n : ℕ) (hand : ℕ → ℕ) : Ty
   pub good : Good P v′ hand
   pub longer : Longer v′ v a e n
   pub beside : Beside P v v′ a e
+  pub words : OnlyAt (Around P v a e n) v v′
 
--- a page that can be given back
-abbrev pub Real : ℕ → ℕ → Type 0
-Real P d = (0 < d) × (d < P)
+-- a page that can be given back: the last position alone needs it
+abbrev pub Real : ℕ → Vol → ℕ → ℕ → ℕ → Type 0
+Real P v e n d = (0 < d) × (d < P) × Needs v (fileAt v e) n d
 
 -- from what is known of its blocks
 lost : (P : ℕ) (v v₂ v₃ : Vol) (a e n x t y : ℕ) (gone : (ℕ → ℕ) → ℕ) (hand : ℕ → ℕ) → Finished P v v₂ v₃ a e n x t y gone (λ g. 0) hand → two (object v e) 26 ≡ suc n
     → y + need n ≡ usedPages (user v) a → ((m : ℕ) → m < n → pageAt v₂ (rootBy x t n) m ≡ pageAt v (fileAt v e) m)
-    → ((g : ℕ → ℕ) → last v (fileAt v e) n g ≡ gone g) → Lost P v v₃ a e n hand
-lost P v v₂ v₃ a e n x t y gone hand F i k old l = record {
+    → ((g : ℕ → ℕ) → last v (fileAt v e) n g ≡ gone g) → OnlyAt (SlotOf v (fileAt v e) n) v v₂ → Lost P v v₃ a e n hand
+lost P v v₂ v₃ a e n x t y gone hand F i k old l o = record {
   good = F .good;
   longer = record {
     count = F .count;
@@ -51,6 +54,7 @@ lost P v v₂ v₃ a e n x t y gone hand F i k old l = record {
     weight = λ g g0. omega (arith, F .weight g g0, l g);
   };
   beside = F .beside;
+  words = only-trans (Around P v a e n) v v₂ v₃ (only-wider _ _ v v₂ (λ p j h. inr (inl h)) o) (only-wider _ _ v₂ v₃ (λ p j h. inr (inr h)) (F .words));
 }
 
 module _ (P : ℕ) (v : Vol) (G : Good P v (λ p. 0)) (pos : 0 < P) (big : P ≤ 1073741824) (a f : ℕ) (ha : a < 256) (hf : f < 256) (uf : 0 < used (object v (256 * a + f))) where
@@ -87,7 +91,7 @@ module _ (P : ℕ) (v : Vol) (G : Good P v (λ p. 0)) (pos : 0 < P) (big : P ≤
     abbrev d : ℕ
     d = slot v t m
 
-    pub shrinkB : Lost P v (finish (setSlot v t m 0) U O a e m (pointer 1 t) (usedPages (user v) a - 1)) a e m (λ p. hit p d) × Real P d
+    pub shrinkB : Lost P v (finish (setSlot v t m 0) U O a e m (pointer 1 t) (usedPages (user v) a - 1)) a e m (λ p. hit p d) × Real P v e m d
     unfolding Shape rootBy weighR Fill Below weigh pageAt
     shrinkB = (
       lost P v v₂ _ a e m 1 t _ (λ g. g d) (λ p. hit p d)
@@ -100,8 +104,9 @@ module _ (P : ℕ) (v : Vol) (G : Good P v (λ p. 0)) (pos : 0 < P) (big : P ≤
             count = omega (arith, sd, one);
             within = omega (arith, within);
           }) nm (omega (arith, one, need-mid m mid))
-          (λ i h. ap (upto i 512) (W .old i h) ∙ sym (at i)) (λ g. last-mid v (fileAt v e) m g mid ∙ ap g (at m ∙ page-1 v t m lt)),
-      (F .2 m lt .0 (omega arith), S .3 .1 m lt),
+          (λ i h. ap (upto i 512) (W .old i h) ∙ sym (at i)) lastly
+          (only-slot _ v t m 0 (λ p j h. inl (mid, (h .0 ∙ sym ix, omega (arith, h .1, lt), omega (arith, h .2, lt))))),
+      (pd, S .3 .1 m lt, omega (arith, lastly (hit d), hit-same d pd)),
     )
       where
         S : Shape P v 1 t n
@@ -122,8 +127,11 @@ module _ (P : ℕ) (v : Vol) (G : Good P v (λ p. 0)) (pos : 0 < P) (big : P ≤
         W : Shrunk P v v₂ 1 t t m (λ g. g d)
         W = shrunk-leaf P v t m pos pt pm lt F (S .3)
 
+        pd : 0 < d
+        pd = F .2 m lt .0 (omega arith)
+
         sd : some d ≡ 1
-        sd = some-pos d (F .2 m lt .0 (omega arith))
+        sd = some-pos d pd
 
         one : 1 ≤ usedPages (user v) a
         one = paid 1 (omega (arith, ap (λ (r : Root). weighR v r some) (root-is P v (λ p. 0) G pos big a f ha hf uf 1 fl), some-pos t pt))
@@ -142,12 +150,18 @@ module _ (P : ℕ) (v : Vol) (G : Good P v (λ p. 0)) (pos : 0 < P) (big : P ≤
         at : (i : ℕ) → pageAt v (fileAt v e) i ≡ pageAt v (tree 1 t) i
         at i = ap (λ (r : Root). pageAt v r i) (root-is P v (λ p. 0) G pos big a f ha hf uf 1 fl)
 
+        ix : indexAt v (fileAt v e) (m / 512) ≡ t
+        ix = ap₂ (λ (r : Root) (i : ℕ). indexAt v r i) (root-is P v (λ p. 0) G pos big a f ha hf uf 1 fl) (let q : m / 512 ≡ 0 = omega (arith, lt) in q) ∙ index-1 v t
+
+        lastly : (g : ℕ → ℕ) → last v (fileAt v e) m g ≡ g d
+        lastly g = last-mid v (fileAt v e) m g mid ∙ ap g (at m ∙ page-1 v t m lt)
+
   -- ---- the only page of a file: the index block goes too
   module _ (n1 : n ≡ 1) (fl : flags (object v e) 30 ≡ 1) where
     abbrev d₁ : ℕ
     d₁ = slot v t 0
 
-    pub shrinkA : Lost P v (finish v U O a e 0 (pointer 0 0) (usedPages (user v) a - 2)) a e 0 (λ p. hit p t + hit p d₁) × Real P t × Real P d₁
+    pub shrinkA : Lost P v (finish v U O a e 0 (pointer 0 0) (usedPages (user v) a - 2)) a e 0 (λ p. hit p t + hit p d₁) × Real P v e 0 t × Real P v e 0 d₁
     unfolding Shape rootBy weighR Fill Below weigh Agree
     shrinkA = (
       lost P v v _ a e 0 0 0 _ (λ g. g t + g d₁) (λ p. hit p t + hit p d₁)
@@ -160,9 +174,9 @@ module _ (P : ℕ) (v : Vol) (G : Good P v (λ p. 0)) (pos : 0 < P) (big : P ≤
             count = omega (arith, some-pos t pt, some-pos d₁ pd, two′);
             within = omega (arith, within);
           }) n1 (omega (arith, two′, need-block 0 refl (omega arith)))
-          (λ i h. absurd (let r : ⊥ = omega arith in r)) (λ g. omega (arith, last-block v (fileAt v e) 0 g refl (omega arith), ap g (at ∙ page-1 v t 0 (omega arith)), ap g (ix ∙ index-1 v t))),
-      (pt, S .3 .0),
-      (pd, S .3 .1 0 (omega arith)),
+          (λ i h. absurd (let r : ⊥ = omega arith in r)) lastly (λ p k h. refl),
+      (pt, S .3 .0, omega (arith, lastly (hit t), hit-same t pt)),
+      (pd, S .3 .1 0 (omega arith), omega (arith, lastly (hit d₁), hit-same d₁ pd)),
     )
       where
         S : Shape P v 1 t n
@@ -195,6 +209,9 @@ module _ (P : ℕ) (v : Vol) (G : Good P v (λ p. 0)) (pos : 0 < P) (big : P ≤
         ix : indexAt v (fileAt v e) 0 ≡ indexAt v (tree 1 t) 0
         ix = ap (λ (r : Root). indexAt v r 0) (root-is P v (λ p. 0) G pos big a f ha hf uf 1 fl)
 
+        lastly : (g : ℕ → ℕ) → last v (fileAt v e) 0 g ≡ g t + g d₁
+        lastly g = omega (arith, last-block v (fileAt v e) 0 g refl (omega arith), ap g (at ∙ page-1 v t 0 (omega arith)), ap g (ix ∙ index-1 v t))
+
   -- ---- under the subindex: within index block m / 512
   module _ (m : ℕ) (nm : n ≡ suc m) (hi : 512 < m) (mid : 0 < m % 512) (fl : flags (object v e) 30 ≡ 2) where
     abbrev X : ℕ
@@ -203,7 +220,7 @@ module _ (P : ℕ) (v : Vol) (G : Good P v (λ p. 0)) (pos : 0 < P) (big : P ≤
     abbrev d₂ : ℕ
     d₂ = slot v X (m % 512)
 
-    pub shrinkD : Lost P v (finish (setSlot v X (m % 512) 0) U O a e m (pointer 2 t) (usedPages (user v) a - 1)) a e m (λ p. hit p d₂) × Real P d₂
+    pub shrinkD : Lost P v (finish (setSlot v X (m % 512) 0) U O a e m (pointer 2 t) (usedPages (user v) a - 1)) a e m (λ p. hit p d₂) × Real P v e m d₂
     unfolding Shape rootBy weighR Fill Below weigh blocks pageAt
     shrinkD = (
       lost P v v₂ _ a e m 2 t _ (λ g. g d₂) (λ p. hit p d₂)
@@ -216,8 +233,9 @@ module _ (P : ℕ) (v : Vol) (G : Good P v (λ p. 0)) (pos : 0 < P) (big : P ≤
             count = omega (arith, sd, one′);
             within = omega (arith, within);
           }) nm (omega (arith, one′, need-mid m mid))
-          (λ i h. ap (upto i 262144) (W .old i h) ∙ sym (pg i)) (λ g. last-mid v (fileAt v e) m g mid ∙ ap g (pg m ∙ page-2 v t m lt)),
-      (FX .2 (m % 512) (mod-lt m (omega arith)) .0 (omega arith), BX .1 (m % 512) (mod-lt m (omega arith))),
+          (λ i h. ap (upto i 262144) (W .old i h) ∙ sym (pg i)) lastly
+          (only-slot _ v X (m % 512) 0 (λ p j h. inl (mid, (h .0 ∙ sym ix, h .1, h .2)))),
+      (pd, BX .1 (m % 512) (mod-lt m (omega arith)), omega (arith, lastly (hit d₂), hit-same d₂ pd)),
     )
       where
         S : Shape P v 2 t n
@@ -262,8 +280,11 @@ module _ (P : ℕ) (v : Vol) (G : Good P v (λ p. 0)) (pos : 0 < P) (big : P ≤
         tX : t ≢ X
         tX q = omega (arith, one, whole (hit X), at, sum-at 512 child (m / 512) i, subst (λ (y : ℕ). hit X y ≡ 1) (sym q) (hit-same X pX))
 
+        pd : 0 < d₂
+        pd = FX .2 (m % 512) (mod-lt m (omega arith)) .0 (omega arith)
+
         sd : some d₂ ≡ 1
-        sd = some-pos d₂ (FX .2 (m % 512) (mod-lt m (omega arith)) .0 (omega arith))
+        sd = some-pos d₂ pd
 
         one′ : 1 ≤ usedPages (user v) a
         one′ = paid 1 (omega (arith, whole some, some-pos t pt))
@@ -282,6 +303,12 @@ module _ (P : ℕ) (v : Vol) (G : Good P v (λ p. 0)) (pos : 0 < P) (big : P ≤
         pg : (i : ℕ) → pageAt v (fileAt v e) i ≡ pageAt v (tree 2 t) i
         pg i = ap (λ (r : Root). pageAt v r i) (root-is P v (λ p. 0) G pos big a f ha hf uf 2 fl)
 
+        ix : indexAt v (fileAt v e) (m / 512) ≡ X
+        ix = ap (λ (r : Root). indexAt v r (m / 512)) (root-is P v (λ p. 0) G pos big a f ha hf uf 2 fl) ∙ index-2 v t (m / 512) i
+
+        lastly : (g : ℕ → ℕ) → last v (fileAt v e) m g ≡ g d₂
+        lastly g = last-mid v (fileAt v e) m g mid ∙ ap g (pg m ∙ page-2 v t m lt)
+
   -- ---- under the subindex: the last index block had one page
   module _ (m : ℕ) (nm : n ≡ suc m) (hi : 512 < m) (start : m % 512 ≡ 0) (fl : flags (object v e) 30 ≡ 2) where
     abbrev b₃ : ℕ
@@ -290,8 +317,8 @@ module _ (P : ℕ) (v : Vol) (G : Good P v (λ p. 0)) (pos : 0 < P) (big : P ≤
     abbrev d₃ : ℕ
     d₃ = slot v b₃ 0
 
-    pub shrinkE : Lost P v (finish (setSlot v t (m / 512) 0) U O a e m (pointer 2 t) (usedPages (user v) a - 2)) a e m (λ p. hit p b₃ + hit p d₃) × Real P b₃ × Real P d₃
-    unfolding Shape rootBy weighR Fill Below weigh blocks pageAt
+    pub shrinkE : Lost P v (finish (setSlot v t (m / 512) 0) U O a e m (pointer 2 t) (usedPages (user v) a - 2)) a e m (λ p. hit p b₃ + hit p d₃) × Real P v e m b₃ × Real P v e m d₃
+    unfolding Shape rootBy weighR Fill Below weigh blocks pageAt subindexOf
     shrinkE = (
       lost P v v₂ _ a e m 2 t _ (λ g. g b₃ + g d₃) (λ p. hit p b₃ + hit p d₃)
           (finished P v (λ p. 0) G pos big a f ha hf uf (hit t) v₂ K m 2 t (usedPages (user v) a - 2) (λ g. g b₃ + g d₃) (λ g. 0) (λ p. hit p b₃ + hit p d₃) record {
@@ -304,9 +331,10 @@ module _ (P : ℕ) (v : Vol) (G : Good P v (λ p. 0)) (pos : 0 < P) (big : P ≤
             within = omega (arith, within);
           }) nm (omega (arith, two′, need-block m start (omega arith)))
           (λ i h. ap (upto i 262144) (W .old i h) ∙ sym (pg i))
-          (λ g. omega (arith, last-block v (fileAt v e) m g start (omega arith), ap g (pg m ∙ page-2 v t m lt ∙ ap (slot v b₃) start), ap g (ix ∙ index-2 v t (m / 512) i))),
-      (pb, S .3 .1 (m / 512) i .0),
-      (Fb .2 0 (omega arith) .0 (omega arith), S .3 .1 (m / 512) i .1 0 (omega arith)),
+          lastly
+          (only-slot _ v t (m / 512) 0 (λ p j h. inr (start, hi, (h .0 ∙ sym sub, h .1, h .2)))),
+      (pb, S .3 .1 (m / 512) i .0, omega (arith, lastly (hit b₃), hit-same b₃ pb)),
+      (pd, S .3 .1 (m / 512) i .1 0 (omega arith), omega (arith, lastly (hit d₃), hit-same d₃ pd)),
     )
       where
         S : Shape P v 2 t n
@@ -336,8 +364,11 @@ module _ (P : ℕ) (v : Vol) (G : Good P v (λ p. 0)) (pos : 0 < P) (big : P ≤
         pb : 0 < b₃
         pb = Fb .0 (omega arith)
 
+        pd : 0 < d₃
+        pd = Fb .2 0 (omega arith) .0 (omega arith)
+
         sd : some d₃ ≡ 1
-        sd = some-pos d₃ (Fb .2 0 (omega arith) .0 (omega arith))
+        sd = some-pos d₃ pd
 
         one : (all P v (hit t) ≡ weighR v (fileAt v e) (hit t)) × (weighR v (fileAt v e) (hit t) ≡ 1)
         one = own P v (λ p. 0) G pos big a f ha hf uf t (S .3 .0) (omega (arith, whole (hit t), hit-same t pt))
@@ -360,6 +391,12 @@ module _ (P : ℕ) (v : Vol) (G : Good P v (λ p. 0)) (pos : 0 < P) (big : P ≤
         ix : indexAt v (fileAt v e) (m / 512) ≡ indexAt v (tree 2 t) (m / 512)
         ix = ap (λ (r : Root). indexAt v r (m / 512)) (root-is P v (λ p. 0) G pos big a f ha hf uf 2 fl)
 
+        sub : subindexOf (fileAt v e) ≡ t
+        sub = ap subindexOf (root-is P v (λ p. 0) G pos big a f ha hf uf 2 fl)
+
+        lastly : (g : ℕ → ℕ) → last v (fileAt v e) m g ≡ g b₃ + g d₃
+        lastly g = omega (arith, last-block v (fileAt v e) m g start (omega arith), ap g (pg m ∙ page-2 v t m lt ∙ ap (slot v b₃) start), ap g (ix ∙ index-2 v t (m / 512) i))
+
   -- ---- 513 pages: back to a single index, without any block changed
   module _ (n5 : n ≡ 513) (fl : flags (object v e) 30 ≡ 2) where
     abbrev t₄ : ℕ
@@ -371,7 +408,7 @@ module _ (P : ℕ) (v : Vol) (G : Good P v (λ p. 0)) (pos : 0 < P) (big : P ≤
     abbrev d₄ : ℕ
     d₄ = slot v b₄ 0
 
-    pub shrinkC : Lost P v (finish v U O a e 512 (pointer 1 t₄) (usedPages (user v) a - 3)) a e 512 (λ p. hit p t + (hit p b₄ + hit p d₄)) × Real P t × Real P b₄ × Real P d₄
+    pub shrinkC : Lost P v (finish v U O a e 512 (pointer 1 t₄) (usedPages (user v) a - 3)) a e 512 (λ p. hit p t + (hit p b₄ + hit p d₄)) × Real P v e 512 t × Real P v e 512 b₄ × Real P v e 512 d₄
     unfolding Shape rootBy weighR Fill Below weigh Agree subindexOf
     shrinkC = (
       lost P v v _ a e 512 1 t₄ _ (λ g. g t + (g b₄ + g d₄)) (λ p. hit p t + (hit p b₄ + hit p d₄))
@@ -385,10 +422,10 @@ module _ (P : ℕ) (v : Vol) (G : Good P v (λ p. 0)) (pos : 0 < P) (big : P ≤
             within = omega (arith, within);
           }) n5 (omega (arith, three′, need-raise 512 refl))
           (λ i h. page-1 v t₄ i h ∙ sym (pg i ∙ page-2 v t i (omega arith) ∙ ap₂ (λ (y z : ℕ). slot v (slot v t y) z) (let q : i / 512 ≡ 0 = omega arith in q) (let q : i % 512 ≡ i = omega arith in q)))
-          (λ g. omega (arith, last-raise v (fileAt v e) 512 g refl, ap g (pg 512 ∙ page-2 v t 512 (omega arith)), ap g (ix ∙ index-2 v t 1 (omega arith)), ap g top)),
-      (pt, S .3 .0),
-      (pb, S .3 .1 1 (omega arith) .0),
-      (Fb .2 0 (omega arith) .0 (omega arith), S .3 .1 1 (omega arith) .1 0 (omega arith)),
+          lastly (λ p k h. refl),
+      (pt, S .3 .0, omega (arith, lastly (hit t), hit-same t pt)),
+      (pb, S .3 .1 1 (omega arith) .0, omega (arith, lastly (hit b₄), hit-same b₄ pb)),
+      (pd, S .3 .1 1 (omega arith) .1 0 (omega arith), omega (arith, lastly (hit d₄), hit-same d₄ pd)),
     )
       where
         S : Shape P v 2 t n
@@ -409,8 +446,11 @@ module _ (P : ℕ) (v : Vol) (G : Good P v (λ p. 0)) (pos : 0 < P) (big : P ≤
         pb : 0 < b₄
         pb = Fb .0 (omega arith)
 
+        pd : 0 < d₄
+        pd = Fb .2 0 (omega arith) .0 (omega arith)
+
         sd : some d₄ ≡ 1
-        sd = some-pos d₄ (Fb .2 0 (omega arith) .0 (omega arith))
+        sd = some-pos d₄ pd
 
         Wb : Shrunk P v v 1 b₄ 0 0 (λ g. g b₄ + g d₄)
         Wb = shrunk-block P v v 0 b₄ (λ g. g d₄) pos Fb (shrunk-page P v v d₄ pos)
@@ -440,3 +480,6 @@ module _ (P : ℕ) (v : Vol) (G : Good P v (λ p. 0)) (pos : 0 < P) (big : P ≤
 
         top : subindexOf (fileAt v e) ≡ t
         top = ap subindexOf (root-is P v (λ p. 0) G pos big a f ha hf uf 2 fl)
+
+        lastly : (g : ℕ → ℕ) → last v (fileAt v e) 512 g ≡ g t + (g b₄ + g d₄)
+        lastly g = omega (arith, last-raise v (fileAt v e) 512 g refl, ap g (pg 512 ∙ page-2 v t 512 (omega arith)), ap g (ix ∙ index-2 v t 1 (omega arith)), ap g top)
