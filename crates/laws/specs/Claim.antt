@@ -1,24 +1,23 @@
 -- A free page is reserved and made zeros: it is then in hand, and nothing else changed. Assumes nothing.
-use mathlib.Core.Path.{_≡_, refl, sym, ap, ap₂, _∙_, subst, subst₂, fun-ext}
-use mathlib.Core.Logic.{_≢_, _⊎_, inl, inr}
-use Prim.Native.Nat.{ℕ, zero, suc, _+_, _-_, _*_, _/_, _%_, _^_, _≤_, _<_, zero-le, min}
-use native.Mathlib.Nat.{le-refl, not-suc-le-zero, le-trans, mod-lt, eq-zero-or-pos}
-use native.Mathlib.Decide.{ℕ-discrete, decLt}
+use mathlib.Core.Path.{_≡_, sym, ap, ap₂, _∙_, subst}
+use mathlib.Core.Logic.{_≢_}
+use Prim.Native.Nat.{ℕ, zero, suc, _+_, _-_, _/_, _%_, _≤_, _<_}
+use native.Mathlib.Decide.{ℕ-discrete}
 use native.Mathlib.Omega.{arith}
-use Rattle.sums.specs.Sum.{sum, is, is-same, is-other, sum-change}
-use Rattle.book.specs.Bits.{bitFile, bitPages, bitPage, bit, digit, toDigit, mark, claim}
+use Rattle.sums.specs.Sum.{is, is-same, sum-change}
+use Rattle.book.specs.Bits.{bitFile, bitPages, bitPage, bit, digit, mark, claim}
 use Rattle.book.specs.Entries.{user, object}
 use Rattle.book.specs.Files.{fileAt}
-use Rattle.book.specs.Holders.{hit, some, all}
-use Rattle.book.specs.Pointers.{slot, page}
+use Rattle.book.specs.Holders.{hit, all}
+use Rattle.book.specs.Pointers.{page}
 use Rattle.book.specs.Rules.{Rule1}
-use Rattle.book.specs.Trees.{Root, tree, run, weighR, blocksR, pageAt}
-use Rattle.book.specs.Words.{Vol, two, word, put, put2, wipe}
+use Rattle.book.specs.Trees.{Root, tree, weighR, pageAt}
+use Rattle.book.specs.Words.{Vol, word, wipe}
 use Rattle.book.specs.Written.{digit-same, digit-other, word-pos, word-ext, put-here, put-page, put-word, wipe-here, wipe-page}
-use Rattle.laws.specs.Count.{Good, Most, bit-le, free}
+use Rattle.laws.specs.Count.{Good, bit-le, free}
 use Rattle.laws.specs.Frame.{pageAt-le, Roots, bits-root, upto-in}
 use Rattle.laws.specs.Part.{rest, all-rest, rest-add, all-calm, most-calm, user-calm, obj-calm, page-calm}
-use Rattle.laws.specs.Tree.{Agree, hit-zero, hit-same, hit-le, hit-other}
+use Rattle.laws.specs.Tree.{Agree, hit-zero, hit-same, hit-other}
 
 -- ---- the bit file's pages
 

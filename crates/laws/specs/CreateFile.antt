@@ -14,18 +14,18 @@ use Rattle.book.specs.Words.{Vol, Words, two, put2}
 use Rattle.book.specs.Written.{put2-two}
 use Rattle.laws.specs.Cases.{hit-sym}
 use Rattle.laws.specs.Count.{Good, good}
-use Rattle.laws.specs.Created.{Asked, Created, file-place, owner-page, file-created}
+use Rattle.laws.specs.Created.{FileWanted, Created, file-place, owner-page, file-created}
 use Rattle.laws.specs.Grow.{Chooser}
 use Rattle.laws.specs.Highest.{FreeRun, run-found}
 use Rattle.laws.specs.Places.{Places, EntryOf, FieldOf, Either, OnlyAt, only-then, only-putWords, only-put2}
 use Rattle.laws.specs.PutEntry.{entry-page}
-use Rattle.laws.specs.RunStays.{run-stays}
+use Rattle.laws.specs.RunTaking.{run-taking}
 use Rattle.laws.specs.Runs.{taken}
-use Rattle.laws.specs.Stays.{NoWords, Stays, stays-none}
+use Rattle.laws.specs.Taking.{NoWords, Taking, taking-none}
 use Rattle.laws.specs.Tree.{two-ext}
-use Rattle.laws.specs.WriteFile.{write-apart, write-object-at, write-user-at, owner-used}
+use Rattle.laws.specs.WriteFile.{write-apart, write-beside, owner-used}
 
-module _ (choose : Vol → ℕ) (P : ℕ) (ch : Chooser P choose) (v : Vol) (S : Sound P v) (pos : 0 < P) (u : ℕ) (name type : List ℕ) (created : ℕ) (A : Asked P v u name type) where
+module _ (choose : Vol → ℕ) (P : ℕ) (ch : Chooser P choose) (v : Vol) (S : Sound P v) (pos : 0 < P) (u : ℕ) (name type : List ℕ) (created : ℕ) (A : FileWanted P v u name type) where
   abbrev f : ℕ
   f = newFile v u
 
@@ -60,7 +60,7 @@ module _ (choose : Vol → ℕ) (P : ℕ) (ch : Chooser P choose) (v : Vol) (S :
   isU = owner-page choose P ch v S pos u name type created A .1
 
   same : usedPages (user w) u ≡ usedPages (user v) u
-  same = ap (λ (U : Table). usedPages U u) (file-place choose P ch v S pos u name type created A .placed .stays .users)
+  same = ap (λ (U : Table). usedPages U u) (file-place choose P ch v S pos u name type created A .placed .taking .users)
 
   else₀ : (p k : ℕ) → (p ≡ userPage w u → (k ≢ entryWord u + 16) × (k ≢ entryWord u + 17)) → v₀ p k ≡ putEntry w (objectPage w e) e E₀ p k
   unfolding createIndexed
@@ -75,11 +75,11 @@ module _ (choose : Vol → ℕ) (P : ℕ) (ch : Chooser P choose) (v : Vol) (S :
       omega (arith, a, owner-used P w (λ p. 0) Gw pos u f (A .index) (A .entry) isO isU E₀ v₀ else₀, same)
 
   only₀ : OnlyAt (EntryOf (objectPage v₀ e) e) w v₀
-  unfolding createIndexed objectPage
-  only₀ = subst (λ (q : ℕ). OnlyAt (EntryOf q e) w v₀) (sym (write-object-at P w (λ p. 0) Gw pos u f (A .index) (A .entry) isO isU E₀ v₀ else₀ (e / 32))) (only-putWords w (objectPage w e) (entryWord e) 32 E₀)
+  unfolding createIndexed
+  only₀ = subst (λ (q : ℕ). OnlyAt (EntryOf q e) w v₀) (sym (write-beside P w (λ p. 0) Gw pos u f (A .index) (A .entry) isO isU E₀ v₀ else₀ .places .ofObject e)) (only-putWords w (objectPage w e) (entryWord e) 32 E₀)
 
   pub indexed-created : Created P v v₀ u e E₀ 0 0 (fileNeed v e) (EntryOf (objectPage v₀ e) e)
-  indexed-created = file-created choose P ch v S pos u name type created A 0 0 w (λ p. 0) Gw (stays-none P w) (omega arith) (inl (refl, refl))
+  indexed-created = file-created choose P ch v S pos u name type created A 0 0 w (λ p. 0) Gw (taking-none P w) (omega arith) (inl (refl, refl))
       (λ p h. sym (sum-zero (λ i. hit p (0 + i)))) (omega (arith, within)) v₀ else₀ more₀ (EntryOf (objectPage v₀ e) e) only₀
 
   -- ---- a contiguous file of n pages
@@ -115,8 +115,8 @@ module _ (choose : Vol → ℕ) (P : ℕ) (ch : Chooser P choose) (v : Vol) (S :
     G : Good P x hand
     G = taken P w (λ p. 0) Gw s n fits clear .good
 
-    X : Stays P w x NoWords n 0
-    X = run-stays P w (λ p. 0) Gw s n fits clear
+    X : Taking P w x NoWords n 0
+    X = run-taking P w (λ p. 0) Gw s n fits clear
 
     hands : (p : ℕ) → p < P → hand p ≡ sum n (λ i. hit p (s + i))
     hands p h = omega (arith, sum-ext n (λ i. hit (s + i) p) (λ i. hit p (s + i)) (λ i l. hit-sym (s + i) p))
@@ -127,7 +127,7 @@ module _ (choose : Vol → ℕ) (P : ℕ) (ch : Chooser P choose) (v : Vol) (S :
 
     O-is : objectPage x e ≡ objectPage w e
     unfolding objectPage
-    O-is = X .objAt (e / 32) isO
+    O-is = X .objectAt (e / 32) isO
 
     U-is : userPage x u ≡ userPage w u
     unfolding userPage
@@ -145,9 +145,9 @@ module _ (choose : Vol → ℕ) (P : ℕ) (ch : Chooser P choose) (v : Vol) (S :
     more = ap (λ (q : ℕ). two (v′ q) (entryWord u + 16)) U-is ∙ put2-two y (userPage w u) (entryWord u + 16) (usedPages (user w) u + n) ∙ ap (λ (z : ℕ). z + n) same
 
     only : OnlyAt (Either (EntryOf (objectPage v′ e) e) (FieldOf (userPage v u) u 16 2)) x v′
-    unfolding createContiguous objectPage
+    unfolding createContiguous
     only = subst₂ (λ (q r : ℕ). OnlyAt (Either (EntryOf q e) (FieldOf r u 16 2)) x v′)
-        (sym (write-object-at P x hand G pos u f (A .index) (A .entry) (omega (arith, isO, O-is)) (omega (arith, isU, U-is)) E v′ else (e / 32) ∙ O-is))
+        (sym (write-beside P x hand G pos u f (A .index) (A .entry) (omega (arith, isO, O-is)) (omega (arith, isU, U-is)) E v′ else .places .ofObject e ∙ O-is))
         (owner-page choose P ch v S pos u name type created A .0)
         (only-then (EntryOf (objectPage w e) e) (FieldOf (userPage w u) u 16 2) x y v′ (only-putWords x (objectPage w e) (entryWord e) 32 E)
         (only-put2 y (userPage w u) (entryWord u + 16) (usedPages (user w) u + n)))

@@ -21,19 +21,20 @@ use Rattle.book.specs.Words.{Vol, Words, two, word}
 use Rattle.laws.specs.Count.{Good, Most, good, sound, mine-unused, most}
 use Rattle.laws.specs.Edit.{Outside, user-page}
 use Rattle.laws.specs.Extend.{Placed}
+use Rattle.laws.specs.Frame.{Roots}
 use Rattle.laws.specs.Grow.{Chooser}
 use Rattle.laws.specs.Names.{Legal-ext, SameName-ext}
 use Rattle.laws.specs.NewEntry.{user-used, user-name, user-own, user-zero}
-use Rattle.laws.specs.Others.{no-block, file-stays}
 use Rattle.laws.specs.Packed.{packed-legal}
 use Rattle.laws.specs.Places.{Places, EntryOf, Either, OnlyAt, only-then, only-wider, only-putWords}
 use Rattle.laws.specs.PutEntry.{entry-page, entry-agree, entry-outside, entry-here}
 use Rattle.laws.specs.Rules.{UserNew, used-ext}
 use Rattle.laws.specs.Start.{zero-none}
-use Rattle.laws.specs.Stays.{TakenWords}
-use Rattle.laws.specs.Tree.{Agree, two-ext, hit-same, word-zero}
-use Rattle.laws.specs.UserOnly.{user-there, users-else, objects-else, bits-else, user-good}
-use Rattle.laws.specs.UserPlace.{UserWords, UserPlaced, user-placed}
+use Rattle.laws.specs.Still.{objects-still, address-still, kept-words, blocks-nobody}
+use Rattle.laws.specs.Taking.{TakenWords}
+use Rattle.laws.specs.Tree.{Agree, two-ext, hit-zero, word-zero}
+use Rattle.laws.specs.UserOnly.{user-there, users-else, bits-else, user-good}
+use Rattle.laws.specs.UserPlace.{UserPlaceWords, UserPlaced, user-placed}
 
 -- ---- the lowest unused index
 
@@ -95,13 +96,20 @@ module _ (choose : Vol → ℕ) (P : ℕ) (ch : Chooser P choose) (v : Vol) (S :
 
   -- every other user's stays, and every file's
   pub other-users : (x : ℕ) → x ≢ u → (k : ℕ) → k < 32 → user v′ x k ≡ user v x k
-  other-users x n k h = users-else P w (λ p. 0) G pos u lt v′ agree (λ k i. master k) onU x n k h ∙ ap (λ (U : Table). U x k) (user-place .placed .stays .users)
+  other-users x n k h = users-else P w (λ p. 0) G pos u lt v′ agree (λ k i. master k) onU x n k h ∙ ap (λ (U : Table). U x k) (user-place .placed .taking .users)
 
-  pub all-objects : (x k : ℕ) → k < 32 → object v′ x k ≡ object v x k
-  all-objects x k h = objects-else P w (λ p. 0) G pos u lt v′ agree (λ k i. master k) onU x k h ∙ ap (λ (O : Table). O x k) (user-place .placed .stays .objs)
+  roots : Roots w v′
+  unfolding Roots
+  roots k i j = master k
+
+  same-objects : object v′ ≡ object w
+  same-objects = objects-still w v′ roots (hit _) (hit-zero _) agree (user-page P w (λ p. 0) G pos (u / 32) .1)
+
+  pub all-objects : object v′ ≡ object v
+  all-objects = same-objects ∙ user-place .placed .taking .objects
 
   unused : used (user w u) ≡ 0
-  unused = ap (λ (U : Table). used (U u)) (user-place .placed .stays .users) ∙ new-unused v lt
+  unused = ap (λ (U : Table). used (U u)) (user-place .placed .taking .users) ∙ new-unused v lt
 
   now-used : used (user v′ u) ≡ 1
   now-used = used-ext (user v′ u) (userEntry u name) (new-user-entry 0 (omega arith)) ∙ user-used u name
@@ -145,20 +153,20 @@ module _ (choose : Vol → ℕ) (P : ℕ) (ch : Chooser P choose) (v : Vol) (S :
   -- ---- all pages of all files stay
 
   pub all-addresses : (x : ℕ) → x < 65536 → (m : ℕ) → pageAt v′ (fileAt v′ x) m ≡ pageAt v (fileAt v x) m
-  all-addresses x h m = file-stays w v′ (hit (pageAt w (userFile w) (u / 32))) agree x (no-block w (hit (pageAt w (userFile w) (u / 32))) (user-page P w (λ p. 0) G pos (u / 32) .3) x h)
-      (objects-else P w (λ p. 0) G pos u lt v′ agree (λ k i. master k) onU x) m ∙ user-place .placed .stays .files x h m
+  all-addresses x h m = address-still w v′ roots (hit _) (hit-zero _) agree x (kept-words (object v′ x) (object w x) (λ k i n. ap (λ (O : Table). O x k) same-objects))
+      (blocks-nobody w _ (user-page P w (λ p. 0) G pos (u / 32) .3) x h) m ∙ user-place .placed .taking .address x h m
 
   -- ---- no other word changes
 
   pub bits-after : (p : ℕ) → p < P → bit P v′ p ≡ bit P w p
   bits-after p h = bits-else P w (λ p. 0) G pos u lt v′ agree (λ k i. master k) onU p h
 
-  pub create-user-only : OnlyAt (Either (TakenWords P v v′) (Either (UserWords v u) (EntryOf (userPage w u) u))) v v′
+  pub create-user-only : OnlyAt (Either (TakenWords P v v′) (Either (UserPlaceWords v u) (EntryOf (userPage w u) u))) v v′
   unfolding createUser
-  create-user-only = only-wider (Either (Either (TakenWords P v w) (UserWords v u)) (EntryOf U u)) (Either (TakenWords P v v′) (Either (UserWords v u) (EntryOf U u))) v v′ wide
-      (only-then (Either (TakenWords P v w) (UserWords v u)) (EntryOf U u) v w v′ (user-place .placed .stays .words) (only-putWords w U (entryWord u) 32 (userEntry u name)))
+  create-user-only = only-wider (Either (Either (TakenWords P v w) (UserPlaceWords v u)) (EntryOf U u)) (Either (TakenWords P v v′) (Either (UserPlaceWords v u) (EntryOf U u))) v v′ wide
+      (only-then (Either (TakenWords P v w) (UserPlaceWords v u)) (EntryOf U u) v w v′ (user-place .placed .taking .words) (only-putWords w U (entryWord u) 32 (userEntry u name)))
     where
-      wide : (p k : ℕ) → Either (Either (TakenWords P v w) (UserWords v u)) (EntryOf U u) p k → Either (TakenWords P v v′) (Either (UserWords v u) (EntryOf U u)) p k
+      wide : (p k : ℕ) → Either (Either (TakenWords P v w) (UserPlaceWords v u)) (EntryOf U u) p k → Either (TakenWords P v v′) (Either (UserPlaceWords v u) (EntryOf U u)) p k
       wide p k (inl (inl (d, (a, b, c), q))) = inl (d, (a, b, bits-after d a ∙ c), q)
       wide p k (inl (inr h)) = inr (inl h)
       wide p k (inr h) = inr (inr h)

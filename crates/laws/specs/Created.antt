@@ -17,18 +17,18 @@ use Rattle.book.specs.Trees.{Root, run, pageAt}
 use Rattle.book.specs.Words.{Vol, Words, two}
 use Rattle.laws.specs.Count.{Good, good, sound, free}
 use Rattle.laws.specs.Extend.{Placed}
-use Rattle.laws.specs.FilePlace.{FileWords, FilePlaced, file-placed}
+use Rattle.laws.specs.FilePlace.{FilePlaceWords, FilePlaced, file-placed}
 use Rattle.laws.specs.Finish.{used-page}
 use Rattle.laws.specs.Grow.{Chooser}
+use Rattle.laws.specs.Leave.{Beside, places-unreserved}
 use Rattle.laws.specs.NewFile.{new-file-unused, Entered, new-file}
 use Rattle.laws.specs.Places.{Places, Either, OnlyAt, only-then, only-wider}
-use Rattle.laws.specs.Stays.{TakenWords, NoWords, no-words, Stays, stays-then}
-use Rattle.laws.specs.Tree.{two-ext}
+use Rattle.laws.specs.Taking.{TakenWords, NoWords, no-words, Taking, taking-then}
 use Rattle.laws.specs.Vacant.{used-reached}
-use Rattle.laws.specs.WriteFile.{write-change, write-master, write-entry, write-owner, write-used, write-object-at, write-user-at, write-users, write-objects, write-bits, write-addresses}
+use Rattle.laws.specs.WriteFile.{write-change, write-master, write-entry, write-owner, write-used, write-beside, write-bits}
 
 -- what a new file asks for: its owner, legal words of its own, an entry, and unreserved pages for its place
-pub record Asked (P : ℕ) (v : Vol) (u : ℕ) (name type : List ℕ) : Type 0 where
+pub record FileWanted (P : ℕ) (v : Vol) (u : ℕ) (name type : List ℕ) : Type 0 where
   pub index : u < 256
   pub owner : 0 < used (user v u)
   pub named : NameText name
@@ -50,9 +50,9 @@ pub record Created (P : ℕ) (v v′ : Vol) (u e : ℕ) (E : Words) (n s k : ℕ
   pub paid : unreserved v′ + k ≡ unreserved v
   pub taken : free P v′ + (k + n) ≡ free P v
   pub bits : (p : ℕ) → p < P → bit P v p ≤ bit P v′ p
-  pub only : OnlyAt (Either (TakenWords P v v′) (Either (FileWords v e) F)) v v′
+  pub only : OnlyAt (Either (TakenWords P v v′) (Either (FilePlaceWords v e) F)) v v′
 
-module _ (choose : Vol → ℕ) (P : ℕ) (ch : Chooser P choose) (v : Vol) (S : Sound P v) (pos : 0 < P) (u : ℕ) (name type : List ℕ) (created : ℕ) (A : Asked P v u name type) where
+module _ (choose : Vol → ℕ) (P : ℕ) (ch : Chooser P choose) (v : Vol) (S : Sound P v) (pos : 0 < P) (u : ℕ) (name type : List ℕ) (created : ℕ) (A : FileWanted P v u name type) where
   abbrev f : ℕ
   f = newFile v u
 
@@ -70,24 +70,24 @@ module _ (choose : Vol → ℕ) (P : ℕ) (ch : Chooser P choose) (v : Vol) (S :
   unfolding userPage user
   owner-page =
       let h : 0 < userPage v u = used-page v (userFile v) u (A .owner) in
-      let q : pageAt w (userFile w) (u / 32) ≡ pageAt v (userFile v) (u / 32) = file-place .placed .stays .userAt (u / 32) h in
+      let q : pageAt w (userFile w) (u / 32) ≡ pageAt v (userFile v) (u / 32) = file-place .placed .taking .userAt (u / 32) h in
       (q, omega (arith, h, q))
 
   -- x has the file's pages in hand, and v′ is x with the entry E, and words 16 and 17 of the owner
-  module _ (n s : ℕ) (x : Vol) (hand : ℕ → ℕ) (G : Good P x hand) (X : Stays P w x NoWords n 0) (small : s < 1073741824) (form : Empty s n ⊎ Contiguous P s n)
+  module _ (n s : ℕ) (x : Vol) (hand : ℕ → ℕ) (G : Good P x hand) (X : Taking P w x NoWords n 0) (small : s < 1073741824) (form : Empty s n ⊎ Contiguous P s n)
       (hands : (p : ℕ) → p < P → hand p ≡ sum n (λ i. hit p (s + i))) (within : usedPages (user v) u + n ≤ given (user v) u) where
     abbrev E : Words
     E = objectEntry u e name type created n s
 
     same-users : user x ≡ user v
-    same-users = X .users ∙ file-place .placed .stays .users
+    same-users = X .users ∙ file-place .placed .taking .users
 
     same-objs : object x ≡ object v
-    same-objs = X .objs ∙ file-place .placed .stays .objs
+    same-objs = X .objects ∙ file-place .placed .taking .objects
 
     pub objectPage-is : objectPage x e ≡ objectPage w e
     unfolding objectPage
-    objectPage-is = X .objAt (e / 32) (file-place .there)
+    objectPage-is = X .objectAt (e / 32) (file-place .there)
 
     isO : 0 < objectPage x e
     isO = omega (arith, objectPage-is, file-place .there)
@@ -108,10 +108,10 @@ module _ (choose : Vol → ℕ) (P : ℕ) (ch : Chooser P choose) (v : Vol) (S :
       was : usedPages (user x) u ≡ usedPages (user v) u
       was = ap (λ (U : Table). usedPages U u) same-users
 
-      before : Stays P v x (FileWords v e) (fileNeed v e + n) (fileNeed v e)
-      before = stays-then P v w x (FileWords v e) NoWords (FileWords v e) (fileNeed v e) (fileNeed v e) n 0 (fileNeed v e + n) (fileNeed v e) (file-place .placed .stays) X refl (omega arith) wide
+      before : Taking P v x (FilePlaceWords v e) (fileNeed v e + n) (fileNeed v e)
+      before = taking-then P v w x (FilePlaceWords v e) NoWords (FilePlaceWords v e) (fileNeed v e) (fileNeed v e) n 0 (fileNeed v e + n) (fileNeed v e) (file-place .placed .taking) X refl (omega arith) wide
         where
-          wide : (p k : ℕ) → Either (FileWords v e) NoWords p k → Either (TakenWords P v x) (FileWords v e) p k
+          wide : (p k : ℕ) → Either (FilePlaceWords v e) NoWords p k → Either (TakenWords P v x) (FilePlaceWords v e) p k
           wide p k (inl h) = inr h
           wide p k (inr h) = absurd h
 
@@ -127,32 +127,31 @@ module _ (choose : Vol → ℕ) (P : ℕ) (ch : Chooser P choose) (v : Vol) (S :
           (write-entry P x hand G pos u f (A .index) (A .entry) isO isU E v′ else) (write-owner P x hand G pos u f (A .index) (A .entry) isO isU E v′ else)
           (omega (arith, sums, was)) (omega (arith, was, within, ap (λ (U : Table). given U u) same-users))
 
+      beside : Beside P x v′ u e
+      beside = write-beside P x hand G pos u f (A .index) (A .entry) isO isU E v′ else
+
       bit-same : (p : ℕ) → p < P → bit P v′ p ≡ bit P x p
       bit-same = write-bits P x hand G pos u f (A .index) (A .entry) isO isU E v′ else
 
       pub file-created : Created P v v′ u e E n s (fileNeed v e) F
-      unfolding free unreserved
+      unfolding free
       file-created = record {
         sound = sound P v′ (λ p. 0) (whole .good) (λ p h. refl);
         words = write-entry P x hand G pos u f (A .index) (A .entry) isO isU E v′ else;
         root = whole .root;
-        owner = λ i h a b. write-owner P x hand G pos u f (A .index) (A .entry) isO isU E v′ else i h a b ∙ ap (λ (U : Table). U u i) same-users;
+        owner = λ i h a b. beside .owner i h a b ∙ ap (λ (U : Table). U u i) same-users;
         spent = sums;
-        users = λ z n i h. write-users P x hand G pos u f (A .index) (A .entry) isO isU E v′ else z n i h ∙ ap (λ (U : Table). U z i) same-users;
-        objects = λ z n i h. write-objects P x hand G pos u f (A .index) (A .entry) isO isU E v′ else z n i h ∙ ap (λ (O : Table). O z i) same-objs;
-        addresses = λ z h n m. write-addresses P x hand G pos u f (A .index) (A .entry) isO isU E v′ else z h n m ∙ before .files z h m;
-        paid = omega (
-          arith,
-          before .paid,
-          two-ext (v′ 0) (x 0) 1022 (write-master P x hand G pos u f (A .index) (A .entry) isO isU E v′ else 1022) (write-master P x hand G pos u f (A .index) (A .entry) isO isU E v′ else 1023),
-        );
+        users = λ z n i h. beside .users z n i h ∙ ap (λ (U : Table). U z i) same-users;
+        objects = λ z n i h. beside .files z n i h ∙ ap (λ (O : Table). O z i) same-objs;
+        addresses = λ z h n m. beside .address z h n m ∙ before .address z h m;
+        paid = omega (arith, before .paid, places-unreserved x v′ (beside .places));
         taken = omega (arith, before .left, sum-ext P (λ p. 1 - bit P v′ p) (λ p. 1 - bit P x p) (λ p h. ap (λ (y : ℕ). 1 - y) (bit-same p h)));
         bits = λ p h. omega (arith, bit-same p h, before .bits p h);
-        only = only-wider (Either (Either (TakenWords P v x) (FileWords v e)) F) (Either (TakenWords P v v′) (Either (FileWords v e) F)) v v′ wide
-            (only-then (Either (TakenWords P v x) (FileWords v e)) F v x v′ (before .words) only);
+        only = only-wider (Either (Either (TakenWords P v x) (FilePlaceWords v e)) F) (Either (TakenWords P v v′) (Either (FilePlaceWords v e) F)) v v′ wide
+            (only-then (Either (TakenWords P v x) (FilePlaceWords v e)) F v x v′ (before .words) only);
       }
         where
-          wide : (p k : ℕ) → Either (Either (TakenWords P v x) (FileWords v e)) F p k → Either (TakenWords P v v′) (Either (FileWords v e) F) p k
+          wide : (p k : ℕ) → Either (Either (TakenWords P v x) (FilePlaceWords v e)) F p k → Either (TakenWords P v v′) (Either (FilePlaceWords v e) F) p k
           wide p k (inl (inl (d, (a, b, c), q))) = inl (d, (a, b, bit-same d a ∙ c), q)
           wide p k (inl (inr h)) = inr (inl h)
           wide p k (inr h) = inr (inr h)

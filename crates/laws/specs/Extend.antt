@@ -18,28 +18,28 @@ use Rattle.laws.specs.Count.{Good, good, sound, bit-le}
 use Rattle.laws.specs.Frame.{Roots, blocksR-le, blocksR-frame, users-root, objs-root}
 use Rattle.laws.specs.Grow.{Chooser, slot-bare}
 use Rattle.laws.specs.Grown.{setSlot-page}
-use Rattle.laws.specs.Join.{only-pay, pay-page, pay-below, pay-less, SlotOf, Vacant, join-bare, join-good, join-slot, join-stays}
+use Rattle.laws.specs.Join.{only-pay, pay-page, pay-below, pay-less, SlotWords, Vacant, join-bare, join-good, join-slot, join-taking}
 use Rattle.laws.specs.Part.{rest, all-rest}
 use Rattle.laws.specs.Places.{Places, UnreservedWords, Either, OnlyAt, only-then, only-put2}
 use Rattle.laws.specs.Room.{system-room, chosen}
 use Rattle.laws.specs.Rules.{Master, flags-ext, page-ext}
-use Rattle.laws.specs.Stays.{Taken, TakenWords, NoWords, no-words, Stays, stays-none, stays-then, stays-wider, claim-stays, calm-blocks}
+use Rattle.laws.specs.Taking.{Taken, TakenWords, NoWords, no-words, Taking, taking-none, taking-then, taking-wider, claim-taking, calm-blocks}
 use Rattle.laws.specs.Tree.{Agree, two-ext, hit-same, hit-other, slot-same}
 
 -- from v to w, n system pages were taken and paid: w is sound, and all entries and files stay
 pub record Placed (P : ℕ) (v w : Vol) (F : Places) (n : ℕ) : Type 0 where
   pub sound : Sound P w
-  pub stays : Stays P v w F n n
+  pub taking : Taking P v w F n n
 
 pub placed-none : (P : ℕ) (v : Vol) → Sound P v → Placed P v v NoWords 0
-placed-none P v S = record { sound = S; stays = stays-none P v }
+placed-none P v S = record { sound = S; taking = taking-none P v }
 
 pub placed-then : (P : ℕ) (v w x : Vol) (F H K : Places) (a b n : ℕ) → Placed P v w F a → Placed P w x H b → n ≡ a + b
     → ((p k : ℕ) → Either F H p k → Either (TakenWords P v x) K p k) → Placed P v x K n
-placed-then P v w x F H K a b n S T e wide = record { sound = T .sound; stays = stays-then P v w x F H K a a b b n n (S .stays) (T .stays) e e wide }
+placed-then P v w x F H K a b n S T e wide = record { sound = T .sound; taking = taking-then P v w x F H K a a b b n n (S .taking) (T .taking) e e wide }
 
 pub placed-wider : (P : ℕ) (v w : Vol) (F K : Places) (a n : ℕ) → Placed P v w F a → n ≡ a → ((p k : ℕ) → F p k → Either (TakenWords P v w) K p k) → Placed P v w K n
-placed-wider P v w F K a n S e wide = record { sound = S .sound; stays = stays-wider P v w F K a a n n (S .stays) e e wide }
+placed-wider P v w F K a n S e wide = record { sound = S .sound; taking = taking-wider P v w F K a a n n (S .taking) e e wide }
 
 -- ---- a claim leaves the blocks
 
@@ -131,9 +131,9 @@ module _ (choose : Vol → ℕ) (P : ℕ) (ch : Chooser P choose) (v : Vol) (S :
       let were : two (v₁ 0) 1022 ≡ two (v 0) 1022 = two-ext (v₁ 0) (v 0) 1022 (claim-master P v (λ p. 0) G d hd fd 1022) (claim-master P v (λ p. 0) G d hd fd 1023) in
       omega (arith, have, pay-less (setSlot v₁ X k d) 1 (omega (arith, have)))
 
-  only : OnlyAt (Either (SlotOf X k) UnreservedWords) v₁ v′
+  only : OnlyAt (Either (SlotWords X k) UnreservedWords) v₁ v′
   unfolding extend setSlot
-  only = only-then (SlotOf X k) UnreservedWords v₁ (setSlot v₁ X k d) v′ (only-put2 v₁ X (2 * k) d) (only-pay (setSlot v₁ X k d) 1)
+  only = only-then (SlotWords X k) UnreservedWords v₁ (setSlot v₁ X k d) v′ (only-put2 v₁ X (2 * k) d) (only-pay (setSlot v₁ X k d) 1)
 
   M : Master v₁ v′
   unfolding Master
@@ -156,16 +156,16 @@ module _ (choose : Vol → ℕ) (P : ℕ) (ch : Chooser P choose) (v : Vol) (S :
   pub extend-keeps : (q : ℕ) → q ≢ X → 1 ≤ rest v (hit q) → (j : ℕ) → word v′ q j ≡ word v q j
   extend-keeps q n h j = word-ext v₁ v′ q j (λ p. read q j p ∙ setSlot-page v₁ X k d q j n) ∙ claim-word P v (λ p. 0) G d hd fd q h j
 
-  joined : Stays P v₁ v′ (Either (SlotOf X k) UnreservedWords) 0 1
-  joined = join-stays P v₁ (λ p. 0 + hit d p) G1 pos v′ X k d N1 hd extend-pos held (claim-zero P v (λ p. 0) G d hd fd) read M paid (Either (SlotOf X k) UnreservedWords) only
+  joined : Taking P v₁ v′ (Either (SlotWords X k) UnreservedWords) 0 1
+  joined = join-taking P v₁ (λ p. 0 + hit d p) G1 pos v′ X k d N1 hd extend-pos held (claim-zero P v (λ p. 0) G d hd fd) read M paid (Either (SlotWords X k) UnreservedWords) only
 
   pub extend-taken : Taken P v v′ d
   extend-taken = (hd, fd, omega (arith, joined .bits d hd, claim-bit P v (λ p. 0) G d hd fd, bit-le P v′ d))
 
-  pub extend-placed : Placed P v v′ (Either (SlotOf X k) UnreservedWords) 1
+  pub extend-placed : Placed P v v′ (Either (SlotWords X k) UnreservedWords) 1
   extend-placed = record {
     sound = sound P v′ (λ p. 0) (join-good P v₁ (λ p. 0 + hit d p) G1 pos v′ X k d N1 hd extend-pos held (claim-zero P v (λ p. 0) G d hd fd) read M paid (λ p. 0)
         (λ p h. omega (arith, hit-sym p d))) (λ p h. refl);
-    stays = stays-then P v v₁ v′ NoWords (Either (SlotOf X k) UnreservedWords) (Either (SlotOf X k) UnreservedWords) 1 0 0 1 1 1 (claim-stays P v (λ p. 0) G d hd fd) joined
-        refl refl (λ p j h. inr (no-words (Either (SlotOf X k) UnreservedWords) p j h));
+    taking = taking-then P v v₁ v′ NoWords (Either (SlotWords X k) UnreservedWords) (Either (SlotWords X k) UnreservedWords) 1 0 0 1 1 1 (claim-taking P v (λ p. 0) G d hd fd) joined
+        refl refl (λ p j h. inr (no-words (Either (SlotWords X k) UnreservedWords) p j h));
   }

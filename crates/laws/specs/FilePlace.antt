@@ -16,10 +16,10 @@ use Rattle.book.specs.Words.{Vol}
 use Rattle.laws.specs.Count.{bit-le}
 use Rattle.laws.specs.Extend.{Placed, placed-none, placed-then, extend-free, extend-pos, extend-master, extend-slot, extend-bare, extend-keeps, extend-taken, extend-placed, placed-wider}
 use Rattle.laws.specs.Grow.{Chooser}
-use Rattle.laws.specs.Join.{SlotOf, Vacant}
+use Rattle.laws.specs.Join.{SlotWords, Vacant}
 use Rattle.laws.specs.Rules.{flags-ext, page-ext}
 use Rattle.laws.specs.Places.{Places, UnreservedWords, Either}
-use Rattle.laws.specs.Stays.{TakenWords, NoWords}
+use Rattle.laws.specs.Taking.{TakenWords, NoWords}
 use Rattle.laws.specs.Tree.{hit-same, slot-same}
 use Rattle.laws.specs.Vacant.{Reached, reached-kept, once, index-one, index-two, top-held, under, object-slot, object-none, index-vacant, top-vacant}
 
@@ -28,12 +28,12 @@ abbrev pub When : Type 0 → Places → Places
 When A B p k = A × B p k
 
 -- beside the pages taken and their bits: unreserved, the slot of the index block, the slot of the page
-abbrev pub FileWords : Vol → ℕ → Places
-FileWords v e = Either (When (0 < fileNeed v e) UnreservedWords) (Either (When (objectIndex v e ≡ 0) (SlotOf (page (v 0) 1016) (entryPage e / 512)))
-    (When ((0 < objectIndex v e) × (objectPage v e ≡ 0)) (SlotOf (objectIndex v e) (entryPage e % 512))))
+abbrev pub FilePlaceWords : Vol → ℕ → Places
+FilePlaceWords v e = Either (When (0 < fileNeed v e) UnreservedWords) (Either (When (objectIndex v e ≡ 0) (SlotWords (page (v 0) 1016) (entryPage e / 512)))
+    (When ((0 < objectIndex v e) × (objectPage v e ≡ 0)) (SlotWords (objectIndex v e) (entryPage e % 512))))
 
 pub record FilePlaced (P : ℕ) (v w : Vol) (e : ℕ) : Type 0 where
-  pub placed : Placed P v w (FileWords v e) (fileNeed v e)
+  pub placed : Placed P v w (FilePlaceWords v e) (fileNeed v e)
   pub there : 0 < objectPage w e
 
 module _ (choose : Vol → ℕ) (P : ℕ) (ch : Chooser P choose) (e : ℕ) where
@@ -51,7 +51,7 @@ module _ (choose : Vol → ℕ) (P : ℕ) (ch : Chooser P choose) (e : ℕ) wher
     N : Vacant P v X j
     N = index-vacant P v S e R p z
 
-    page-placed : Placed P v v′ (Either (SlotOf X j) UnreservedWords) 1
+    page-placed : Placed P v v′ (Either (SlotWords X j) UnreservedWords) 1
     page-placed = extend-placed choose P ch v S pos X j N have
 
     R′ : Reached P v′ e
@@ -95,7 +95,7 @@ module _ (choose : Vol → ℕ) (P : ℕ) (ch : Chooser P choose) (e : ℕ) wher
     both : 0 < objectIndex v e → 0 < objectPage v e → FilePlaced P v (filePlace choose P v e) e
     unfolding filePlace withIndex withObjectPage fileNeed
     both p q = subst (λ (w : Vol). FilePlaced P v w e) (sym is) (record {
-      placed = placed-wider P v v NoWords (FileWords v e) 0 (fileNeed v e) (placed-none P v S) (omega arith) (λ p k h. absurd h);
+      placed = placed-wider P v v NoWords (FilePlaceWords v e) 0 (fileNeed v e) (placed-none P v S) (omega arith) (λ p k h. absurd h);
       there = q;
     })
       where
@@ -106,7 +106,7 @@ module _ (choose : Vol → ℕ) (P : ℕ) (ch : Chooser P choose) (e : ℕ) wher
     page-absent : 0 < objectIndex v e → objectPage v e ≡ 0 → FilePlaced P v (filePlace choose P v e) e
     unfolding filePlace withIndex withObjectPage fileNeed
     page-absent p z = subst (λ (w : Vol). FilePlaced P v w e) (sym is) (record {
-      placed = placed-wider P v (v′ v S pos R p z (omega (arith, have))) (Either (SlotOf (objectIndex v e) (entryPage e % 512)) UnreservedWords) (FileWords v e) 1 (fileNeed v e)
+      placed = placed-wider P v (v′ v S pos R p z (omega (arith, have))) (Either (SlotWords (objectIndex v e) (entryPage e % 512)) UnreservedWords) (FilePlaceWords v e) 1 (fileNeed v e)
           (page-placed v S pos R p z (omega (arith, have))) (omega arith) wide;
       there = page-there v S pos R p z (omega (arith, have));
     })
@@ -114,7 +114,7 @@ module _ (choose : Vol → ℕ) (P : ℕ) (ch : Chooser P choose) (e : ℕ) wher
         is : filePlace choose P v e ≡ extend choose P v (objectIndex v e) (entryPage e % 512)
         is = ap (λ (w : Vol). withObjectPage choose P w e) (pick-yes (objectIndex v e) v (extend choose P v o i) p) ∙ pick-no (objectPage v e) v (extend choose P v (objectIndex v e) (entryPage e % 512)) z
 
-        wide : (q k : ℕ) → Either (SlotOf (objectIndex v e) (entryPage e % 512)) UnreservedWords q k → Either (TakenWords P v (extend choose P v (objectIndex v e) (entryPage e % 512))) (FileWords v e) q k
+        wide : (q k : ℕ) → Either (SlotWords (objectIndex v e) (entryPage e % 512)) UnreservedWords q k → Either (TakenWords P v (extend choose P v (objectIndex v e) (entryPage e % 512))) (FilePlaceWords v e) q k
         wide q k (inl h) = inr (inr (inr ((p, z), h)))
         wide q k (inr h) = inr (inl (omega arith, h))
 
@@ -133,7 +133,7 @@ module _ (choose : Vol → ℕ) (P : ℕ) (ch : Chooser P choose) (e : ℕ) wher
       abbrev w : Vol
       w = extend choose P v o i
 
-      T₁ : Placed P v w (Either (SlotOf o i) UnreservedWords) 1
+      T₁ : Placed P v w (Either (SlotWords o i) UnreservedWords) 1
       T₁ = extend-placed choose P ch v S pos o i N₁ have₁
 
       two : flags (v 0) 1016 ≡ 2
@@ -160,9 +160,9 @@ module _ (choose : Vol → ℕ) (P : ℕ) (ch : Chooser P choose) (e : ℕ) wher
       z₁ = object-slot P w (T₁ .sound) e R₁ ∙ ap (λ (x : ℕ). slot w x (entryPage e % 512)) index₁ ∙ extend-bare choose P ch v S pos o i N₁ have₁ (entryPage e % 512)
 
       have₂ : 1 ≤ unreserved w
-      have₂ = omega (arith, have, need, T₁ .stays .paid)
+      have₂ = omega (arith, have, need, T₁ .taking .paid)
 
-      T₂ : Placed P w (extend choose P w (objectIndex w e) (entryPage e % 512)) (Either (SlotOf (objectIndex w e) (entryPage e % 512)) UnreservedWords) 1
+      T₂ : Placed P w (extend choose P w (objectIndex w e) (entryPage e % 512)) (Either (SlotWords (objectIndex w e) (entryPage e % 512)) UnreservedWords) 1
       T₂ = page-placed w (T₁ .sound) pos R₁ p₁ z₁ have₂
 
       is : filePlace choose P v e ≡ extend choose P w (objectIndex w e) (entryPage e % 512)
@@ -171,21 +171,21 @@ module _ (choose : Vol → ℕ) (P : ℕ) (ch : Chooser P choose) (e : ℕ) wher
 
       both-absent : FilePlaced P v (filePlace choose P v e) e
       both-absent = subst (λ (w : Vol). FilePlaced P v w e) (sym is) (record {
-        placed = placed-then P v w (extend choose P w (objectIndex w e) (entryPage e % 512)) (Either (SlotOf o i) UnreservedWords)
-            (Either (SlotOf (objectIndex w e) (entryPage e % 512)) UnreservedWords) (FileWords v e) 1 1 (fileNeed v e) T₁ T₂ need wide;
+        placed = placed-then P v w (extend choose P w (objectIndex w e) (entryPage e % 512)) (Either (SlotWords o i) UnreservedWords)
+            (Either (SlotWords (objectIndex w e) (entryPage e % 512)) UnreservedWords) (FilePlaceWords v e) 1 1 (fileNeed v e) T₁ T₂ need wide;
         there = page-there w (T₁ .sound) pos R₁ p₁ z₁ have₂;
       })
         where
           paid : 0 < fileNeed v e
           paid = omega (arith, need)
 
-          wide : (q k : ℕ) → Either (Either (SlotOf o i) UnreservedWords) (Either (SlotOf (objectIndex w e) (entryPage e % 512)) UnreservedWords) q k
-              → Either (TakenWords P v (extend choose P w (objectIndex w e) (entryPage e % 512))) (FileWords v e) q k
+          wide : (q k : ℕ) → Either (Either (SlotWords o i) UnreservedWords) (Either (SlotWords (objectIndex w e) (entryPage e % 512)) UnreservedWords) q k
+              → Either (TakenWords P v (extend choose P w (objectIndex w e) (entryPage e % 512))) (FilePlaceWords v e) q k
           wide q k (inl (inl h)) = inr (inr (inl (z, h)))
           wide q k (inl (inr h)) = inr (inl (paid, h))
           wide q k (inr (inl h)) =
               let t = extend-taken choose P ch v S pos o i N₁ have₁ in
-              inl (choose v, (t .0, t .1, omega (arith, t .2, T₂ .stays .bits (choose v) (t .0), bit-le P (extend choose P w (objectIndex w e) (entryPage e % 512)) (choose v))), inl (h .0 ∙ index₁))
+              inl (choose v, (t .0, t .1, omega (arith, t .2, T₂ .taking .bits (choose v) (t .0), bit-le P (extend choose P w (objectIndex w e) (entryPage e % 512)) (choose v))), inl (h .0 ∙ index₁))
           wide q k (inr (inr h)) = inr (inl (paid, h))
 
     pub file-placed : FilePlaced P v (filePlace choose P v e) e

@@ -19,7 +19,7 @@ use Rattle.laws.specs.Grown.{slot-here, slot-other, setSlot-page}
 use Rattle.laws.specs.Part.{rest, all-rest}
 use Rattle.laws.specs.Places.{Places, WordsOf, UnreservedWords, OnlyAt, only-put2}
 use Rattle.laws.specs.Rules.{Master, master-roots}
-use Rattle.laws.specs.Stays.{Stays, settled-stays}
+use Rattle.laws.specs.Taking.{Taking, settled-taking}
 use Rattle.laws.specs.System.{Settled, leaf-none, linked, system-good}
 use Rattle.laws.specs.Tree.{Link, some-pos, slot-same, two-ext}
 
@@ -43,8 +43,8 @@ module _ (v : Vol) (n : ℕ) where
   pay-less h = omega (arith, put2-two v 0 1022 (two (v 0) 1022 - n))
 
 -- the two words of slot k of block b
-abbrev pub SlotOf : ℕ → ℕ → Places
-SlotOf b k = WordsOf b (2 * k) 2
+abbrev pub SlotWords : ℕ → ℕ → Places
+SlotWords b k = WordsOf b (2 * k) 2
 
 -- ---- a position that has a page keeps it
 
@@ -129,7 +129,7 @@ module _ (P : ℕ) (v : Vol) (hand : ℕ → ℕ) (G : Good P v hand) (pos : 0 <
   pub join-slot : slot v′ X k ≡ d
   join-slot = link .now
 
-  pub join-stays : (F : Places) → OnlyAt F v v′ → Stays P v v′ F 0 1
-  join-stays F o = subst (λ (x : ℕ). Stays P v v′ F 0 x) (some-pos d pd) (settled-stays P v hand G v′ (hit X) (λ g. g d) settled
+  pub join-taking : (F : Places) → OnlyAt F v v′ → Taking P v v′ F 0 1
+  join-taking F o = subst (λ (x : ℕ). Taking P v v′ F 0 x) (some-pos d pd) (settled-taking P v hand G v′ (hit X) (λ g. g d) settled
       (λ i h. ap (λ (r : Root). pageAt v′ r i) (users-root v v′ (master-roots P v v′ M)) ∙ pageAt-there v v′ X k d link (userFile v) i h)
       (λ i h. ap (λ (r : Root). pageAt v′ r i) (objs-root v v′ (master-roots P v v′ M)) ∙ pageAt-there v v′ X k d link (objectFile v) i h) F o)

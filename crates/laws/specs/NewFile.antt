@@ -13,26 +13,24 @@ use Rattle.book.specs.Files.{fileAt, Shape, FileShape, Empty, Contiguous}
 use Rattle.book.specs.Holders.{hit, some, mine}
 use Rattle.book.specs.Names.{NameText, TypeText, Same, packed}
 use Rattle.book.specs.Pointers.{flags, page}
-use Rattle.book.specs.Rules.{UserOk, Rule4, Rule5, Rule5By, Rule10}
+use Rattle.book.specs.Rules.{UserOk, Rule4, Rule10}
 use Rattle.book.specs.Trees.{Root, run, weighR, rootAt}
 use Rattle.book.specs.Words.{Vol, two}
 use Rattle.laws.specs.Count.{Good, Most, file-unused, root-0}
+use Rattle.laws.specs.Counts.{run-count}
 use Rattle.laws.specs.Edit.{Change, Fine, entries, objs-words, edit-mine, edit-good}
 use Rattle.laws.specs.Finish.{file-used}
 use Rattle.laws.specs.Names.{Legal-ext, SameName-ext}
 use Rattle.laws.specs.NewEntry.{new-used, file-name, file-type, file-whose, file-number, file-pages, file-bytes, file-flags, file-page}
 use Rattle.laws.specs.Packed.{packed-legal}
 use Rattle.laws.specs.Rules.{Entries, UserNew, FileNew, used-ext, used-same, flags-ext, page-ext}
+use Rattle.laws.specs.There.{high-unused}
 use Rattle.laws.specs.Tree.{two-ext, some-pos, some-zero}
 
 -- the lowest unused file of user u
 pub new-file-unused : (v : Vol) (u : ℕ) → newFile v u < 256 → used (object v (fileEntry u (newFile v u))) ≡ 0
 unfolding newFile
 new-file-unused v u h = omega (arith, lowest-is (λ f. 1 - used (object v (fileEntry u f))) 256 .there h)
-
--- a run has as many pages
-run-count : (s n : ℕ) → 0 < s → sum n (λ i. some (s + i)) ≡ n
-run-count s n h = sum-ext n (λ i. some (s + i)) (λ i. 1) (λ i l. some-pos (s + i) (omega arith)) ∙ sum-const n 1 ∙ (let q : n * 1 ≡ n = omega arith in q)
 
 -- the file is there, and no page is in hand
 pub record Entered (P : ℕ) (v′ : Vol) (e s n : ℕ) : Type 0 where
@@ -82,12 +80,14 @@ module _ (P : ℕ) (x : Vol) (hand : ℕ → ℕ) (G : Good P x hand) (pos : 0 <
   unfolding FileShape Shape
   shape = (subst (λ (y : ℕ). Shape P v′ y (page (object v′ e) 30) (two (object v′ e) 26)) (sym plain) (subst₂ (λ (y z : ℕ). Shape P v′ 0 y z) (sym start) (sym pages) form), omega (arith, bytes, pages))
 
-  count : sum n (λ i. some (s + i)) ≡ n
+  -- it has n pages
+  count : weighR v′ (run s n) some ≡ n
+  unfolding weighR
   count = go form
     where
       go : Empty s n ⊎ Contiguous P s n → sum n (λ i. some (s + i)) ≡ n
       go (inl h) = subst (λ (m : ℕ). sum m (λ i. some (s + i)) ≡ m) (sym (h .0)) (sum-zero (λ i. some (s + i)))
-      go (inr h) = run-count s n (h .1)
+      go (inr h) = run-count v′ s n (h .1)
 
   file-new : FileNew P v′ u f
   unfolding Same
@@ -123,10 +123,6 @@ module _ (P : ℕ) (x : Vol) (hand : ℕ → ℕ) (G : Good P x hand) (pos : 0 <
   unfolding Rule4
   ok = G .most .r4 .0 u hu uu
 
-  high : flags (x 0) 1016 ≡ 1 → 63 < u → used (user x u) ≡ 0
-  unfolding Rule5 Rule5By
-  high q i = subst (λ (y : ℕ). Rule5By P x y (page (x 0) 1016)) q (G .most .r5) .1 u i hu
-
   new-good : Good P v′ (λ p. 0)
   unfolding Rule4 Rule10 grant
   new-good = edit-good P x hand G pos u f hu hf (λ x. 0) v′ E (λ g. 0) (λ g. sum n (λ i. g (s + i))) (λ p. 0) record {
@@ -144,9 +140,9 @@ module _ (P : ℕ) (x : Vol) (hand : ℕ → ℕ) (G : Good P x hand) (pos : 0 <
     };
     fileNew = file-new;
     owner = λ h i q. omega (arith, user-used, uu);
-    high = λ q i. user-used ∙ high q i;
+    high = λ q i. user-used ∙ high-unused P x (G .most .r5) q u i hu;
     balance = omega (arith, two-ext (v′ 0) (x 0) 1022 (master 1022) (master 1023), ap₂ (λ (y z : ℕ). pick y z 0) user-used given-kept);
-    count = λ h. omega (arith, more, none some, weight some, count, G .most .r10 .0 u hu uu, edit-mine P x hand G pos u f hu hf (λ x. 0) v′ E some);
+    count = λ h. omega (arith, more, none some, ap (λ (r : Root). weighR v′ r some) new-root, count, G .most .r10 .0 u hu uu, edit-mine P x hand G pos u f hu hf (λ x. 0) v′ E some);
   }
 
   pub new-file : Entered P v′ e s n

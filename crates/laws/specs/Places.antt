@@ -1,7 +1,7 @@
 -- Places: the words of a volume that a step may change, and that it leaves all others. Assumes nothing.
 use mathlib.Core.Path.{_≡_, _∙_}
 use mathlib.Core.Logic.{_⊎_, inl, inr}
-use Prim.Native.Nat.{ℕ, suc, _+_, _*_, _%_, _≤_, _<_}
+use Prim.Native.Nat.{ℕ, _+_, _≤_, _<_}
 use native.Mathlib.Decide.{ℕ-discrete, decLt}
 use native.Mathlib.Omega.{arith}
 use Rattle.book.specs.Entries.{entryWord}
@@ -15,6 +15,10 @@ Places = ℕ → ℕ → Type 0
 -- page q
 abbrev pub PageOf : ℕ → Places
 PageOf q p k = p ≡ q
+
+-- the n pages from s on
+abbrev pub RunOf : ℕ → ℕ → Places
+RunOf s n p k = (s ≤ p) × (p < s + n)
 
 -- the n words from j on of page q
 abbrev pub WordsOf : ℕ → ℕ → ℕ → Places
@@ -50,6 +54,10 @@ only-wider A B v v′ w o p k a = o p k (λ h. a (w p k h))
 -- one step after the other
 pub only-then : (A B : Places) (v v₁ v₂ : Vol) → OnlyAt A v v₁ → OnlyAt B v₁ v₂ → OnlyAt (Either A B) v v₂
 only-then A B v v₁ v₂ o l p k a = l p k (λ h. a (inr h)) ∙ o p k (λ h. a (inl h))
+
+-- a word apart from both
+pub only-either : (A B : Places) (v v′ : Vol) → OnlyAt (Either A B) v v′ → (p k : ℕ) → Apart A p k → Apart B p k → v′ p k ≡ v p k
+only-either A B v v′ o p k a b = o p k (λ h. elim h [ inl x ↦ a x | inr y ↦ b y ])
 
 module _ (v : Vol) (q : ℕ) where
   pub only-put : (j x : ℕ) → OnlyAt (WordsOf q j 1) v (put v q j x)

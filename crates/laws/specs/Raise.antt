@@ -21,11 +21,11 @@ use Rattle.laws.specs.Finish.{flags-pointer, page-pointer}
 use Rattle.laws.specs.Frame.{blocksR-le, pageAt-frame, rootAt-ext}
 use Rattle.laws.specs.Grow.{Chooser, slot-bare}
 use Rattle.laws.specs.Grown.{setSlot-page, slot-here, slot-other}
-use Rattle.laws.specs.Join.{only-pay, pay-page, pay-below, pay-less, SlotOf}
+use Rattle.laws.specs.Join.{only-pay, pay-page, pay-below, pay-less, SlotWords}
 use Rattle.laws.specs.Places.{Places, WordsOf, UnreservedWords, Either, OnlyAt, only-then, only-put2}
 use Rattle.laws.specs.Room.{system-room, chosen}
 use Rattle.laws.specs.Rules.{flags-ext, page-ext}
-use Rattle.laws.specs.Stays.{TakenWords, NoWords, no-words, Stays, stays-then, claim-stays, hand-good, hand-stays, settled-stays}
+use Rattle.laws.specs.Taking.{TakenWords, NoWords, no-words, Taking, taking-then, claim-taking, hand-good, hand-taking, settled-taking}
 use Rattle.laws.specs.System.{Settled, leaves, system-good}
 use Rattle.laws.specs.Tree.{two-ext, hit-same, some-pos}
 
@@ -39,8 +39,8 @@ module _ (v : Vol) (q j x t : ℕ) (h : t < 1073741824) where
   unfolding page
   pointer-page = ap₂ (λ (y z : ℕ). y % 16384 * 65536 + z) (put2-hi v q j (pointer x t)) (put2-lo v q j (pointer x t)) ∙ page-pointer x t h
 
-pub blocks-nobody : (v : Vol) (r : Root) → blocksR v r (λ x. 0) ≡ 0
-blocks-nobody v r = omega (arith, blocksR-le v r (λ x. 0), weighR-nobody v (λ x. 0) (λ x. refl) r)
+pub no-blocks : (v : Vol) (r : Root) → blocksR v r (λ x. 0) ≡ 0
+no-blocks v r = omega (arith, blocksR-le v r (λ x. 0), weighR-nobody v (λ x. 0) (λ x. refl) r)
 
 module _ (choose : Vol → ℕ) (P : ℕ) (ch : Chooser P choose) (v : Vol) (S : Sound P v) (pos : 0 < P) (big : P ≤ 1073741824) (one : flags (v 0) 1016 ≡ 1) (have : 1 ≤ unreserved v) where
   abbrev s : ℕ
@@ -133,7 +133,7 @@ module _ (choose : Vol → ℕ) (P : ℕ) (ch : Chooser P choose) (v : Vol) (S :
   users : (i : ℕ) → pageAt v′ (userFile v′) i ≡ pageAt w (userFile w) i
   unfolding userFile
   users i = ap (λ (r : Root). pageAt v′ r i) (rootAt-ext (v′ 0) (w 0) 1018 0 (mast 1018 (omega arith) (omega arith) (omega arith) (omega arith)) (mast 1019 (omega arith) (omega arith) (omega arith) (omega arith)))
-      ∙ pageAt-frame w v′ (λ x. 0) (T .agree) (userFile w) (blocks-nobody w (userFile w)) i
+      ∙ pageAt-frame w v′ (λ x. 0) (T .agree) (userFile w) (no-blocks w (userFile w)) i
 
   objs : (i : ℕ) → pageAt v′ (objectFile v′) i ≡ pageAt w (objectFile w) i
   unfolding objectFile
@@ -149,20 +149,20 @@ module _ (choose : Vol → ℕ) (P : ℕ) (ch : Chooser P choose) (v : Vol) (S :
   unfolding raised
   only = only-then (WordsOf 0 1016 2) UnreservedWords w x v′ (only-put2 w 0 1016 (pointer 2 s)) (only-pay x 1)
 
-  rest : Stays P v₁ v′ (Either (SlotOf s 0) F) 0 1
+  rest : Taking P v₁ v′ (Either (SlotWords s 0) F) 0 1
   unfolding setSlot
-  rest = stays-then P v₁ w v′ (SlotOf s 0) F (Either (SlotOf s 0) F) 0 0 0 1 0 1
-      (hand-stays P v₁ (λ p. 0 + hit s p) G1 s hs ps held w (λ q j n. setSlot-page v₁ s 0 t q j n) (SlotOf s 0) (only-put2 v₁ s (2 * 0) t))
-      (subst (λ (n : ℕ). Stays P w v′ F 0 n) (some-pos s ps) (settled-stays P w (λ p. 0 + hit s p) G2 v′ (λ x. 0) (λ g. g s) T (λ i h. users i) (λ i h. objs i) F only))
+  rest = taking-then P v₁ w v′ (SlotWords s 0) F (Either (SlotWords s 0) F) 0 0 0 1 0 1
+      (hand-taking P v₁ (λ p. 0 + hit s p) G1 s hs ps held w (λ q j n. setSlot-page v₁ s 0 t q j n) (SlotWords s 0) (only-put2 v₁ s (2 * 0) t))
+      (subst (λ (n : ℕ). Taking P w v′ F 0 n) (some-pos s ps) (settled-taking P w (λ p. 0 + hit s p) G2 v′ (λ x. 0) (λ g. g s) T (λ i h. users i) (λ i h. objs i) F only))
       refl refl (λ p k h. inr h)
 
   pub raised-placed : Placed P v v′ (Either (WordsOf 0 1016 2) UnreservedWords) 1
   raised-placed = record {
     sound = sound P v′ (λ p. 0) (system-good P w (λ p. 0 + hit s p) G2 v′ (λ x. 0) (λ g. g s) T (λ p. 0) (λ p h. omega (arith, hit-sym p s))) (λ p h. refl);
-    stays = stays-then P v v₁ v′ NoWords (Either (SlotOf s 0) F) F 1 0 0 1 1 1 (claim-stays P v (λ p. 0) G s hs fs) rest refl refl wide;
+    taking = taking-then P v v₁ v′ NoWords (Either (SlotWords s 0) F) F 1 0 0 1 1 1 (claim-taking P v (λ p. 0) G s hs fs) rest refl refl wide;
   }
     where
-      wide : (p k : ℕ) → Either NoWords (Either (SlotOf s 0) F) p k → Either (TakenWords P v v′) F p k
+      wide : (p k : ℕ) → Either NoWords (Either (SlotWords s 0) F) p k → Either (TakenWords P v v′) F p k
       wide p k (inl h) = absurd h
       wide p k (inr (inl h)) = inl (s, (hs, fs, omega (arith, rest .bits s hs, claim-bit P v (λ p. 0) G s hs fs, bit-le P v′ s)), inl (h .0))
       wide p k (inr (inr h)) = inr h

@@ -20,12 +20,12 @@ use Rattle.laws.specs.First.{first-user}
 use Rattle.laws.specs.Frame.{upto-out}
 use Rattle.laws.specs.Grow.{Chooser, slot-bare}
 use Rattle.laws.specs.Grown.{setSlot-page}
-use Rattle.laws.specs.Join.{only-pay, pay-page, pay-below, pay-less, SlotOf, Vacant, join-good, join-slot, join-stays}
+use Rattle.laws.specs.Join.{only-pay, pay-page, pay-below, pay-less, SlotWords, Vacant, join-good, join-slot, join-taking}
 use Rattle.laws.specs.Places.{Places, WordsOf, UnreservedWords, Either, OnlyAt, only-then, only-wider, only-put2}
 use Rattle.laws.specs.Raise.{pointer-flags, pointer-page}
 use Rattle.laws.specs.Room.{system-room, chosen}
 use Rattle.laws.specs.Rules.{Master, flags-ext, page-ext}
-use Rattle.laws.specs.Stays.{TakenWords, NoWords, no-words, Stays, stays-then, claim-stays, settled-stays}
+use Rattle.laws.specs.Taking.{TakenWords, NoWords, no-words, Taking, taking-then, claim-taking, settled-taking}
 use Rattle.laws.specs.System.{Settled, system-good}
 use Rattle.laws.specs.Tree.{two-ext, hit-same, some-pos, slot-same}
 
@@ -61,8 +61,8 @@ module _ (choose : Vol → ℕ) (P : ℕ) (ch : Chooser P choose) (v : Vol) (S :
   G1 : Good P v₁ (λ p. 0 + hit i p)
   G1 = claim-good P v (λ p. 0) G i (iOk .0) (iOk .1)
 
-  C1 : Stays P v v₁ NoWords 1 0
-  C1 = claim-stays P v (λ p. 0) G i (iOk .0) (iOk .1)
+  C1 : Taking P v v₁ NoWords 1 0
+  C1 = claim-taking P v (λ p. 0) G i (iOk .0) (iOk .1)
 
   abbrev u : ℕ
   u = choose v₁
@@ -76,8 +76,8 @@ module _ (choose : Vol → ℕ) (P : ℕ) (ch : Chooser P choose) (v : Vol) (S :
   G2 : Good P v₂ (λ p. 0 + hit i p + hit u p)
   G2 = claim-good P v₁ (λ p. 0 + hit i p) G1 u (uOk .0) (uOk .1)
 
-  C2 : Stays P v₁ v₂ NoWords 1 0
-  C2 = claim-stays P v₁ (λ p. 0 + hit i p) G1 u (uOk .0) (uOk .1)
+  C2 : Taking P v₁ v₂ NoWords 1 0
+  C2 = claim-taking P v₁ (λ p. 0 + hit i p) G1 u (uOk .0) (uOk .1)
 
   abbrev o : ℕ
   o = choose v₂
@@ -91,8 +91,8 @@ module _ (choose : Vol → ℕ) (P : ℕ) (ch : Chooser P choose) (v : Vol) (S :
   G3 : Good P v₃ (λ p. 0 + hit i p + hit u p + hit o p)
   G3 = claim-good P v₂ (λ p. 0 + hit i p + hit u p) G2 o (oOk .0) (oOk .1)
 
-  C3 : Stays P v₂ v₃ NoWords 1 0
-  C3 = claim-stays P v₂ (λ p. 0 + hit i p + hit u p) G2 o (oOk .0) (oOk .1)
+  C3 : Taking P v₂ v₃ NoWords 1 0
+  C3 = claim-taking P v₂ (λ p. 0 + hit i p + hit u p) G2 o (oOk .0) (oOk .1)
 
   pi : 0 < i
   pi = free-pos P v (λ p. 0) G i (iOk .0) (iOk .1)
@@ -199,9 +199,9 @@ module _ (choose : Vol → ℕ) (P : ℕ) (ch : Chooser P choose) (v : Vol) (S :
   unfolding objectFile
   none-objs n = zero-none v₃ (v₃ 0) 1016 (zero₃ 1016 zo) n
 
-  Sw : Stays P v₃ w F 0 2
-  Sw = subst (λ (n : ℕ). Stays P v₃ w F 0 n) (ap₂ (λ (a b : ℕ). a + b) (some-pos i pi) (some-pos o po))
-      (settled-stays P v₃ (λ p. 0 + hit i p + hit u p + hit o p) G3 w (λ x. 0) (λ g. g i + g o) T
+  Sw : Taking P v₃ w F 0 2
+  Sw = subst (λ (n : ℕ). Taking P v₃ w F 0 n) (ap₂ (λ (a b : ℕ). a + b) (some-pos i pi) (some-pos o po))
+      (settled-taking P v₃ (λ p. 0 + hit i p + hit u p + hit o p) G3 w (λ x. 0) (λ g. g i + g o) T
       (λ n h. absurd (let r : ⊥ = omega (arith, h, none-users n) in r)) (λ n h. absurd (let r : ⊥ = omega (arith, h, none-objs n) in r)) F only-w)
 
   -- ---- the user page joins the index
@@ -256,31 +256,31 @@ module _ (choose : Vol → ℕ) (P : ℕ) (ch : Chooser P choose) (v : Vol) (S :
     pu,
   )
 
-  only : OnlyAt (Either (SlotOf i 0) UnreservedWords) w v′
+  only : OnlyAt (Either (SlotWords i 0) UnreservedWords) w v′
   unfolding started setSlot
-  only p k a = only-then (SlotOf i 0) UnreservedWords x (setSlot x i 0 u) v′ (only-put2 x i (2 * 0) u) (only-pay (setSlot x i 0 u) 3) p k a ∙ sym (only-pay x 2 p k (λ h. a (inr h)))
+  only p k a = only-then (SlotWords i 0) UnreservedWords x (setSlot x i 0 u) v′ (only-put2 x i (2 * 0) u) (only-pay (setSlot x i 0 u) 3) p k a ∙ sym (only-pay x 2 p k (λ h. a (inr h)))
 
   -- ---- all together
 
   abbrev K : Places
-  K = Either (SlotOf i 0) F
+  K = Either (SlotWords i 0) F
 
-  after₃ : Stays P v₃ v′ K 0 3
-  after₃ = stays-then P v₃ w v′ F (Either (SlotOf i 0) UnreservedWords) K 0 2 0 1 0 3 Sw
-      (join-stays P w (λ p. hit p u) Gw pos v′ i 0 u vacant (uOk .0) pu held zero-w read M paid′ (Either (SlotOf i 0) UnreservedWords) only) refl refl wide
+  after₃ : Taking P v₃ v′ K 0 3
+  after₃ = taking-then P v₃ w v′ F (Either (SlotWords i 0) UnreservedWords) K 0 2 0 1 0 3 Sw
+      (join-taking P w (λ p. hit p u) Gw pos v′ i 0 u vacant (uOk .0) pu held zero-w read M paid′ (Either (SlotWords i 0) UnreservedWords) only) refl refl wide
     where
-      wide : (p k : ℕ) → Either F (Either (SlotOf i 0) UnreservedWords) p k → Either (TakenWords P v₃ v′) K p k
+      wide : (p k : ℕ) → Either F (Either (SlotWords i 0) UnreservedWords) p k → Either (TakenWords P v₃ v′) K p k
       wide p k (inl h) = inr (inr h)
       wide p k (inr (inl h)) = inr (inl h)
       wide p k (inr (inr h)) = inr (inr (inr h))
 
-  after₁ : Stays P v₁ v′ K 2 3
-  after₁ = stays-then P v₁ v₂ v′ NoWords K K 1 0 1 3 2 3 C2 (stays-then P v₂ v₃ v′ NoWords K K 1 0 0 3 1 3 C3 after₃ refl refl (λ p k h. inr (no-words K p k h))) refl refl (λ p k h. inr (no-words K p k h))
+  after₁ : Taking P v₁ v′ K 2 3
+  after₁ = taking-then P v₁ v₂ v′ NoWords K K 1 0 1 3 2 3 C2 (taking-then P v₂ v₃ v′ NoWords K K 1 0 0 3 1 3 C3 after₃ refl refl (λ p k h. inr (no-words K p k h))) refl refl (λ p k h. inr (no-words K p k h))
 
   pub started-placed : Placed P v v′ (Either (WordsOf 0 1016 4) UnreservedWords) 3
   started-placed = record {
     sound = sound P v′ (λ p. 0) (join-good P w (λ p. hit p u) Gw pos v′ i 0 u vacant (uOk .0) pu held zero-w read M paid′ (λ p. 0) (λ p h. omega arith)) (λ p h. refl);
-    stays = stays-then P v v₁ v′ NoWords K F 1 0 2 3 3 3 C1 after₁ refl refl wide;
+    taking = taking-then P v v₁ v′ NoWords K F 1 0 2 3 3 3 C1 after₁ refl refl wide;
   }
     where
       wide : (p k : ℕ) → Either NoWords K p k → Either (TakenWords P v v′) F p k

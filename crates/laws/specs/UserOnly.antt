@@ -1,25 +1,25 @@
 -- Only one user's entry and the unreserved count change: create a user's entry, delete a user, give, take. Assumes nothing.
-use mathlib.Core.Path.{_≡_, refl, sym, ap, ap₂, _∙_, subst, subst₂}
-use mathlib.Core.Logic.{_≢_, _⊎_, inl, inr}
-use Prim.Native.Nat.{ℕ, zero, suc, _+_, _-_, _*_, _/_, _%_, _^_, _≤_, _<_, zero-le, min}
-use native.Mathlib.Decide.{ℕ-discrete, decLt}
+use mathlib.Core.Path.{_≡_, refl, sym, ap, _∙_, subst}
+use mathlib.Core.Logic.{_≢_}
+use Prim.Native.Nat.{ℕ, _+_, _-_, _*_, _/_, _%_, _<_}
+use native.Mathlib.Decide.{ℕ-discrete}
 use native.Mathlib.Omega.{arith}
-use Rattle.sums.specs.Sum.{sum, is}
+use Rattle.sums.specs.Sum.{is}
 use Rattle.book.specs.Bits.{bit}
-use Rattle.book.specs.Entries.{entry, userFile, objectFile, user, object, used, given, usedPages, grant}
+use Rattle.book.specs.Entries.{entry, userFile, objectFile, user, object, used, usedPages, grant}
 use Rattle.book.specs.Files.{fileAt}
-use Rattle.book.specs.Holders.{hit, some, all, mine}
-use Rattle.book.specs.Pointers.{flags, page}
+use Rattle.book.specs.Holders.{hit, some, mine}
+use Rattle.book.specs.Pointers.{flags}
 use Rattle.book.specs.Rules.{Rule6, Rule7}
 use Rattle.book.specs.Trees.{Root, weighR, blocksR, pageAt}
 use Rattle.book.specs.Words.{Vol, two, word}
-use Rattle.laws.specs.Count.{Good, Most}
-use Rattle.laws.specs.Edit.{Outside, Change, Fine, obj-page, user-page, obj-at, objs-words, user-at, users-words, bits-same, edit-mine, edit-good, weighR-nobody}
-use Rattle.laws.specs.Frame.{pageAt-le, weighR-frame, blocksR-le, Kept, file-kept}
+use Rattle.laws.specs.Count.{Good}
+use Rattle.laws.specs.Edit.{Outside, Change, user-page, obj-at, objs-words, user-at, users-words, bits-same, edit-mine, edit-good, weighR-nobody}
+use Rattle.laws.specs.Frame.{pageAt-le, weighR-frame, blocksR-le, file-kept}
 use Rattle.laws.specs.Part.{file-le}
 use Rattle.laws.specs.Rules.{UserNew, FileNew, used-ext, shape-same}
 use Rattle.laws.specs.Shrunk.{all-zero}
-use Rattle.laws.specs.Tree.{Agree, two-ext, hit-zero, hit-same, some-zero}
+use Rattle.laws.specs.Tree.{Agree, two-ext, hit-zero}
 use Rattle.laws.specs.Names.{Legal-ext, SameFile-ext}
 
 module _ (P : ℕ) (v : Vol) (hand : ℕ → ℕ) (G : Good P v hand) (pos : 0 < P) (a : ℕ) (ha : a < 256) (v′ : Vol)
@@ -53,13 +53,14 @@ module _ (P : ℕ) (v : Vol) (hand : ℕ → ℕ) (G : Good P v hand) (pos : 0 <
   users-else u n k h = users-words P v hand G pos a 0 ha zero256 (λ x. 0) v′ change u n k h
 
   -- every object entry stays
-  pub objects-else : (x k : ℕ) → k < 32 → object v′ x k ≡ object v x k
+  words : (x k : ℕ) → k < 32 → object v′ x k ≡ object v x k
   unfolding object entry
-  objects-else x k h = elim (ℕ-discrete x e) [
+  words x k h = elim (ℕ-discrete x e) [
     | yes q ↦ subst (λ (y : ℕ). object v′ y k ≡ object v y k) (sym q) (obj-at P v hand G pos a 0 ha zero256 (λ x. 0) v′ change k ∙ sameO (32 * (e % 32) + k))
     | no n ↦ objs-words P v hand G pos a 0 ha zero256 (λ x. 0) v′ change x n k h
   ]
 
+  -- the bits stay
   pub bits-else : (p : ℕ) → p < P → bit P v′ p ≡ bit P v p
   bits-else p h = bits-same P v hand G pos a 0 ha zero256 (λ x. 0) v′ change p h
 
@@ -68,17 +69,17 @@ module _ (P : ℕ) (v : Vol) (hand : ℕ → ℕ) (G : Good P v hand) (pos : 0 <
 
   root : fileAt v′ e ≡ fileAt v e
   root = file-kept v v′ e (record {
-    head = objects-else e 0 (omega arith);
-    pages = two-ext (object v′ e) (object v e) 26 (objects-else e 26 (omega arith)) (objects-else e 27 (omega arith));
-    ptr = objects-else e 30 (omega arith);
-    ptr′ = objects-else e 31 (omega arith);
+    head = words e 0 (omega arith);
+    pages = two-ext (object v′ e) (object v e) 26 (words e 26 (omega arith)) (words e 27 (omega arith));
+    ptr = words e 30 (omega arith);
+    ptr′ = words e 31 (omega arith);
   })
 
   weight : (g : ℕ → ℕ) → weighR v′ (fileAt v′ e) g ≡ weighR v (fileAt v e) g
   weight g = ap (λ (r : Root). weighR v′ r g) root ∙ weighR-frame v v′ (hit U) agree (fileAt v e) quiet g
 
   used-obj : (x : ℕ) → used (object v′ x) ≡ used (object v x)
-  used-obj x = used-ext (object v′ x) (object v x) (objects-else x 0 (omega arith))
+  used-obj x = used-ext (object v′ x) (object v x) (words x 0 (omega arith))
 
   module _ (N : UserNew v′ a) (owner : (h : ℕ) → h < 256 → 0 < used (object v (256 * a + h)) → 0 < used (user v′ a))
       (high : flags (v 0) 1016 ≡ 1 → 63 < a → used (user v′ a) ≡ 0)
@@ -89,14 +90,14 @@ module _ (P : ℕ) (v : Vol) (hand : ℕ → ℕ) (G : Good P v hand) (pos : 0 <
     file-new = record {
       ok = λ h. let h′ : 0 < used (object v e) = omega (arith, used-obj e) in let o = G .most .r6 .0 a 0 ha zero256 h′ in record {
         owner = owner 0 zero256 h′;
-        whose = objects-else e 16 (omega arith) ∙ o .whose;
-        number = objects-else e 17 (omega arith) ∙ o .number;
-        name = Legal-ext (object v′ e) (object v e) 1 1 16 (λ i j. objects-else e (1 + i / 2) (omega arith)) (o .name);
-        type = Legal-ext (object v′ e) (object v e) 9 0 4 (λ i j. objects-else e (9 + i / 2) (omega arith)) (o .type);
+        whose = words e 16 (omega arith) ∙ o .whose;
+        number = words e 17 (omega arith) ∙ o .number;
+        name = Legal-ext (object v′ e) (object v e) 1 1 16 (λ i j. words e (1 + i / 2) (omega arith)) (o .name);
+        type = Legal-ext (object v′ e) (object v e) 9 0 4 (λ i j. words e (9 + i / 2) (omega arith)) (o .type);
       };
       alone = λ h i n j k s. n (G .most .r6 .1 a h 0 ha i zero256 (omega (arith, used-obj (256 * a + h))) (omega (arith, used-obj e))
-          (SameFile-ext (object v (256 * a + h)) (object v e) (object v′ (256 * a + h)) (object v′ e) (λ l o. objects-else (256 * a + h) (1 + l) (omega arith)) (λ l o. objects-else e (1 + l) (omega arith)) s));
-      shape = λ h. let h′ : 0 < used (object v e) = omega (arith, used-obj e) in shape-same P v v′ (hit U) agree e (objects-else e) h′ quiet (G .most .r7 e (omega arith) h′);
+          (SameFile-ext (object v (256 * a + h)) (object v e) (object v′ (256 * a + h)) (object v′ e) (λ l o. words (256 * a + h) (1 + l) (omega arith)) (λ l o. words e (1 + l) (omega arith)) s));
+      shape = λ h. let h′ : 0 < used (object v e) = omega (arith, used-obj e) in shape-same P v v′ (hit U) agree e (words e) h′ quiet (G .most .r7 e (omega arith) h′);
     }
 
     pub user-good : Good P v′ hand

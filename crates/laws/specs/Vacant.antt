@@ -17,23 +17,12 @@ use Rattle.laws.specs.Frame.{upto-in, blocksR-le}
 use Rattle.laws.specs.Calm.{users-top}
 use Rattle.laws.specs.Finish.{used-page}
 use Rattle.laws.specs.Join.{Vacant}
+use Rattle.laws.specs.Positions.{root-one, root-two}
 use Rattle.laws.specs.Rules.{flags-ext, page-ext}
 use Rattle.laws.specs.Start.{zero-none}
 use Rattle.laws.specs.Part.{rest, all-rest}
+use Rattle.laws.specs.There.{high-unused}
 use Rattle.laws.specs.Tree.{hit-zero, hit-same, slot-zero}
-
--- ---- positions by the flags of a pointer
-
-module _ (v : Vol) (w : Words) (k n : ℕ) where
-  pub at-indexed : flags w k ≡ 1 → n < 512 → pageAt v (rootAt w k 0) n ≡ slot v (page w k) n
-  unfolding pageAt leaf
-  at-indexed e h = let q : n / 1 ≡ n = omega arith in
-      ap (λ (r : Root). pageAt v r n) (root-1 w k 0 e) ∙ upto-in n 512 (slot v (page w k) (n / 1)) h ∙ ap (slot v (page w k)) q
-
-  pub at-subindexed : flags w k ≡ 2 → n < 262144 → pageAt v (rootAt w k 0) n ≡ slot v (slot v (page w k) (n / 512)) (n % 512)
-  unfolding pageAt leaf
-  at-subindexed e h = let q : n % 512 / 1 ≡ n % 512 = omega arith in
-      ap (λ (r : Root). pageAt v r n) (root-2 w k 0 e) ∙ upto-in n 262144 (slot v (slot v (page w k) (n / 512)) (n % 512 / 1)) h ∙ ap (slot v (slot v (page w k) (n / 512))) q
 
 -- ---- blocks
 
@@ -60,8 +49,8 @@ module _ (P : ℕ) (v : Vol) (S : Sound P v) where
     t = page (v 0) 1018
 
     pub user-slot : userPage v u ≡ slot v t (entryPage u)
-    unfolding userPage userFile
-    user-slot = at-indexed v (v 0) 1018 (u / 32) one (omega arith)
+    unfolding userPage userFile rootAt
+    user-slot = root-one v (flags (v 0) 1018) t 0 (u / 32) one (omega arith)
 
     pub user-block : 1 ≤ blocksR v (userFile v) (hit t)
     unfolding userFile blocksR
@@ -108,13 +97,13 @@ reached-kept P v w e a b R = record { kind = go (R .kind); real = omega (arith, 
 
 -- the entries of a used user are reached
 pub used-reached : (P : ℕ) (v : Vol) → Sound P v → (u f : ℕ) → u < 256 → f < 256 → 0 < used (user v u) → Reached P v (fileEntry u f)
-unfolding Rule2 Rule5 Rule5By Inside user userFile
+unfolding Rule2 Inside user userFile
 used-reached P v S u f hu hf q = go (S .r2)
   where
     go : ((Zero (v 0) 1018 × Zero (v 0) 1016) ⊎ (Inside P (v 0) 1018 1 × (Inside P (v 0) 1016 1 ⊎ Inside P (v 0) 1016 2))) → Reached P v (fileEntry u f)
     go (inl z) = absurd (let r : ⊥ = omega (arith, used-page v (userFile v) u q, zero-none v (v 0) 1018 (z .0) (u / 32)) in r)
     go (inr (a, inl i)) =
-        let low : ¬ (63 < u) = λ h. omega (arith, q, subst (λ (x : ℕ). Rule5By P v x (page (v 0) 1016)) (i .0) (S .r5) .1 u h hu) in
+        let low : ¬ (63 < u) = λ h. omega (arith, q, high-unused P v (S .r5) (i .0) u h hu) in
         record { kind = inl (i .0, omega arith); real = i .1; below = i .2 }
     go (inr (a, inr i)) = record { kind = inr (i .0, omega arith); real = i .1; below = i .2 }
 
@@ -136,12 +125,12 @@ module _ (P : ℕ) (v : Vol) (S : Sound P v) (e : ℕ) (R : Reached P v e) where
   index-two = index-is 2
 
   pub object-slot : objectPage v e ≡ slot v (objectIndex v e) (entryPage e % 512)
-  unfolding objectPage objectFile
+  unfolding objectPage objectFile rootAt
   object-slot = go (R .kind)
     where
       go : ((flags (v 0) 1016 ≡ 1) × (e < 16384)) ⊎ ((flags (v 0) 1016 ≡ 2) × (e < 65536)) → pageAt v (rootAt (v 0) 1016 0) (e / 32) ≡ slot v (objectIndex v e) (e / 32 % 512)
-      go (inl h) = at-indexed v (v 0) 1016 (e / 32) (h .0) (omega (arith, h .1)) ∙ ap₂ (slot v) (sym (index-one (h .0))) (let q : e / 32 ≡ e / 32 % 512 = omega (arith, h .1) in q)
-      go (inr h) = at-subindexed v (v 0) 1016 (e / 32) (h .0) (omega (arith, h .1)) ∙ ap (λ (x : ℕ). slot v x (e / 32 % 512)) (sym (index-two (h .0)))
+      go (inl h) = root-one v (flags (v 0) 1016) o 0 (e / 32) (h .0) (omega (arith, h .1)) ∙ ap₂ (slot v) (sym (index-one (h .0))) (let q : e / 32 ≡ e / 32 % 512 = omega (arith, h .1) in q)
+      go (inr h) = root-two v (flags (v 0) 1016) o 0 (e / 32) (h .0) (omega (arith, h .1)) ∙ ap (λ (x : ℕ). slot v x (e / 32 % 512)) (sym (index-two (h .0)))
 
   -- no block, no page
   pub object-none : objectIndex v e ≡ 0 → objectPage v e ≡ 0

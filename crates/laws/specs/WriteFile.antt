@@ -7,14 +7,14 @@ use Rattle.book.specs.Bits.{bit}
 use Rattle.book.specs.Entries.{userFile, objectFile, user, object, userPage, objectPage, entry, entryWord, fileEntry, usedPages, putEntry}
 use Rattle.book.specs.Files.{fileAt}
 use Rattle.book.specs.Holders.{hit, mine}
-use Rattle.book.specs.Trees.{Root, pageAt, blocksR}
+use Rattle.book.specs.Trees.{pageAt}
 use Rattle.book.specs.Words.{Vol, Words, two, word}
 use Rattle.book.specs.Written.{word-pos, word-ext}
 use Rattle.laws.specs.Count.{Good}
-use Rattle.laws.specs.Edit.{Outside, Change, obj-page, user-page, user-at, obj-at, users-words, objs-words, bits-same, weighR-nobody}
-use Rattle.laws.specs.Frame.{Roots, pageAt-le, pageAt-frame, blocksR-le, users-root, objs-root}
-use Rattle.laws.specs.Others.{no-block, file-stays}
-use Rattle.laws.specs.Part.{blocksR-add}
+use Rattle.laws.specs.Edit.{Outside, Change, user-page, user-at, obj-at, bits-same, weighR-nobody}
+use Rattle.laws.specs.Edited.{edit-beside}
+use Rattle.laws.specs.Frame.{pageAt-le}
+use Rattle.laws.specs.Leave.{Beside}
 use Rattle.laws.specs.PutEntry.{entry-page, entry-agree, entry-outside, entry-here}
 use Rattle.laws.specs.Shrunk.{all-zero}
 use Rattle.laws.specs.Tree.{Agree, hit-zero, hit-same, two-ext}
@@ -94,53 +94,9 @@ module _ (P : ℕ) (x : Vol) (hand : ℕ → ℕ) (G : Good P x hand) (pos : 0 <
   owner-used = two-at (user x u) (x U) 16 (entryWord u + 16) (word-pos x U (entryWord u + 16) isU)
       (word-pos x U (entryWord u + 17) isU ∙ ap (x U) (let q : entryWord u + 17 ≡ suc (entryWord u + 16) = omega arith in q))
 
-  -- the entries' pages are where they were
-  abbrev C : ℕ → ℕ
-  C z = hit (pageAt x (objectFile x) (e / 32)) z + hit (pageAt x (userFile x) (u / 32)) z
-
-  agree : Agree C x v′
-  unfolding Agree
-  agree q h k = write-change .agree q (omega (arith, h)) k
-
-  roots : Roots x v′
-  unfolding Roots
-  roots k i j = write-master k
-
-  pub write-object-at : (i : ℕ) → pageAt v′ (objectFile v′) i ≡ pageAt x (objectFile x) i
-  write-object-at i = ap (λ (r : Root). pageAt v′ r i) (objs-root x v′ roots) ∙ pageAt-frame x v′ C agree (objectFile x) (omega (
-    arith,
-    blocksR-add x (hit (pageAt x (objectFile x) (e / 32))) (hit (pageAt x (userFile x) (u / 32))) (objectFile x),
-    obj-page P x hand G pos (e / 32) .2,
-    user-page P x hand G pos (u / 32) .1,
-    blocksR-le x (objectFile x) (hit (pageAt x (userFile x) (u / 32))),
-  )) i
-
-  pub write-user-at : (i : ℕ) → pageAt v′ (userFile v′) i ≡ pageAt x (userFile x) i
-  write-user-at i = ap (λ (r : Root). pageAt v′ r i) (users-root x v′ roots) ∙ pageAt-frame x v′ C agree (userFile x) (omega (
-    arith,
-    blocksR-add x (hit (pageAt x (objectFile x) (e / 32))) (hit (pageAt x (userFile x) (u / 32))) (userFile x),
-    user-page P x hand G pos (u / 32) .2,
-    obj-page P x hand G pos (e / 32) .1,
-    blocksR-le x (userFile x) (hit (pageAt x (objectFile x) (e / 32))),
-  )) i
-
-  -- all others stay
-  pub write-users : (z : ℕ) → z ≢ u → (k : ℕ) → k < 32 → user v′ z k ≡ user x z k
-  write-users z n k h = users-words P x hand G pos u f hu hf (λ x. 0) v′ write-change z n k h
-
-  pub write-objects : (z : ℕ) → z ≢ e → (k : ℕ) → k < 32 → object v′ z k ≡ object x z k
-  write-objects z n k h = objs-words P x hand G pos u f hu hf (λ x. 0) v′ write-change z n k h
+  -- all beside the file and its owner's used count stays
+  pub write-beside : Beside P x v′ u e
+  write-beside = edit-beside P x hand G pos u f hu hf (λ x. 0) v′ write-change write-master write-owner
 
   pub write-bits : (p : ℕ) → p < P → bit P v′ p ≡ bit P x p
   write-bits p h = bits-same P x hand G pos u f hu hf (λ x. 0) v′ write-change p h
-
-  pub write-addresses : (z : ℕ) → z < 65536 → z ≢ e → (m : ℕ) → pageAt v′ (fileAt v′ z) m ≡ pageAt x (fileAt x z) m
-  write-addresses z h n m = file-stays x v′ C agree z quiet (write-objects z n) m
-    where
-      quiet : blocksR x (fileAt x z) C ≡ 0
-      quiet = omega (
-        arith,
-        blocksR-add x (hit (pageAt x (objectFile x) (e / 32))) (hit (pageAt x (userFile x) (u / 32))) (fileAt x z),
-        no-block x (hit (pageAt x (objectFile x) (e / 32))) (obj-page P x hand G pos (e / 32) .3) z h,
-        no-block x (hit (pageAt x (userFile x) (u / 32))) (user-page P x hand G pos (u / 32) .3) z h,
-      )

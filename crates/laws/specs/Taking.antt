@@ -15,10 +15,12 @@ use Rattle.book.specs.Written.{word-ext}
 use Rattle.laws.specs.Claim.{bitPage-rest, claim-agree, claim-quiet, claim-none, claim-bit, claim-bit-other, claim-free, claim-master}
 use Rattle.laws.specs.Count.{Good, free, bit-le}
 use Rattle.laws.specs.Delete.{bits-good}
-use Rattle.laws.specs.Frame.{Roots, pageAt-frame, blocksR-le, users-root, objs-root, bits-root}
-use Rattle.laws.specs.Part.{rest, all-rest, user-calm, obj-calm, mine-calm, page-calm}
+use Rattle.laws.specs.Frame.{Roots, pageAt-frame, weighR-frame, blocksR-le, users-root, objs-root, bits-root}
+use Rattle.laws.specs.Leave.{Still, still-calm, bitPage-same, places-unreserved}
+use Rattle.laws.specs.Part.{rest, all-rest}
 use Rattle.laws.specs.Places.{Places, PageOf, WordsOf, Either, OnlyAt, only-wider, only-then, only-put, only-wipe}
-use Rattle.laws.specs.System.{Settled, file-same, fileC, mine-same, bits-kept}
+use Rattle.laws.specs.Still.{blocks-nobody}
+use Rattle.laws.specs.System.{Settled, file-same, bits-kept}
 use Rattle.laws.specs.Tree.{Agree, two-ext, hit-zero, hit-same, hit-other}
 
 -- ---- pages taken
@@ -40,27 +42,27 @@ no-words K p k (inl h) = absurd h
 no-words K p k (inr h) = h
 
 -- n pages are taken and m paid; but for these pages, only words of F change
-pub record Stays (P : ℕ) (v w : Vol) (F : Places) (n m : ℕ) : Type 0 where
+pub record Taking (P : ℕ) (v w : Vol) (F : Places) (n m : ℕ) : Type 0 where
   pub users : user w ≡ user v
-  pub objs : object w ≡ object v
+  pub objects : object w ≡ object v
   pub userAt : (i : ℕ) → 0 < pageAt v (userFile v) i → pageAt w (userFile w) i ≡ pageAt v (userFile v) i
-  pub objAt : (i : ℕ) → 0 < pageAt v (objectFile v) i → pageAt w (objectFile w) i ≡ pageAt v (objectFile v) i
-  pub files : (e : ℕ) → e < 65536 → (i : ℕ) → pageAt w (fileAt w e) i ≡ pageAt v (fileAt v e) i
-  pub mines : (u : ℕ) → u < 256 → (g : ℕ → ℕ) → mine w u g ≡ mine v u g
+  pub objectAt : (i : ℕ) → 0 < pageAt v (objectFile v) i → pageAt w (objectFile w) i ≡ pageAt v (objectFile v) i
+  pub address : (e : ℕ) → e < 65536 → (i : ℕ) → pageAt w (fileAt w e) i ≡ pageAt v (fileAt v e) i
+  pub holding : (e : ℕ) → e < 65536 → (g : ℕ → ℕ) → weighR w (fileAt w e) g ≡ weighR v (fileAt v e) g
   pub bits : (p : ℕ) → p < P → bit P v p ≤ bit P w p
   pub places : (p : ℕ) → bitPage P w p ≡ bitPage P v p
   pub left : free P w + n ≡ free P v
   pub paid : unreserved w + m ≡ unreserved v
   pub words : OnlyAt (Either (TakenWords P v w) F) v w
 
-pub stays-none : (P : ℕ) (v : Vol) → Stays P v v NoWords 0 0
-stays-none P v = record {
+pub taking-none : (P : ℕ) (v : Vol) → Taking P v v NoWords 0 0
+taking-none P v = record {
   users = refl;
-  objs = refl;
+  objects = refl;
   userAt = λ i h. refl;
-  objAt = λ i h. refl;
-  files = λ e h i. refl;
-  mines = λ u h g. refl;
+  objectAt = λ i h. refl;
+  address = λ e h i. refl;
+  holding = λ e h g. refl;
   bits = λ p h. omega arith;
   places = λ p. refl;
   left = omega arith;
@@ -69,15 +71,15 @@ stays-none P v = record {
 }
 
 -- one step after the other; n, m and F are what they come to
-pub stays-then : (P : ℕ) (v w x : Vol) (F H K : Places) (a b c d n m : ℕ) → Stays P v w F a b → Stays P w x H c d → n ≡ a + c → m ≡ b + d
-    → ((p k : ℕ) → Either F H p k → Either (TakenWords P v x) K p k) → Stays P v x K n m
-stays-then P v w x F H K a b c d n m S T en em wide = record {
+pub taking-then : (P : ℕ) (v w x : Vol) (F H K : Places) (a b c d n m : ℕ) → Taking P v w F a b → Taking P w x H c d → n ≡ a + c → m ≡ b + d
+    → ((p k : ℕ) → Either F H p k → Either (TakenWords P v x) K p k) → Taking P v x K n m
+taking-then P v w x F H K a b c d n m S T en em wide = record {
   users = T .users ∙ S .users;
-  objs = T .objs ∙ S .objs;
+  objects = T .objects ∙ S .objects;
   userAt = λ i h. T .userAt i (omega (arith, S .userAt i h)) ∙ S .userAt i h;
-  objAt = λ i h. T .objAt i (omega (arith, S .objAt i h)) ∙ S .objAt i h;
-  files = λ e h i. T .files e h i ∙ S .files e h i;
-  mines = λ u h g. T .mines u h g ∙ S .mines u h g;
+  objectAt = λ i h. T .objectAt i (omega (arith, S .objectAt i h)) ∙ S .objectAt i h;
+  address = λ e h i. T .address e h i ∙ S .address e h i;
+  holding = λ e h g. T .holding e h g ∙ S .holding e h g;
   bits = λ p h. omega (arith, S .bits p h, T .bits p h);
   places = λ p. T .places p ∙ S .places p;
   left = omega (arith, S .left, T .left);
@@ -93,8 +95,8 @@ stays-then P v w x F H K a b c d n m S T en em wide = record {
     both p k (inr (inr f)) = wide p k (inr f)
 
 -- the same in other words
-pub stays-wider : (P : ℕ) (v w : Vol) (F K : Places) (a b n m : ℕ) → Stays P v w F a b → n ≡ a → m ≡ b → ((p k : ℕ) → F p k → Either (TakenWords P v w) K p k) → Stays P v w K n m
-stays-wider P v w F K a b n m S en em wide = stays-then P v v w NoWords F K 0 0 a b n m (stays-none P v) S (omega arith) (omega arith) (λ p k h. wide p k (no-words F p k h))
+pub taking-wider : (P : ℕ) (v w : Vol) (F K : Places) (a b n m : ℕ) → Taking P v w F a b → n ≡ a → m ≡ b → ((p k : ℕ) → F p k → Either (TakenWords P v w) K p k) → Taking P v w K n m
+taking-wider P v w F K a b n m S en em wide = taking-then P v v w NoWords F K 0 0 a b n m (taking-none P v) S (omega arith) (omega arith) (λ p k h. wide p k (no-words F p k h))
 
 -- ---- pages that no user, object or file tree holds change
 
@@ -107,31 +109,29 @@ module _ (P : ℕ) (v w : Vol) (m : (k : ℕ) → w 0 k ≡ v 0 k) (C : ℕ → 
   unfolding rest
   calm-blocks = (omega (arith, blocksR-le v (userFile v) C, q), omega (arith, blocksR-le v (objectFile v) C, q))
 
-  pub calm-places : (p : ℕ) → bitPage P w p ≡ bitPage P v p
-  unfolding bitPage bitFile pageAt
-  calm-places p = ap (λ (r : Root). pageAt w r (p / 16384)) (bits-root v w R P)
-
   pub calm-users : (i : ℕ) → pageAt w (userFile w) i ≡ pageAt v (userFile v) i
   calm-users i = ap (λ (r : Root). pageAt w r i) (users-root v w R) ∙ pageAt-frame v w C A (userFile v) (calm-blocks .0) i
 
   pub calm-objs : (i : ℕ) → pageAt w (objectFile w) i ≡ pageAt v (objectFile v) i
   calm-objs i = ap (λ (r : Root). pageAt w r i) (objs-root v w R) ∙ pageAt-frame v w C A (objectFile v) (calm-blocks .1) i
 
-  pub calm-stays : (F : Places) (n : ℕ) → ((p : ℕ) → p < P → bit P v p ≤ bit P w p) → free P w + n ≡ free P v → OnlyAt (Either (TakenWords P v w) F) v w → Stays P v w F n 0
-  unfolding unreserved
-  calm-stays F n more left words = record {
-    users = user-calm v w R C c0 A q;
-    objs = obj-calm v w R C c0 A q;
+  pub calm-taking : (F : Places) (n : ℕ) → ((p : ℕ) → p < P → bit P v p ≤ bit P w p) → free P w + n ≡ free P v → OnlyAt (Either (TakenWords P v w) F) v w → Taking P v w F n 0
+  calm-taking F n more left words = record {
+    users = S .users;
+    objects = S .objects;
     userAt = λ i h. calm-users i;
-    objAt = λ i h. calm-objs i;
-    files = page-calm v w R C c0 A q;
-    mines = mine-calm v w R C c0 A q;
+    objectAt = λ i h. calm-objs i;
+    address = S .address;
+    holding = S .holding;
     bits = more;
-    places = calm-places;
+    places = bitPage-same P v w (S .places);
     left = left;
-    paid = omega (arith, two-ext (w 0) (v 0) 1022 (m 1022) (m 1023));
+    paid = omega (arith, places-unreserved v w (S .places));
     words = words;
   }
+    where
+      S : Still P v w
+      S = still-calm P v w C c0 A q m
 
 -- a page is taken
 module _ (P : ℕ) (v : Vol) (hand : ℕ → ℕ) (G : Good P v hand) (d : ℕ) (hd : d < P) (fd : bit P v d ≡ 0) where
@@ -142,8 +142,8 @@ module _ (P : ℕ) (v : Vol) (hand : ℕ → ℕ) (G : Good P v hand) (d : ℕ) 
   unfolding claim mark
   claim-words = only-then _ (PageOf d) v (mark P v d 1) w (only-put v (bitPage P v d) (bitWord d) _) (only-wipe (mark P v d 1) d)
 
-  pub claim-stays : Stays P v w NoWords 1 0
-  claim-stays = calm-stays P v w (claim-master P v hand G d hd fd) (λ x. hit (bitPage P v d) x + hit d x) (claim-none P v hand G d hd fd) (claim-agree P v hand G d hd fd)
+  pub claim-taking : Taking P v w NoWords 1 0
+  claim-taking = calm-taking P v w (claim-master P v hand G d hd fd) (λ x. hit (bitPage P v d) x + hit d x) (claim-none P v hand G d hd fd) (claim-agree P v hand G d hd fd)
       (claim-quiet P v hand G d hd fd) NoWords 1 more (claim-free P v hand G d hd fd) (only-wider _ (Either (TakenWords P v w) NoWords) v w wide claim-words)
     where
       more : (p : ℕ) → p < P → bit P v p ≤ bit P w p
@@ -171,43 +171,35 @@ module _ (P : ℕ) (v : Vol) (hand : ℕ → ℕ) (G : Good P v hand) (s : ℕ) 
   bits : (p : ℕ) → p < P → bit P w p ≡ bit P v p
   unfolding bit Agree
   bits p h =
-      ap (λ (x : ℕ). digit (bitPlace p) (word w x (bitWord p))) (calm-places P v w master (hit s) (hit-zero s) agree quiet p)
+      ap (λ (x : ℕ). digit (bitPlace p) (word w x (bitWord p))) (bitPage-same P v w (still-calm P v w (hit s) (hit-zero s) agree quiet master .places) p)
       ∙ ap (digit (bitPlace p)) (agree (bitPage P v p) (hit-other s (bitPage P v p) (λ e. omega (arith, held, subst (λ (x : ℕ). hand x ≡ 0) e (bitPage-rest P v hand G p h .1)))) (bitWord p))
 
   pub hand-good : Good P w hand
   hand-good = bits-good P v w hand hand (hit s) G (hit-zero s) agree quiet master (λ p h. omega (arith, bits p h))
 
-  pub hand-stays : (F : Places) → OnlyAt F v w → Stays P v w F 0 0
+  pub hand-taking : (F : Places) → OnlyAt F v w → Taking P v w F 0 0
   unfolding free
-  hand-stays F o = calm-stays P v w master (hit s) (hit-zero s) agree quiet F 0 (λ p h. omega (arith, bits p h))
+  hand-taking F o = calm-taking P v w master (hit s) (hit-zero s) agree quiet F 0 (λ p h. omega (arith, bits p h))
       (omega (arith, sum-ext P (λ p. 1 - bit P w p) (λ p. 1 - bit P v p) (λ p h. ap (λ (x : ℕ). 1 - x) (bits p h))))
       (only-wider F (Either (TakenWords P v w) F) v w (λ p k h. inr h) o)
 
 -- ---- a page in hand becomes the system's, and is paid
 
-pub settled-stays : (P : ℕ) (v : Vol) (hand : ℕ → ℕ) (G : Good P v hand) (v′ : Vol) (C : ℕ → ℕ) (new : (ℕ → ℕ) → ℕ) → Settled P v v′ C new
+pub settled-taking : (P : ℕ) (v : Vol) (hand : ℕ → ℕ) (G : Good P v hand) (v′ : Vol) (C : ℕ → ℕ) (new : (ℕ → ℕ) → ℕ) → Settled P v v′ C new
     → ((i : ℕ) → 0 < pageAt v (userFile v) i → pageAt v′ (userFile v′) i ≡ pageAt v (userFile v) i)
     → ((i : ℕ) → 0 < pageAt v (objectFile v) i → pageAt v′ (objectFile v′) i ≡ pageAt v (objectFile v) i)
-    → (F : Places) → OnlyAt F v v′ → Stays P v v′ F 0 (new some)
+    → (F : Places) → OnlyAt F v v′ → Taking P v v′ F 0 (new some)
 unfolding unreserved bitPage bitFile pageAt free
-settled-stays P v hand G v′ C new T ua oa F o = record {
+settled-taking P v hand G v′ C new T ua oa F o = record {
   users = T .users;
-  objs = T .objs;
+  objects = T .objs;
   userAt = ua;
-  objAt = oa;
-  files = λ e h i. ap (λ (r : Root). pageAt v′ r i) (file-same P v hand G v′ C new T e)
-      ∙ pageAt-frame v v′ C (T .agree) (fileAt v e) (omega (arith, blocksR-le v (fileAt v e) C, file e h)) i;
-  mines = λ u h g. mine-same P v hand G v′ C new T g u h;
+  objectAt = oa;
+  address = λ e h i. ap (λ (r : Root). pageAt v′ r i) (file-same P v hand G v′ C new T e) ∙ pageAt-frame v v′ C (T .agree) (fileAt v e) (blocks-nobody v C (T .noFiles) e h) i;
+  holding = λ e h g. ap (λ (r : Root). weighR v′ r g) (file-same P v hand G v′ C new T e) ∙ weighR-frame v v′ C (T .agree) (fileAt v e) (blocks-nobody v C (T .noFiles) e h) g;
   bits = λ p h. omega (arith, bits-kept P v hand G v′ C new T p);
   places = λ p. ap (λ (r : Root). pageAt v r (p / 16384)) (T .bits);
-  left = omega (arith, same);
+  left = omega (arith, sum-ext P (λ p. 1 - bit P v′ p) (λ p. 1 - bit P v p) (λ p h. ap (λ (x : ℕ). 1 - x) (bits-kept P v hand G v′ C new T p)));
   paid = T .pay;
   words = only-wider F (Either (TakenWords P v v′) F) v v′ (λ p k h. inr h) o;
 }
-  where
-    file : (e : ℕ) → e < 65536 → weighR v (fileAt v e) C ≡ 0
-    file e h = let s : 256 * (e / 256) + e % 256 ≡ e = omega arith in
-        subst (λ (x : ℕ). weighR v (fileAt v x) C ≡ 0) s (fileC P v hand G v′ C new T (e / 256) (e % 256) (omega arith) (omega arith))
-
-    same : free P v′ ≡ free P v
-    same = sum-ext P (λ p. 1 - bit P v′ p) (λ p. 1 - bit P v p) (λ p h. ap (λ (x : ℕ). 1 - x) (bits-kept P v hand G v′ C new T p))

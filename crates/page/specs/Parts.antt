@@ -1,0 +1,21 @@
+-- Rows of words, and of bytes in them, that helpers read and write. Assumes nothing.
+use mathlib.Core.Path.{_≡_}
+use mathlib.Core.List.{List}
+use Prim.Native.Nat.{ℕ, _<_, _≤_}
+use lib.ListN.{getD}
+use Rattle.book.specs.Words.{Words}
+use Rattle.book.specs.Names.{Letter, byteAt}
+
+-- the first n words of a part are those of w
+abbrev pub Begins : ℕ → List ℕ → Words → Type 0
+Begins n xs w = (k : ℕ) → k < n → getD xs k 0 ≡ w k
+
+-- words k to z - 1 are zeros
+abbrev pub Blank : Words → ℕ → ℕ → Type 0
+Blank w k z = (i : ℕ) → i < z → k ≤ i → w i ≡ 0
+
+-- of the n bytes from word k on, those before byte l are letters, and byte l is not
+pub record Letters (n : ℕ) (w : Words) (k l : ℕ) : Type 0 where
+  pub most : l ≤ n
+  pub before : (i : ℕ) → i < l → Letter (byteAt w k i)
+  pub stops : l < n → Letter (byteAt w k l) → ⊥

@@ -1,0 +1,40 @@
+// Where an entry lies in its file: 32 words, 32 to a page, for users and objects alike.
+use crate::WORDS;
+use crate::write::zero_words;
+ghost use mathlib.Core.Path.{_≡_};
+ghost use Prim.Native.Nat.{_+_, _*_, _≤_};
+ghost use lib.ListN.{length};
+ghost use Rattle.book.specs.Words.{vol, putWords, zeros};
+ghost use Rattle.book.specs.Entries.{entryPage, entryWord};
+
+// The page of an entry, counted in its file, and its first word there.
+pub struct EntryPlace {
+    pub page: usize,
+    pub word: usize,
+}
+
+impl EntryPlace {
+    pub const WORDS: usize = 32;
+
+    pub const PER_PAGE: usize = 32;
+
+    // The place of entry n.
+    pub fn of(n: usize) -> Self
+        ensures { λ r. ⌜ (r .page ≡ entryPage n) × (r .word ≡ entryWord n) ⌝ }
+    {
+        Self {
+            page: n / Self::PER_PAGE,
+            word: Self::WORDS * (n % Self::PER_PAGE),
+        }
+    }
+}
+
+// The entry at word k of page p becomes zeros.
+pub fn clear_entry(img: &mut [u16], p: usize, k: usize)
+    requires { ⌜ (1024 * p + 1024 ≤ length (now img)) × (k + 32 ≤ 1024) ⌝ }
+    ensures { λ _. ⌜ vol (now (img .exit)) ≡ putWords (vol (now (img .entry))) p k 32 zeros ⌝ }
+{
+    let a = WORDS * p + k;
+    let z = a + EntryPlace::WORDS;
+    zero_words(&mut img[a..z]);
+}

@@ -1,0 +1,4 @@
+// The page at a position of a tree or run, and the entries on it: one way to read users, objects and files.
+pub mod entry;
+pub mod file;
+pub mod root;
