@@ -6,6 +6,7 @@ use Prim.Native.Nat.{ℕ, zero, suc, _+_, _-_, _*_, _/_, _%_, _≤_, _<_}
 use native.Mathlib.Nat.{eq-zero-or-pos}
 use native.Mathlib.Decide.{ℕ-discrete}
 use native.Mathlib.Omega.{arith}
+use Rattle.sums.specs.Sum.{sum-ext}
 use Rattle.sums.specs.Search.{pick-no, pick-yes, lowest, lowest-is}
 use Rattle.book.specs.Bits.{bit}
 use Rattle.book.specs.Calls.{IsUser}
@@ -18,11 +19,12 @@ use Rattle.book.specs.Pointers.{flags, page, Zero, Inside}
 use Rattle.book.specs.Rules.{Rule2, Sound}
 use Rattle.book.specs.Trees.{pageAt}
 use Rattle.book.specs.Words.{Vol, Words, two, word}
-use Rattle.laws.specs.Count.{Good, Most, good, sound, mine-unused, most}
+use Rattle.laws.specs.Count.{Good, good, sound, free, mine-unused, most}
 use Rattle.laws.specs.Edit.{Outside, user-page}
 use Rattle.laws.specs.Extend.{Placed}
-use Rattle.laws.specs.Frame.{Roots}
+use Rattle.laws.specs.Frame.{Roots, blocksR-le}
 use Rattle.laws.specs.Grow.{Chooser}
+use Rattle.laws.specs.Leave.{SamePlaces, places-frame, places-unreserved}
 use Rattle.laws.specs.Names.{Legal-ext, SameName-ext}
 use Rattle.laws.specs.NewEntry.{user-used, user-name, user-own, user-zero}
 use Rattle.laws.specs.Packed.{packed-legal}
@@ -56,6 +58,22 @@ new-first P v r z = elim (eq-zero-or-pos (newUser v)) [
 
 -- ---- the step
 
+-- the words that it may change: those of the pages taken, of his place, of his entry
+abbrev pub UserCreateWords : ℕ → Vol → Vol → ℕ → Places
+UserCreateWords P v v′ u = Either (TakenWords P v v′) (Either (UserPlaceWords v u) (EntryOf (userPage v′ u) u))
+
+-- v′ is v with user u of this name, who has nothing yet
+pub record UserCreated (P : ℕ) (v v′ : Vol) (u : ℕ) (name : List ℕ) : Type 0 where
+  pub sound : Sound P v′
+  pub words : (k : ℕ) → k < 32 → user v′ u k ≡ userEntry u name k
+  pub users : (x : ℕ) → x ≢ u → (k : ℕ) → k < 32 → user v′ x k ≡ user v x k
+  pub objects : object v′ ≡ object v
+  pub address : (x : ℕ) → x < 65536 → (m : ℕ) → pageAt v′ (fileAt v′ x) m ≡ pageAt v (fileAt v x) m
+  pub paid : unreserved v′ + userNeed v u ≡ unreserved v
+  pub taken : free P v′ + userNeed v u ≡ free P v
+  pub bits : (p : ℕ) → p < P → bit P v p ≤ bit P v′ p
+  pub only : OnlyAt (UserCreateWords P v v′ u) v v′
+
 module _ (choose : Vol → ℕ) (P : ℕ) (ch : Chooser P choose) (v : Vol) (S : Sound P v) (pos : 0 < P) (big : P ≤ 1073741824) (name : List ℕ) (T : NameText name)
     (fresh : (u : ℕ) → IsUser v name u → ⊥) (lt : newUser v < 256) (have : userNeed v (newUser v) ≤ unreserved v) where
   abbrev u : ℕ
@@ -65,7 +83,7 @@ module _ (choose : Vol → ℕ) (P : ℕ) (ch : Chooser P choose) (v : Vol) (S :
   w = userPlace choose P v u
 
   -- his place: pages taken and paid
-  pub user-place : UserPlaced P v w u
+  user-place : UserPlaced P v w u
   user-place = user-placed choose P ch v S pos big u lt have (λ z. omega (arith, new-first P v (S .r2) z))
 
   abbrev v′ : Vol
@@ -90,12 +108,12 @@ module _ (choose : Vol → ℕ) (P : ℕ) (ch : Chooser P choose) (v : Vol) (S :
   onU k h = entry-outside w U u (userEntry u name) k h
 
   -- the entry reads as written
-  pub new-user-entry : (k : ℕ) → k < 32 → user v′ u k ≡ userEntry u name k
+  new-user-entry : (k : ℕ) → k < 32 → user v′ u k ≡ userEntry u name k
   unfolding createUser userPage
   new-user-entry k h = user-there P w (λ p. 0) G pos u lt v′ agree (λ k i. master k) onU k ∙ entry-here w U u (userEntry u name) (user-place .there) k h
 
   -- every other user's stays, and every file's
-  pub other-users : (x : ℕ) → x ≢ u → (k : ℕ) → k < 32 → user v′ x k ≡ user v x k
+  other-users : (x : ℕ) → x ≢ u → (k : ℕ) → k < 32 → user v′ x k ≡ user v x k
   other-users x n k h = users-else P w (λ p. 0) G pos u lt v′ agree (λ k i. master k) onU x n k h ∙ ap (λ (U : Table). U x k) (user-place .placed .taking .users)
 
   roots : Roots w v′
@@ -104,9 +122,6 @@ module _ (choose : Vol → ℕ) (P : ℕ) (ch : Chooser P choose) (v : Vol) (S :
 
   same-objects : object v′ ≡ object w
   same-objects = objects-still w v′ roots (hit _) (hit-zero _) agree (user-page P w (λ p. 0) G pos (u / 32) .1)
-
-  pub all-objects : object v′ ≡ object v
-  all-objects = same-objects ∙ user-place .placed .taking .objects
 
   unused : used (user w u) ≡ 0
   unused = ap (λ (U : Table). used (U u)) (user-place .placed .taking .users) ∙ new-unused v lt
@@ -144,7 +159,7 @@ module _ (choose : Vol → ℕ) (P : ℕ) (ch : Chooser P choose) (v : Vol) (S :
   unfolding grant
   new-grant = pick-yes (used (user v′ u)) (given (user v′) u) 0 (omega (arith, now-used)) ∙ none .0
 
-  pub create-user-sound : Sound P v′
+  create-user-sound : Sound P v′
   create-user-sound = sound P v′ (λ p. 0) (user-good P w (λ p. 0) G pos u lt v′ agree (λ k i. master k) onU new (λ h i q. omega (arith, now-used))
       (λ x i. absurd (let r : ⊥ = omega (arith, user-place .high x) in r))
       (omega (arith, new-grant, no-grant w unused, two-ext (v′ 0) (w 0) 1022 (master 1022) (master 1023)))
@@ -152,21 +167,39 @@ module _ (choose : Vol → ℕ) (P : ℕ) (ch : Chooser P choose) (v : Vol) (S :
 
   -- ---- all pages of all files stay
 
-  pub all-addresses : (x : ℕ) → x < 65536 → (m : ℕ) → pageAt v′ (fileAt v′ x) m ≡ pageAt v (fileAt v x) m
+  all-addresses : (x : ℕ) → x < 65536 → (m : ℕ) → pageAt v′ (fileAt v′ x) m ≡ pageAt v (fileAt v x) m
   all-addresses x h m = address-still w v′ roots (hit _) (hit-zero _) agree x (kept-words (object v′ x) (object w x) (λ k i n. ap (λ (O : Table). O x k) same-objects))
       (blocks-nobody w _ (user-page P w (λ p. 0) G pos (u / 32) .3) x h) m ∙ user-place .placed .taking .address x h m
 
   -- ---- no other word changes
 
-  pub bits-after : (p : ℕ) → p < P → bit P v′ p ≡ bit P w p
-  bits-after p h = bits-else P w (λ p. 0) G pos u lt v′ agree (λ k i. master k) onU p h
+  same-bits : (p : ℕ) → p < P → bit P v′ p ≡ bit P w p
+  same-bits p h = bits-else P w (λ p. 0) G pos u lt v′ agree (λ k i. master k) onU p h
 
-  pub create-user-only : OnlyAt (Either (TakenWords P v v′) (Either (UserPlaceWords v u) (EntryOf (userPage w u) u))) v v′
+  same-places : SamePlaces w v′
+  same-places = places-frame w v′ (hit _) agree master (user-page P w (λ p. 0) G pos (u / 32) .2)
+      (omega (arith, blocksR-le w (objectFile w) (hit (pageAt w (userFile w) (u / 32))), user-page P w (λ p. 0) G pos (u / 32) .1))
+
+  only : OnlyAt (UserCreateWords P v v′ u) v v′
   unfolding createUser
-  create-user-only = only-wider (Either (Either (TakenWords P v w) (UserPlaceWords v u)) (EntryOf U u)) (Either (TakenWords P v v′) (Either (UserPlaceWords v u) (EntryOf U u))) v v′ wide
+  only = only-wider (Either (Either (TakenWords P v w) (UserPlaceWords v u)) (EntryOf U u)) (UserCreateWords P v v′ u) v v′ wide
       (only-then (Either (TakenWords P v w) (UserPlaceWords v u)) (EntryOf U u) v w v′ (user-place .placed .taking .words) (only-putWords w U (entryWord u) 32 (userEntry u name)))
     where
-      wide : (p k : ℕ) → Either (Either (TakenWords P v w) (UserPlaceWords v u)) (EntryOf U u) p k → Either (TakenWords P v v′) (Either (UserPlaceWords v u) (EntryOf U u)) p k
-      wide p k (inl (inl (d, (a, b, c), q))) = inl (d, (a, b, bits-after d a ∙ c), q)
+      wide : (p k : ℕ) → Either (Either (TakenWords P v w) (UserPlaceWords v u)) (EntryOf U u) p k → UserCreateWords P v v′ u p k
+      wide p k (inl (inl (d, (a, b, c), q))) = inl (d, (a, b, same-bits d a ∙ c), q)
       wide p k (inl (inr h)) = inr (inl h)
-      wide p k (inr h) = inr (inr h)
+      wide p k (inr h) = inr (inr (h .0 ∙ sym (same-places .ofUser u), h .1, h .2))
+
+  pub create-user : UserCreated P v v′ u name
+  unfolding free
+  create-user = record {
+    sound = create-user-sound;
+    words = new-user-entry;
+    users = other-users;
+    objects = same-objects ∙ user-place .placed .taking .objects;
+    address = all-addresses;
+    paid = omega (arith, user-place .placed .taking .paid, places-unreserved w v′ same-places);
+    taken = omega (arith, user-place .placed .taking .left, sum-ext P (λ p. 1 - bit P v′ p) (λ p. 1 - bit P w p) (λ p h. ap (λ (y : ℕ). 1 - y) (same-bits p h)));
+    bits = λ p h. omega (arith, same-bits p h, user-place .placed .taking .bits p h);
+    only = only;
+  }

@@ -87,3 +87,4 @@ pub mod WriteFile
 pub mod Created
 pub mod RunTaking
 pub mod CreateFile
+pub mod CreateUserCall
