@@ -37,16 +37,23 @@ pub record FileWanted (P : ℕ) (v : Vol) (u : ℕ) (name type : List ℕ) : Typ
   pub entry : newFile v u < 256
   pub room : fileNeed v (fileEntry u (newFile v u)) ≤ unreserved v
 
+-- what stands beside the file at e and the used pages of user u is as it was: entries, and the pages of files
+pub record FileBeside (v v′ : Vol) (u e : ℕ) : Type 0 where
+  pub owner : (i : ℕ) → i < 32 → i ≢ 16 → i ≢ 17 → user v′ u i ≡ user v u i
+  pub users : (z : ℕ) → z ≢ u → (i : ℕ) → i < 32 → user v′ z i ≡ user v z i
+  pub objects : (z : ℕ) → z ≢ e → (i : ℕ) → i < 32 → object v′ z i ≡ object v z i
+  pub address : (z : ℕ) → z < 65536 → z ≢ e → (m : ℕ) → pageAt v′ (fileAt v′ z) m ≡ pageAt v (fileAt v z) m
+
+pub file-beside-same : (v : Vol) (u e : ℕ) → FileBeside v v u e
+file-beside-same v u e = record { owner = λ i h a b. refl; users = λ z n i h. refl; objects = λ z n i h. refl; address = λ z h n m. refl }
+
 -- v′ is v with a file of n pages from s on at entry e of user u; k pages were taken for its place, and only words of F are other beside those pages
 pub record Created (P : ℕ) (v v′ : Vol) (u e : ℕ) (E : Words) (n s k : ℕ) (F : Places) : Type 0 where
   pub sound : Sound P v′
   pub words : (i : ℕ) → i < 32 → object v′ e i ≡ E i
   pub root : fileAt v′ e ≡ run s n
-  pub owner : (i : ℕ) → i < 32 → i ≢ 16 → i ≢ 17 → user v′ u i ≡ user v u i
+  pub beside : FileBeside v v′ u e
   pub spent : usedPages (user v′) u ≡ usedPages (user v) u + n
-  pub users : (z : ℕ) → z ≢ u → (i : ℕ) → i < 32 → user v′ z i ≡ user v z i
-  pub objects : (z : ℕ) → z ≢ e → (i : ℕ) → i < 32 → object v′ z i ≡ object v z i
-  pub addresses : (z : ℕ) → z < 65536 → z ≢ e → (m : ℕ) → pageAt v′ (fileAt v′ z) m ≡ pageAt v (fileAt v z) m
   pub paid : unreserved v′ + k ≡ unreserved v
   pub taken : free P v′ + (k + n) ≡ free P v
   pub bits : (p : ℕ) → p < P → bit P v p ≤ bit P v′ p
@@ -139,11 +146,13 @@ module _ (choose : Vol → ℕ) (P : ℕ) (ch : Chooser P choose) (v : Vol) (S :
         sound = sound P v′ (λ p. 0) (whole .good) (λ p h. refl);
         words = write-entry P x hand G pos u f (A .index) (A .entry) isO isU E v′ else;
         root = whole .root;
-        owner = λ i h a b. beside .owner i h a b ∙ ap (λ (U : Table). U u i) same-users;
+        beside = record {
+          owner = λ i h a b. beside .owner i h a b ∙ ap (λ (U : Table). U u i) same-users;
+          users = λ z n i h. beside .users z n i h ∙ ap (λ (U : Table). U z i) same-users;
+          objects = λ z n i h. beside .files z n i h ∙ ap (λ (O : Table). O z i) same-objs;
+          address = λ z h n m. beside .address z h n m ∙ before .address z h m;
+        };
         spent = sums;
-        users = λ z n i h. beside .users z n i h ∙ ap (λ (U : Table). U z i) same-users;
-        objects = λ z n i h. beside .files z n i h ∙ ap (λ (O : Table). O z i) same-objs;
-        addresses = λ z h n m. beside .address z h n m ∙ before .address z h m;
         paid = omega (arith, before .paid, places-unreserved x v′ (beside .places));
         taken = omega (arith, before .left, sum-ext P (λ p. 1 - bit P v′ p) (λ p. 1 - bit P x p) (λ p h. ap (λ (y : ℕ). 1 - y) (bit-same p h)));
         bits = λ p h. omega (arith, bit-same p h, before .bits p h);

@@ -88,3 +88,5 @@ pub mod Created
 pub mod RunTaking
 pub mod CreateFile
 pub mod CreateUserCall
+pub mod Numbered
+pub mod CreateFileCall
