@@ -1,29 +1,30 @@
 -- Creating an indexed file and a contiguous one. Assumes nothing.
-use mathlib.Core.Path.{_≡_, refl, sym, ap, ap₂, _∙_, subst, subst₂}
-use mathlib.Core.Logic.{_≢_, _⊎_, inl, inr}
+use mathlib.Core.Path.{_≡_, refl, sym, ap, _∙_, subst, subst₂}
+use mathlib.Core.Logic.{_≢_, inl, inr}
 use mathlib.Core.List.{List}
-use Prim.Native.Nat.{ℕ, zero, suc, _+_, _-_, _*_, _/_, _%_, _≤_, _<_}
+use Prim.Native.Nat.{ℕ, _+_, _/_, _≤_, _<_}
+use native.Mathlib.Decide.{ℕ-discrete}
 use native.Mathlib.Omega.{arith}
 use Rattle.sums.specs.Sum.{sum, sum-zero, sum-ext}
 use Rattle.book.specs.Bits.{bit, claimRun, highestRun}
 use Rattle.book.specs.Create.{objectEntry, fileNeed, filePlace, createIndexed, createContiguous}
-use Rattle.book.specs.Entries.{Table, user, object, userPage, objectPage, entryWord, fileEntry, given, usedPages, spare, newFile, putEntry}
+use Rattle.book.specs.Entries.{Table, user, userPage, objectPage, entryWord, fileEntry, given, usedPages, spare, newFile, putEntry}
 use Rattle.book.specs.Holders.{hit}
 use Rattle.book.specs.Rules.{Rule4, Sound}
-use Rattle.book.specs.Words.{Vol, Words, two, put2}
+use Rattle.book.specs.Words.{Vol, Words, two}
 use Rattle.book.specs.Written.{put2-two}
 use Rattle.laws.specs.Cases.{hit-sym}
 use Rattle.laws.specs.Count.{Good, good}
 use Rattle.laws.specs.Created.{FileWanted, Created, file-place, owner-page, file-created}
 use Rattle.laws.specs.Grow.{Chooser}
 use Rattle.laws.specs.Highest.{FreeRun, run-found}
-use Rattle.laws.specs.Places.{Places, EntryOf, FieldOf, Either, OnlyAt, only-then, only-putWords, only-put2}
+use Rattle.laws.specs.Places.{EntryOf, FieldOf, Either, OnlyAt, only-then, only-putWords, only-put2}
 use Rattle.laws.specs.PutEntry.{entry-page}
 use Rattle.laws.specs.RunTaking.{run-taking}
 use Rattle.laws.specs.Runs.{taken}
 use Rattle.laws.specs.Taking.{NoWords, Taking, taking-none}
 use Rattle.laws.specs.Tree.{two-ext}
-use Rattle.laws.specs.WriteFile.{write-apart, write-beside, owner-used}
+use Rattle.laws.specs.WriteFile.{write-apart, write-beside, write-used, owner-now, owner-was}
 
 module _ (choose : Vol → ℕ) (P : ℕ) (ch : Chooser P choose) (v : Vol) (S : Sound P v) (pos : 0 < P) (u : ℕ) (name type : List ℕ) (created : ℕ) (A : FileWanted P v u name type) where
   abbrev f : ℕ
@@ -66,13 +67,16 @@ module _ (choose : Vol → ℕ) (P : ℕ) (ch : Chooser P choose) (v : Vol) (S :
   unfolding createIndexed
   else₀ p k h = refl
 
-  more₀ : two (v₀ (userPage w u)) (entryWord u + 16) ≡ usedPages (user v) u + 0
+  -- its owner's entry stays as it is
+  owner₀ : (k : ℕ) → user v₀ u k ≡ user w u k
   unfolding createIndexed
-  more₀ =
-      let n : userPage w u ≢ objectPage w e = write-apart P w (λ p. 0) Gw pos u f (A .index) (A .entry) isO isU E₀ v₀ else₀ in
-      let a : two (v₀ (userPage w u)) (entryWord u + 16) ≡ two (w (userPage w u)) (entryWord u + 16) =
-      two-ext (v₀ (userPage w u)) (w (userPage w u)) (entryWord u + 16) (entry-page w (objectPage w e) e E₀ (userPage w u) _ n) (entry-page w (objectPage w e) e E₀ (userPage w u) _ n) in
-      omega (arith, a, owner-used P w (λ p. 0) Gw pos u f (A .index) (A .entry) isO isU E₀ v₀ else₀, same)
+  owner₀ k = owner-now P w (λ p. 0) Gw pos u f (A .index) (A .entry) isO isU E₀ v₀ else₀ k
+      ∙ entry-page w (objectPage w e) e E₀ (userPage w u) (entryWord u + k) (write-apart P w (λ p. 0) Gw pos u f (A .index) (A .entry) isO isU E₀ v₀ else₀)
+      ∙ sym (owner-was P w (λ p. 0) Gw pos u f (A .index) (A .entry) isO isU E₀ v₀ else₀ k)
+
+  more₀ : two (v₀ (userPage w u)) (entryWord u + 16) ≡ usedPages (user v) u + 0
+  unfolding usedPages
+  more₀ = sym (write-used P w (λ p. 0) Gw pos u f (A .index) (A .entry) isO isU E₀ v₀ else₀) ∙ omega (arith, two-ext (user v₀ u) (user w u) 16 (owner₀ 16) (owner₀ 17), same)
 
   only₀ : OnlyAt (EntryOf (objectPage v₀ e) e) w v₀
   unfolding createIndexed
@@ -81,6 +85,13 @@ module _ (choose : Vol → ℕ) (P : ℕ) (ch : Chooser P choose) (v : Vol) (S :
   pub indexed-created : Created P v v₀ u e E₀ 0 0 (fileNeed v e) (EntryOf (objectPage v₀ e) e)
   indexed-created = file-created choose P ch v S pos u name type created A 0 0 w (λ p. 0) Gw (taking-none P w) (omega arith) (inl (refl, refl))
       (λ p h. sym (sum-zero (λ i. hit p (0 + i)))) (omega (arith, within)) v₀ else₀ more₀ (EntryOf (objectPage v₀ e) e) only₀
+
+  -- no user's entry changes
+  pub indexed-users : (z k : ℕ) → k < 32 → user v₀ z k ≡ user v z k
+  indexed-users z k h = elim (ℕ-discrete z u) [
+    | yes q ↦ subst (λ (y : ℕ). user v₀ y k ≡ user v y k) (sym q) (owner₀ k ∙ ap (λ (U : Table). U u k) (file-place choose P ch v S pos u name type created A .placed .taking .users))
+    | no n ↦ indexed-created .beside .users z n k h
+  ]
 
   -- ---- a contiguous file of n pages
 

@@ -1,27 +1,24 @@
 -- The calls that create a file: sound again, what they write, what they leave. Assumes nothing.
 use mathlib.Core.Path.{_≡_, refl, sym, subst}
-use mathlib.Core.Logic.{_≢_}
 use mathlib.Core.List.{List}
-use Prim.Native.Nat.{ℕ, _+_, _≤_, _<_}
+use Prim.Native.Nat.{ℕ, _≤_, _<_}
 use native.Mathlib.Omega.{arith}
 use Rattle.book.specs.Answers.{Numbers}
 use Rattle.book.specs.Bits.{lowestFree, highestRun}
 use Rattle.book.specs.Calls.{createIndexedCall, createContiguousCall, HasUser, IsFile}
 use Rattle.book.specs.Create.{objectEntry, fileNeed, filePlace, createIndexed, createContiguous}
-use Rattle.book.specs.Entries.{user, object, userPage, objectPage, fileEntry, newFile, spare, unreserved}
-use Rattle.book.specs.Files.{fileAt}
+use Rattle.book.specs.Entries.{user, userPage, objectPage, fileEntry, newFile, spare, unreserved}
 use Rattle.book.specs.Image.{pages, Whole, IndexArg, CountArg}
 use Rattle.book.specs.Names.{NameText, TypeText}
 use Rattle.book.specs.Outcome.{Outcome, DoneAs, call, asking, judged}
 use Rattle.book.specs.Rows.{Clear, Above}
 use Rattle.book.specs.Rules.{Sound}
-use Rattle.book.specs.Trees.{pageAt}
 use Rattle.book.specs.Words.{Vol, vol}
 use Rattle.laws.specs.After.{after-call}
 use Rattle.laws.specs.Call.{kept-call}
 use Rattle.laws.specs.Choose.{lowest-chooser}
 use Rattle.laws.specs.Created.{FileWanted, FileBeside, file-beside-same, Created}
-use Rattle.laws.specs.CreateFile.{indexed-created, contiguous-created}
+use Rattle.laws.specs.CreateFile.{indexed-created, indexed-users, contiguous-created}
 use Rattle.laws.specs.Done.{done}
 use Rattle.laws.specs.FilePlace.{FilePlaceWords}
 use Rattle.laws.specs.Places.{Places, EntryOf, FieldOf, Either, OnlyAt}
@@ -44,7 +41,7 @@ module _ (img : List ℕ) (u : ℕ) (name type : List ℕ) (created : ℕ) where
   abbrev e : ℕ
   e = fileEntry u (newFile v u)
 
-  wanted : IndexArg u → NameText name → TypeText type → HasUser v u → ((f : ℕ) → IsFile v u name type f → ⊥) → newFile v u < 256 → fileNeed v e ≤ unreserved v → FileWanted P v u name type
+  pub wanted : IndexArg u → NameText name → TypeText type → HasUser v u → ((f : ℕ) → IsFile v u name type f → ⊥) → newFile v u < 256 → fileNeed v e ≤ unreserved v → FileWanted P v u name type
   wanted a n t h fresh lt have = record { index = omega arith; owner = h; named = n; typed = t; fresh = fresh; entry = lt; room = have }
 
   -- ---- an indexed file
@@ -63,17 +60,23 @@ module _ (img : List ℕ) (u : ℕ) (name type : List ℕ) (created : ℕ) where
     unfolding createIndexedCall call Clear
     kept-create-indexed = kept-call img _ _ 0 _ _ r img′ o (λ W A S c. indexed-step W S (wanted (A .0) (A .1) (A .2) (c .0) (c .1 .0) (c .1 .1 .0) (c .1 .1 .1 .0)) .sound)
 
-    -- done or refused: only these words differ, and all beside the file stays
-    indexed-left : OnlyAt (IndexedWords P v v′ e) v v′ × FileBeside v v′ u e
+    -- done or refused: only these words differ, all beside the file stays, and so do all users
+    indexed-left : OnlyAt (IndexedWords P v v′ e) v v′ × FileBeside v v′ u e × ((z k : ℕ) → k < 32 → user v′ z k ≡ user v z k)
     unfolding createIndexedCall call Clear
-    indexed-left = after-call img _ _ 0 _ _ r img′ o (λ w. OnlyAt (IndexedWords P v w e) v w × FileBeside v w u e) ((λ p k h. refl), file-beside-same v u e)
-        (λ W A S c. let s = indexed-step W S (wanted (A .0) (A .1) (A .2) (c .0) (c .1 .0) (c .1 .1 .0) (c .1 .1 .1 .0)) in (s .only, s .beside))
+    indexed-left = after-call img _ _ 0 _ _ r img′ o (λ w. OnlyAt (IndexedWords P v w e) v w × FileBeside v w u e × ((z k : ℕ) → k < 32 → user w z k ≡ user v z k))
+        ((λ p k h. refl), file-beside-same v u e, (λ z k h. refl))
+        (λ W A S c.
+        let a : FileWanted P v u name type = wanted (A .0) (A .1) (A .2) (c .0) (c .1 .0) (c .1 .1 .0) (c .1 .1 .1 .0) in
+        let s = indexed-step W S a in (s .only, s .beside, indexed-users (lowestFree P) P (lowest-chooser P) v S (omega (arith, W .least)) u name type created a))
 
     pub frame-create-indexed : OnlyAt (IndexedWords P v v′ e) v v′
     frame-create-indexed = indexed-left .0
 
     pub beside-create-indexed : FileBeside v v′ u e
     beside-create-indexed = indexed-left .1
+
+    pub users-create-indexed : (z k : ℕ) → k < 32 → user v′ z k ≡ user v z k
+    users-create-indexed = indexed-left .2
 
     -- done: the index returned is the lowest unused one, and the file is there
     module _ (z : r .number ≡ 0) where

@@ -1,31 +1,28 @@
 -- A new user: his place, then his entry. A sound volume is sound again, and all other entries and all files stay. Assumes nothing.
-use mathlib.Core.Path.{_≡_, refl, sym, ap, ap₂, _∙_, subst}
-use mathlib.Core.Logic.{_≢_, _⊎_, inl, inr}
+use mathlib.Core.Path.{_≡_, refl, sym, ap, _∙_}
+use mathlib.Core.Logic.{_≢_, inl, inr}
 use mathlib.Core.List.{List}
-use Prim.Native.Nat.{ℕ, zero, suc, _+_, _-_, _*_, _/_, _%_, _≤_, _<_}
+use Prim.Native.Nat.{ℕ, _+_, _-_, _*_, _/_, _%_, _≤_, _<_}
 use native.Mathlib.Nat.{eq-zero-or-pos}
-use native.Mathlib.Decide.{ℕ-discrete}
 use native.Mathlib.Omega.{arith}
 use Rattle.sums.specs.Sum.{sum-ext}
-use Rattle.sums.specs.Search.{pick-no, pick-yes, lowest, lowest-is}
+use Rattle.sums.specs.Search.{pick-no, pick-yes, lowest-is}
 use Rattle.book.specs.Bits.{bit}
 use Rattle.book.specs.Calls.{IsUser}
 use Rattle.book.specs.Create.{userEntry, userNeed, userPlace, createUser}
-use Rattle.book.specs.Entries.{Table, userFile, objectFile, user, object, userPage, entry, entryPage, entryWord, used, given, usedPages, grant, newUser, unreserved, putEntry}
+use Rattle.book.specs.Entries.{Table, userFile, objectFile, user, object, userPage, entry, entryWord, used, given, usedPages, grant, newUser, unreserved}
 use Rattle.book.specs.Files.{fileAt}
-use Rattle.book.specs.Holders.{hit, some, mine}
-use Rattle.book.specs.Names.{NameText, Same, SameName, Named, packed}
-use Rattle.book.specs.Pointers.{flags, page, Zero, Inside}
+use Rattle.book.specs.Holders.{hit, some}
+use Rattle.book.specs.Names.{NameText, Same, packed}
+use Rattle.book.specs.Pointers.{page, Inside}
 use Rattle.book.specs.Rules.{Rule2, Sound}
 use Rattle.book.specs.Trees.{pageAt}
-use Rattle.book.specs.Words.{Vol, Words, two, word}
+use Rattle.book.specs.Words.{Vol, two, word}
 use Rattle.laws.specs.Count.{Good, good, sound, free, mine-unused, most}
 use Rattle.laws.specs.Edit.{Outside, user-page}
-use Rattle.laws.specs.Extend.{Placed}
 use Rattle.laws.specs.Frame.{Roots, blocksR-le}
 use Rattle.laws.specs.Grow.{Chooser}
 use Rattle.laws.specs.Leave.{SamePlaces, places-frame, places-unreserved}
-use Rattle.laws.specs.Names.{Legal-ext, SameName-ext}
 use Rattle.laws.specs.NewEntry.{user-used, user-name, user-own, user-zero}
 use Rattle.laws.specs.Packed.{packed-legal}
 use Rattle.laws.specs.Places.{Places, EntryOf, Either, OnlyAt, only-then, only-wider, only-putWords}

@@ -1,29 +1,28 @@
 -- A file is created: its place, the pages in hand, then its entry: one law for an empty file and for a run. Assumes nothing.
-use mathlib.Core.Path.{_≡_, refl, sym, ap, ap₂, _∙_, subst, subst₂}
+use mathlib.Core.Path.{_≡_, refl, sym, ap, _∙_, subst}
 use mathlib.Core.Logic.{_≢_, _⊎_, inl, inr}
 use mathlib.Core.List.{List}
-use Prim.Native.Nat.{ℕ, zero, suc, _+_, _-_, _*_, _/_, _%_, _≤_, _<_}
+use Prim.Native.Nat.{ℕ, _+_, _-_, _/_, _≤_, _<_}
 use native.Mathlib.Omega.{arith}
 use Rattle.sums.specs.Sum.{sum, sum-ext}
-use Rattle.book.specs.Bits.{bit, reserved}
+use Rattle.book.specs.Bits.{bit}
 use Rattle.book.specs.Calls.{IsFile}
 use Rattle.book.specs.Create.{objectEntry, fileNeed, filePlace}
-use Rattle.book.specs.Entries.{Table, userFile, objectFile, user, object, userPage, objectPage, entryWord, fileEntry, used, given, usedPages, newFile, unreserved, putEntry}
+use Rattle.book.specs.Entries.{Table, userFile, user, object, userPage, objectPage, entryWord, fileEntry, used, given, usedPages, newFile, unreserved, putEntry}
 use Rattle.book.specs.Files.{fileAt, Empty, Contiguous}
 use Rattle.book.specs.Holders.{hit}
 use Rattle.book.specs.Names.{NameText, TypeText, Named, Typed}
 use Rattle.book.specs.Rules.{Sound}
-use Rattle.book.specs.Trees.{Root, run, pageAt}
+use Rattle.book.specs.Trees.{run, pageAt}
 use Rattle.book.specs.Words.{Vol, Words, two}
 use Rattle.laws.specs.Count.{Good, good, sound, free}
-use Rattle.laws.specs.Extend.{Placed}
 use Rattle.laws.specs.FilePlace.{FilePlaceWords, FilePlaced, file-placed}
 use Rattle.laws.specs.Finish.{used-page}
 use Rattle.laws.specs.Grow.{Chooser}
 use Rattle.laws.specs.Leave.{Beside, places-unreserved}
 use Rattle.laws.specs.NewFile.{new-file-unused, Entered, new-file}
 use Rattle.laws.specs.Places.{Places, Either, OnlyAt, only-then, only-wider}
-use Rattle.laws.specs.Taking.{TakenWords, NoWords, no-words, Taking, taking-then}
+use Rattle.laws.specs.Taking.{TakenWords, NoWords, Taking, taking-then}
 use Rattle.laws.specs.Vacant.{used-reached}
 use Rattle.laws.specs.WriteFile.{write-change, write-master, write-entry, write-owner, write-used, write-beside, write-bits}
 

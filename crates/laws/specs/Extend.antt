@@ -1,13 +1,13 @@
 -- A new system page in an empty slot of a block: taken, linked and paid, it leaves a sound volume sound. Assumes nothing.
-use mathlib.Core.Path.{_≡_, refl, sym, ap, ap₂, _∙_, subst}
-use mathlib.Core.Logic.{_≢_, _⊎_, inl, inr}
-use Prim.Native.Nat.{ℕ, zero, suc, _+_, _-_, _*_, _≤_, _<_}
+use mathlib.Core.Path.{_≡_, refl, sym, ap, _∙_, subst}
+use mathlib.Core.Logic.{_≢_, inr}
+use Prim.Native.Nat.{ℕ, _+_, _*_, _≤_, _<_}
 use native.Mathlib.Omega.{arith}
 use Rattle.book.specs.Bits.{bit, bitPage, claim}
-use Rattle.book.specs.Create.{pay, extend}
+use Rattle.book.specs.Create.{extend}
 use Rattle.book.specs.Entries.{userFile, objectFile, unreserved}
 use Rattle.book.specs.Holders.{hit, all}
-use Rattle.book.specs.Pointers.{slot, flags, page, setSlot}
+use Rattle.book.specs.Pointers.{slot, setSlot}
 use Rattle.book.specs.Rules.{Sound}
 use Rattle.book.specs.Trees.{Root, blocksR}
 use Rattle.book.specs.Words.{Vol, two, word}

@@ -1,20 +1,18 @@
 -- The place of a new file's entry: an object index block if absent, then an object page if absent. Assumes nothing.
-use mathlib.Core.Path.{_≡_, refl, sym, ap, ap₂, _∙_, subst, subst₂}
-use mathlib.Core.Logic.{_≢_, _⊎_, inl, inr}
-use Prim.Native.Nat.{ℕ, zero, suc, _+_, _-_, _*_, _/_, _%_, _≤_, _<_}
+use mathlib.Core.Path.{_≡_, sym, ap, _∙_, subst}
+use mathlib.Core.Logic.{_⊎_, inl, inr}
+use Prim.Native.Nat.{ℕ, _/_, _%_, _≤_, _<_}
 use native.Mathlib.Nat.{eq-zero-or-pos}
 use native.Mathlib.Omega.{arith}
-use Rattle.sums.specs.Search.{pick, pick-yes, pick-no}
-use Rattle.book.specs.Bits.{bit}
+use Rattle.sums.specs.Search.{pick-yes, pick-no}
 use Rattle.book.specs.Create.{extend, objectIndex, fileNeed, withIndex, withObjectPage, filePlace}
 use Rattle.book.specs.Entries.{objectPage, entryPage, unreserved}
-use Rattle.book.specs.Grow.{indexOf}
 use Rattle.book.specs.Holders.{hit}
 use Rattle.book.specs.Pointers.{slot, flags, page}
 use Rattle.book.specs.Rules.{Sound}
 use Rattle.book.specs.Words.{Vol}
 use Rattle.laws.specs.Count.{bit-le}
-use Rattle.laws.specs.Extend.{Placed, placed-none, placed-then, extend-free, extend-pos, extend-master, extend-slot, extend-bare, extend-keeps, extend-taken, extend-placed, placed-wider}
+use Rattle.laws.specs.Extend.{Placed, placed-none, placed-then, extend-pos, extend-master, extend-slot, extend-bare, extend-keeps, extend-taken, extend-placed, placed-wider}
 use Rattle.laws.specs.Grow.{Chooser}
 use Rattle.laws.specs.Join.{SlotWords, Vacant}
 use Rattle.laws.specs.Rules.{flags-ext, page-ext}

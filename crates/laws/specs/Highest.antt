@@ -1,11 +1,11 @@
 -- The highest run of free pages: what is found is free and inside, nothing above it is, and 0 says that there is none. Assumes nothing.
-use mathlib.Core.Path.{_≡_, refl, sym, ap, _∙_}
+use mathlib.Core.Path.{_≡_}
 use mathlib.Core.Logic.{inl, inr}
 use Prim.Native.Nat.{ℕ, zero, suc, _+_, _-_, _≤_, _<_}
 use native.Mathlib.Nat.{eq-zero-or-pos}
 use native.Mathlib.Omega.{arith}
 use Rattle.sums.specs.Sum.{is-same}
-use Rattle.sums.specs.Search.{every, every-yes, every-at, highest, highest-is}
+use Rattle.sums.specs.Search.{every-yes, every-at, highest-is}
 use Rattle.book.specs.Bits.{bit, freeRun, highestRun}
 use Rattle.book.specs.Rules.{Sound}
 use Rattle.book.specs.Words.{Vol}

@@ -1,17 +1,16 @@
 -- A page in hand joins a block of the user or the object file and is paid: a sound volume with one page fewer in hand. Assumes nothing.
 use mathlib.Core.Path.{_≡_, refl, sym, ap, ap₂, _∙_, subst}
-use mathlib.Core.Logic.{_≢_, _⊎_, inl, inr}
+use mathlib.Core.Logic.{_≢_}
 use Prim.Native.Nat.{ℕ, zero, suc, _+_, _-_, _*_, _/_, _%_, _^_, _≤_, _<_}
-use native.Mathlib.Nat.{mod-lt}
 use native.Mathlib.Decide.{ℕ-discrete, decLt}
 use native.Mathlib.Omega.{arith}
 use Rattle.book.specs.Create.{pay}
 use Rattle.book.specs.Entries.{userFile, objectFile, unreserved}
-use Rattle.book.specs.Holders.{hit, some}
+use Rattle.book.specs.Holders.{hit}
 use Rattle.book.specs.Pointers.{slot, flags, page, setSlot}
-use Rattle.book.specs.Trees.{Root, tree, run, leaf, pageAt, blocksR, weighR}
-use Rattle.book.specs.Words.{Vol, two, word, put, put2}
-use Rattle.book.specs.Written.{word-pos, word-ext, put2-page, put2-word, put2-two}
+use Rattle.book.specs.Trees.{Root, tree, run, leaf, pageAt, blocksR}
+use Rattle.book.specs.Words.{Vol, two, word}
+use Rattle.book.specs.Written.{word-ext, put2-page, put2-word, put2-two}
 use Rattle.laws.specs.Count.{Good, bit-le}
 use Rattle.laws.specs.Frame.{upto-in, upto-out, users-root, objs-root, blocksR-le}
 use Rattle.laws.specs.Grow.{slot-bare}
@@ -21,7 +20,7 @@ use Rattle.laws.specs.Places.{Places, WordsOf, UnreservedWords, OnlyAt, 
 use Rattle.laws.specs.Rules.{Master, master-roots}
 use Rattle.laws.specs.Taking.{Taking, settled-taking}
 use Rattle.laws.specs.System.{Settled, leaf-none, linked, system-good}
-use Rattle.laws.specs.Tree.{Link, some-pos, slot-same, two-ext}
+use Rattle.laws.specs.Tree.{Link, some-pos, slot-same}
 
 -- ---- what payment leaves, and what it writes
 

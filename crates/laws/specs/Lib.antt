@@ -90,3 +90,5 @@ pub mod CreateFile
 pub mod CreateUserCall
 pub mod Numbered
 pub mod CreateFileCall
+pub mod Enough
+pub mod Tally

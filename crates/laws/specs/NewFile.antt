@@ -1,31 +1,31 @@
 -- A new file's entry is written, with its owner's used count: one law for an empty file and for a run in hand. Assumes nothing.
-use mathlib.Core.Path.{_≡_, refl, sym, ap, ap₂, _∙_, subst, subst₂}
+use mathlib.Core.Path.{_≡_, sym, ap, ap₂, _∙_, subst, subst₂}
 use mathlib.Core.Logic.{_≢_, _⊎_, inl, inr}
 use mathlib.Core.List.{List}
-use Prim.Native.Nat.{ℕ, zero, suc, _+_, _-_, _*_, _/_, _%_, _≤_, _<_}
+use Prim.Native.Nat.{ℕ, _+_, _-_, _*_, _/_, _≤_, _<_}
 use native.Mathlib.Omega.{arith}
 use Rattle.sums.specs.Search.{pick, lowest-is}
-use Rattle.sums.specs.Sum.{sum, sum-ext, sum-const, sum-zero}
+use Rattle.sums.specs.Sum.{sum, sum-zero}
 use Rattle.book.specs.Calls.{IsFile}
 use Rattle.book.specs.Create.{objectEntry}
 use Rattle.book.specs.Entries.{user, object, used, given, usedPages, grant, fileEntry, newFile}
 use Rattle.book.specs.Files.{fileAt, Shape, FileShape, Empty, Contiguous}
-use Rattle.book.specs.Holders.{hit, some, mine}
+use Rattle.book.specs.Holders.{hit, some}
 use Rattle.book.specs.Names.{NameText, TypeText, Same, packed}
 use Rattle.book.specs.Pointers.{flags, page}
 use Rattle.book.specs.Rules.{UserOk, Rule4, Rule10}
-use Rattle.book.specs.Trees.{Root, run, weighR, rootAt}
+use Rattle.book.specs.Trees.{Root, run, weighR}
 use Rattle.book.specs.Words.{Vol, two}
-use Rattle.laws.specs.Count.{Good, Most, file-unused, root-0}
+use Rattle.laws.specs.Count.{Good, file-unused, root-0}
 use Rattle.laws.specs.Counts.{run-count}
-use Rattle.laws.specs.Edit.{Change, Fine, entries, objs-words, edit-mine, edit-good}
+use Rattle.laws.specs.Edit.{Change, entries, objs-words, edit-mine, edit-good}
 use Rattle.laws.specs.Finish.{file-used}
 use Rattle.laws.specs.Names.{Legal-ext, SameName-ext}
 use Rattle.laws.specs.NewEntry.{new-used, file-name, file-type, file-whose, file-number, file-pages, file-bytes, file-flags, file-page}
 use Rattle.laws.specs.Packed.{packed-legal}
-use Rattle.laws.specs.Rules.{Entries, UserNew, FileNew, used-ext, used-same, flags-ext, page-ext}
+use Rattle.laws.specs.Rules.{FileNew, used-ext, used-same, flags-ext, page-ext}
 use Rattle.laws.specs.There.{high-unused}
-use Rattle.laws.specs.Tree.{two-ext, some-pos, some-zero}
+use Rattle.laws.specs.Tree.{two-ext}
 
 -- the lowest unused file of user u
 pub new-file-unused : (v : Vol) (u : ℕ) → newFile v u < 256 → used (object v (fileEntry u (newFile v u))) ≡ 0

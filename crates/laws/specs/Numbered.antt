@@ -1,12 +1,12 @@
 -- The number that a call comes back with, by what the table asks for at that number. Assumes nothing.
-use mathlib.Core.Path.{_≡_, sym, subst}
+use mathlib.Core.Path.{_≡_, subst}
 use mathlib.Core.Logic.{_↔_, _⊎_, inl, inr}
 use mathlib.Core.List.{List}
-use Prim.Native.Nat.{ℕ, zero, suc, _<_}
+use Prim.Native.Nat.{ℕ, _<_}
 use native.Mathlib.Omega.{arith}
 use Rattle.book.specs.Answers.{Numbers}
 use Rattle.book.specs.Outcome.{Call, Outcome, RefusedAs, DoneAs}
-use Rattle.book.specs.Rows.{Rows, end, row, Applies, Lowest, Clear, lowest-applies, lowest-one, clear-none}
+use Rattle.book.specs.Rows.{Rows, end, row, Applies, Lowest, lowest-applies, lowest-one, clear-none}
 
 -- all that number n asks for
 unfoldable pub Asks : Rows → ℕ → Type 0

@@ -1,11 +1,11 @@
 -- An entry is written into its page: what is read there afterwards. Assumes nothing.
-use mathlib.Core.Path.{_≡_, refl, sym, ap, _∙_, subst}
-use mathlib.Core.Logic.{_≢_, _⊎_, inl, inr}
-use Prim.Native.Nat.{ℕ, suc, _+_, _-_, _*_, _%_, _≤_, _<_}
+use mathlib.Core.Path.{_≡_, ap, _∙_, subst}
+use mathlib.Core.Logic.{_≢_, inl, inr}
+use Prim.Native.Nat.{ℕ, _+_, _-_, _<_}
 use native.Mathlib.Omega.{arith}
 use Rattle.book.specs.Entries.{entryWord, putEntry}
 use Rattle.book.specs.Holders.{hit}
-use Rattle.book.specs.Words.{Vol, Words, word, putWords}
+use Rattle.book.specs.Words.{Vol, Words, word}
 use Rattle.book.specs.Written.{word-pos, word-ext, putWords-here, putWords-page, putWords-low, putWords-high}
 use Rattle.laws.specs.Edit.{Outside}
 use Rattle.laws.specs.Tree.{Agree, hit-same}

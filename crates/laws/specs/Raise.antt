@@ -1,12 +1,12 @@
 -- The object file gets its subindex block: taken, given the index block so far, linked and paid. Assumes nothing.
 use mathlib.Core.Path.{_≡_, refl, sym, ap, ap₂, _∙_, subst}
-use mathlib.Core.Logic.{_≢_, _⊎_, inl, inr}
-use Prim.Native.Nat.{ℕ, zero, suc, _+_, _-_, _*_, _/_, _%_, _≤_, _<_}
+use mathlib.Core.Logic.{_≢_, inl, inr}
+use Prim.Native.Nat.{ℕ, _+_, _*_, _/_, _%_, _≤_, _<_}
 use native.Mathlib.Omega.{arith}
 use Rattle.book.specs.Bits.{bit, claim}
-use Rattle.book.specs.Create.{pay, raised}
+use Rattle.book.specs.Create.{raised}
 use Rattle.book.specs.Entries.{userFile, objectFile, unreserved}
-use Rattle.book.specs.Holders.{hit, some}
+use Rattle.book.specs.Holders.{hit}
 use Rattle.book.specs.Pointers.{slot, flags, page, pointer, setSlot}
 use Rattle.book.specs.Rules.{Sound}
 use Rattle.book.specs.Trees.{Root, tree, pageAt, blocksR}
@@ -25,7 +25,7 @@ use Rattle.laws.specs.Join.{only-pay, pay-page, pay-below, pay-less, Slo
 use Rattle.laws.specs.Places.{Places, WordsOf, UnreservedWords, Either, OnlyAt, only-then, only-put2}
 use Rattle.laws.specs.Room.{system-room, chosen}
 use Rattle.laws.specs.Rules.{flags-ext, page-ext}
-use Rattle.laws.specs.Taking.{TakenWords, NoWords, no-words, Taking, taking-then, claim-taking, hand-good, hand-taking, settled-taking}
+use Rattle.laws.specs.Taking.{TakenWords, NoWords, Taking, taking-then, claim-taking, hand-good, hand-taking, settled-taking}
 use Rattle.laws.specs.System.{Settled, leaves, system-good}
 use Rattle.laws.specs.Tree.{two-ext, hit-same, some-pos}
 

@@ -1,8 +1,8 @@
 -- Room for system pages: what is unreserved is free. Assumes nothing.
 use mathlib.Core.Path.{_≡_, refl}
-use Prim.Native.Nat.{ℕ, zero, suc, _+_, _≤_, _<_}
+use Prim.Native.Nat.{ℕ, zero, _≤_, _<_}
 use native.Mathlib.Omega.{arith}
-use Rattle.sums.specs.Sum.{sum, sum-le, sum-none}
+use Rattle.sums.specs.Sum.{sum-le, sum-none}
 use Rattle.book.specs.Bits.{bit}
 use Rattle.book.specs.Entries.{user, grant, unreserved}
 use Rattle.book.specs.Holders.{some, mine, all, systemPages}

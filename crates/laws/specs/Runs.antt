@@ -1,10 +1,10 @@
 -- A run of free pages is taken. Assumes nothing.
 use mathlib.Core.Path.{_≡_, refl, _∙_}
 use mathlib.Core.Logic.{_≢_, _⊎_, inl, inr}
-use Prim.Native.Nat.{ℕ, zero, suc, _+_, _-_, _≤_, _<_}
+use Prim.Native.Nat.{ℕ, zero, suc, _+_, _≤_, _<_}
 use native.Mathlib.Omega.{arith}
 use Rattle.sums.specs.Sum.{sum, sum-suc, sum-zero}
-use Rattle.book.specs.Bits.{bit, claim, claimRun}
+use Rattle.book.specs.Bits.{bit, claimRun}
 use Rattle.book.specs.Entries.{user, object}
 use Rattle.book.specs.Holders.{hit}
 use Rattle.book.specs.Words.{Vol}

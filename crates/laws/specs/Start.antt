@@ -1,12 +1,12 @@
 -- The first user ever: user index, user page and object index, taken in this order, linked and paid. Assumes nothing.
 use mathlib.Core.Path.{_≡_, refl, sym, ap, ap₂, _∙_, subst}
-use mathlib.Core.Logic.{_≢_, _⊎_, inl, inr}
-use Prim.Native.Nat.{ℕ, zero, suc, _+_, _-_, _*_, _/_, _%_, _≤_, _<_, zero-le}
+use mathlib.Core.Logic.{_⊎_, inl, inr}
+use Prim.Native.Nat.{ℕ, suc, _+_, _*_, _≤_, _<_, zero-le}
 use native.Mathlib.Omega.{arith}
 use Rattle.book.specs.Bits.{bit, claim}
 use Rattle.book.specs.Create.{pay, started}
 use Rattle.book.specs.Entries.{userFile, objectFile, unreserved}
-use Rattle.book.specs.Holders.{hit, some}
+use Rattle.book.specs.Holders.{hit}
 use Rattle.book.specs.Pointers.{slot, flags, page, pointer, setSlot, Zero}
 use Rattle.book.specs.Rules.{Sound}
 use Rattle.book.specs.Trees.{Root, tree, rootAt, pageAt, blocksR, blocks}

@@ -1,27 +1,27 @@
 -- A step that takes pages and pays for them out of unreserved: all entries, all files and all pages that are there stay. Assumes nothing.
-use mathlib.Core.Path.{_≡_, refl, sym, ap, ap₂, _∙_, subst}
+use mathlib.Core.Path.{_≡_, refl, sym, ap, _∙_, subst}
 use mathlib.Core.Logic.{_≢_, _⊎_, inl, inr}
-use Prim.Native.Nat.{ℕ, zero, suc, _+_, _-_, _*_, _/_, _%_, _^_, _≤_, _<_}
+use Prim.Native.Nat.{ℕ, _+_, _-_, _/_, _≤_, _<_}
 use native.Mathlib.Decide.{ℕ-discrete}
 use native.Mathlib.Omega.{arith}
 use Rattle.sums.specs.Sum.{sum-ext}
 use Rattle.book.specs.Bits.{bit, bitWord, bitPlace, bitPage, bitFile, digit, mark, claim}
 use Rattle.book.specs.Entries.{userFile, objectFile, user, object, unreserved}
 use Rattle.book.specs.Files.{fileAt}
-use Rattle.book.specs.Holders.{hit, some, mine}
+use Rattle.book.specs.Holders.{hit, some}
 use Rattle.book.specs.Trees.{Root, weighR, blocksR, pageAt}
-use Rattle.book.specs.Words.{Vol, two, word}
+use Rattle.book.specs.Words.{Vol, word}
 use Rattle.book.specs.Written.{word-ext}
 use Rattle.laws.specs.Claim.{bitPage-rest, claim-agree, claim-quiet, claim-none, claim-bit, claim-bit-other, claim-free, claim-master}
 use Rattle.laws.specs.Count.{Good, free, bit-le}
 use Rattle.laws.specs.Delete.{bits-good}
-use Rattle.laws.specs.Frame.{Roots, pageAt-frame, weighR-frame, blocksR-le, users-root, objs-root, bits-root}
+use Rattle.laws.specs.Frame.{Roots, pageAt-frame, weighR-frame, blocksR-le, users-root, objs-root}
 use Rattle.laws.specs.Leave.{Still, still-calm, bitPage-same, places-unreserved}
 use Rattle.laws.specs.Part.{rest, all-rest}
 use Rattle.laws.specs.Places.{Places, PageOf, WordsOf, Either, OnlyAt, only-wider, only-then, only-put, only-wipe}
 use Rattle.laws.specs.Still.{blocks-nobody}
 use Rattle.laws.specs.System.{Settled, file-same, bits-kept}
-use Rattle.laws.specs.Tree.{Agree, two-ext, hit-zero, hit-same, hit-other}
+use Rattle.laws.specs.Tree.{Agree, hit-zero, hit-same, hit-other}
 
 -- ---- pages taken
 

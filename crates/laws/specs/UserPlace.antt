@@ -1,19 +1,18 @@
 -- The place of a new user's entry: three pages the first time ever; later a user page if absent, and for user 64 up a subindex block. Assumes nothing.
-use mathlib.Core.Path.{_≡_, refl, sym, ap, ap₂, _∙_, subst}
-use mathlib.Core.Logic.{_≢_, _⊎_, inl, inr}
-use Prim.Native.Nat.{ℕ, zero, suc, _+_, _-_, _*_, _/_, _%_, _≤_, _<_}
+use mathlib.Core.Path.{_≡_, refl, sym, ap, _∙_, subst}
+use mathlib.Core.Logic.{_≢_, inl, inr}
+use Prim.Native.Nat.{ℕ, _+_, _-_, _*_, _/_, _≤_, _<_}
 use native.Mathlib.Nat.{eq-zero-or-pos}
 use native.Mathlib.Decide.{ℕ-discrete}
 use native.Mathlib.Omega.{arith}
-use Rattle.sums.specs.Search.{pick, pick-yes, pick-no, atLeast}
+use Rattle.sums.specs.Search.{pick-yes, pick-no, atLeast}
 use Rattle.sums.specs.Sum.{is, is-same, is-other}
 use Rattle.book.specs.Create.{extend, raises, userNeed, started, withUserPage, raised, withSubindex, userPlace}
 use Rattle.book.specs.Entries.{userFile, userPage, entryPage, unreserved}
 use Rattle.book.specs.Pointers.{slot, flags, page, Zero, Inside}
 use Rattle.book.specs.Rules.{Rule2, Sound}
-use Rattle.book.specs.Trees.{pageAt, rootAt}
+use Rattle.book.specs.Trees.{rootAt}
 use Rattle.book.specs.Words.{Vol}
-use Rattle.laws.specs.Count.{zero-flags}
 use Rattle.laws.specs.Extend.{Placed, placed-none, placed-then, placed-wider, extend-pos, extend-master, extend-slot, extend-placed}
 use Rattle.laws.specs.FilePlace.{When}
 use Rattle.laws.specs.Grow.{Chooser}

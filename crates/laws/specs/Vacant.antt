@@ -1,19 +1,19 @@
 -- Where an entry's page hangs: its block and slot, and that an empty slot may be used. Assumes nothing.
-use mathlib.Core.Path.{_≡_, refl, sym, ap, ap₂, _∙_, subst}
+use mathlib.Core.Path.{_≡_, sym, ap, ap₂, _∙_, subst}
 use mathlib.Core.Logic.{_≢_, _⊎_, inl, inr}
-use Prim.Native.Nat.{ℕ, zero, suc, _+_, _-_, _*_, _/_, _%_, _^_, _≤_, _<_}
+use Prim.Native.Nat.{ℕ, suc, _+_, _/_, _%_, _≤_, _<_}
 use native.Mathlib.Omega.{arith}
-use Rattle.sums.specs.Sum.{sum, sum-at}
+use Rattle.sums.specs.Sum.{sum-at}
 use Rattle.book.specs.Create.{objectIndex}
 use Rattle.book.specs.Entries.{userFile, objectFile, userPage, objectPage, entryPage, user, used, fileEntry}
 use Rattle.book.specs.Grow.{indexOf}
 use Rattle.book.specs.Holders.{hit}
 use Rattle.book.specs.Pointers.{slot, flags, page, Zero, Inside}
 use Rattle.book.specs.Rules.{Rule2, Rule5, Rule5By, Sound}
-use Rattle.book.specs.Trees.{Root, tree, rootAt, leaf, pageAt, blocks, blocksR, Below}
-use Rattle.book.specs.Words.{Vol, Words, two}
-use Rattle.laws.specs.Count.{good, bit-le, root-1, root-2, zero-page}
-use Rattle.laws.specs.Frame.{upto-in, blocksR-le}
+use Rattle.book.specs.Trees.{Root, tree, rootAt, pageAt, blocks, blocksR, Below}
+use Rattle.book.specs.Words.{Vol}
+use Rattle.laws.specs.Count.{good, bit-le, root-1, root-2}
+use Rattle.laws.specs.Frame.{blocksR-le}
 use Rattle.laws.specs.Calm.{users-top}
 use Rattle.laws.specs.Finish.{used-page}
 use Rattle.laws.specs.Join.{Vacant}

@@ -1,12 +1,12 @@
 -- A file's entry is written, and words 16 and 17 of its owner's: what the two entries then are, and that all others stay. Assumes nothing.
 use mathlib.Core.Path.{_≡_, refl, sym, ap, ap₂, _∙_, subst}
-use mathlib.Core.Logic.{_≢_, _⊎_, inl, inr}
-use Prim.Native.Nat.{ℕ, zero, suc, _+_, _-_, _*_, _/_, _%_, _≤_, _<_}
+use mathlib.Core.Logic.{_≢_, inl, inr}
+use Prim.Native.Nat.{ℕ, suc, _+_, _*_, _/_, _<_}
 use native.Mathlib.Omega.{arith}
 use Rattle.book.specs.Bits.{bit}
 use Rattle.book.specs.Entries.{userFile, objectFile, user, object, userPage, objectPage, entry, entryWord, fileEntry, usedPages, putEntry}
 use Rattle.book.specs.Files.{fileAt}
-use Rattle.book.specs.Holders.{hit, mine}
+use Rattle.book.specs.Holders.{hit}
 use Rattle.book.specs.Trees.{pageAt}
 use Rattle.book.specs.Words.{Vol, Words, two, word}
 use Rattle.book.specs.Written.{word-pos, word-ext}
@@ -15,9 +15,9 @@ use Rattle.laws.specs.Edit.{Outside, Change, user-page, user-at, obj-at,
 use Rattle.laws.specs.Edited.{edit-beside}
 use Rattle.laws.specs.Frame.{pageAt-le}
 use Rattle.laws.specs.Leave.{Beside}
-use Rattle.laws.specs.PutEntry.{entry-page, entry-agree, entry-outside, entry-here}
+use Rattle.laws.specs.PutEntry.{entry-page, entry-outside, entry-here}
 use Rattle.laws.specs.Shrunk.{all-zero}
-use Rattle.laws.specs.Tree.{Agree, hit-zero, hit-same, two-ext}
+use Rattle.laws.specs.Tree.{Agree, hit-zero, hit-same}
 
 -- two words alike at two places
 two-at : (a b : Words) (j k : ℕ) → a j ≡ b k → a (suc j) ≡ b (suc k) → two a j ≡ two b k
@@ -82,17 +82,18 @@ module _ (P : ℕ) (x : Vol) (hand : ℕ → ℕ) (G : Good P x hand) (pos : 0 <
   unfolding userPage user entry
   write-owner k h a b = user-at P x hand G pos u f hu hf (λ x. 0) v′ write-change k ∙ inU (entryWord u + k) (omega arith) (omega arith)
 
-  pub write-used : usedPages (user v′) u ≡ two (v′ U) (entryWord u + 16)
-  unfolding usedPages userPage
-  write-used = two-at (user v′ u) (v′ U) 16 (entryWord u + 16) (at 16) (at 17 ∙ ap (v′ U) (let q : entryWord u + 17 ≡ suc (entryWord u + 16) = omega arith in q))
-    where
-      at : (k : ℕ) → user v′ u k ≡ v′ U (entryWord u + k)
-      at k = user-at P x hand G pos u f hu hf (λ x. 0) v′ write-change k ∙ word-pos v′ U (entryWord u + k) isU
+  -- where its words are, after and before
+  pub owner-now : (k : ℕ) → user v′ u k ≡ v′ U (entryWord u + k)
+  unfolding userPage
+  owner-now k = user-at P x hand G pos u f hu hf (λ x. 0) v′ write-change k ∙ word-pos v′ U (entryWord u + k) isU
 
-  pub owner-used : usedPages (user x) u ≡ two (x U) (entryWord u + 16)
-  unfolding usedPages userPage user entry
-  owner-used = two-at (user x u) (x U) 16 (entryWord u + 16) (word-pos x U (entryWord u + 16) isU)
-      (word-pos x U (entryWord u + 17) isU ∙ ap (x U) (let q : entryWord u + 17 ≡ suc (entryWord u + 16) = omega arith in q))
+  pub owner-was : (k : ℕ) → user x u k ≡ x U (entryWord u + k)
+  unfolding userPage user entry
+  owner-was k = word-pos x U (entryWord u + k) isU
+
+  pub write-used : usedPages (user v′) u ≡ two (v′ U) (entryWord u + 16)
+  unfolding usedPages
+  write-used = two-at (user v′ u) (v′ U) 16 (entryWord u + 16) (owner-now 16) (owner-now 17 ∙ ap (v′ U) (let q : entryWord u + 17 ≡ suc (entryWord u + 16) = omega arith in q))
 
   -- all beside the file and its owner's used count stays
   pub write-beside : Beside P x v′ u e
