@@ -75,3 +75,8 @@ only-finish A v U O a e n ptr x o u =
 
     v₃ : Vol
     v₃ = put2 v₂ O (w + 30) ptr
+
+-- a page is taken that the new position of z needs
+pub only-take : (P : ℕ) (v w z : Vol) (a e n d : ℕ) → SamePlaces w z → Needs z (fileAt z e) n d → OnlyAt (AroundNew P z a e n) v w → OnlyAt (AroundNew P z a e n) v (claim P w d)
+only-take P v w z a e n d L h o = only-trans (AroundNew P z a e n) v w (claim P w d) o
+    (only-claim (AroundNew P z a e n) P w d (λ p j i. inr (inl (d, h, (i .0 ∙ sym (bitPage-same P w z L d), i .1, i .2)))) (λ j. inl h))

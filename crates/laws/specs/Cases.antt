@@ -1,6 +1,6 @@
 -- The five ways in which a file grows by one page, over new pages in hand. Assumes nothing.
 use mathlib.Core.Path.{_≡_, refl, sym, ap, _∙_, subst, subst₃}
-use mathlib.Core.Logic.{_≢_}
+use mathlib.Core.Logic.{_≢_, inl, inr}
 use Prim.Native.Nat.{ℕ, zero, suc, _+_, _-_, _*_, _/_, _%_, _≤_, _<_, min}
 use native.Mathlib.Nat.{le-refl, mod-lt, div-one, mod-one}
 use native.Mathlib.Omega.{arith}
@@ -15,6 +15,7 @@ use Rattle.book.specs.Rules.{Rule7}
 use Rattle.book.specs.Trees.{Root, tree, run, weigh, blocks, weighR, pageAt, indexAt, subindexOf, upto, leaf, rootAt, rootBy, Fill, Below}
 use Rattle.book.specs.Words.{Vol, two}
 use Rattle.book.specs.Written.{word-ext}
+use Rattle.laws.specs.Around.{AroundNew, Needs, SlotOf, CountsOf, only-trans, only-slot}
 use Rattle.laws.specs.Count.{Good, bit-le}
 use Rattle.laws.specs.Finish.{Blocks, Regrown, file-used}
 use Rattle.laws.specs.Finished.{Finished, finished}
@@ -24,6 +25,7 @@ use Rattle.laws.specs.Levels.{last, last-mid, last-block, last-raise, ne
 use Rattle.laws.specs.Longer.{Longer}
 use Rattle.laws.specs.Part.{rest, all-rest, rest-add, file-le, weighR-add}
 use Rattle.laws.specs.Leave.{Beside}
+use Rattle.laws.specs.Places.{Places, Either, OnlyAt, only-wider}
 use Rattle.laws.specs.Tree.{Agree, hit-zero, hit-same, some-pos, weigh-none, slot-same, blocks-le}
 
 pub hit-sym : (p d : ℕ) → hit p d ≡ hit d p
@@ -44,34 +46,49 @@ pub Agree-mono : (C D : ℕ → ℕ) (u v : Vol) → ((q : ℕ) → D q ≡ 0 �
 unfolding Agree
 Agree-mono C D u v h a q z k = a q (h q z) k
 
--- the file at e of user a grew by position n, which has page d: the volume is as good as before, and all beside is as it was
-pub record Grew (P : ℕ) (v v′ : Vol) (a e n d : ℕ) : Type 0 where
+-- the file at e of user a grew by position n, which has page d: the volume is as good as before, all beside is as it was, and the pages in hand are the new position's
+pub record Grew (P : ℕ) (v v′ : Vol) (a e n d : ℕ) (hand : ℕ → ℕ) : Type 0 where
   pub good : Good P v′ (λ p. 0)
   pub longer : Longer v v′ a e n
   pub beside : Beside P v v′ a e
   pub at : pageAt v′ (fileAt v′ e) n ≡ d
+  pub taken : (x : ℕ) → 0 < hand x → Needs v′ (fileAt v′ e) n x
+  pub words : OnlyAt (AroundNew P v′ a e n) v v′
+
+-- the pages of the new position, and its slot, in the blocks
+abbrev NewIn : Vol → Root → ℕ → Places
+NewIn v r n = Either (λ p k. Needs v r n p) (SlotOf v r n)
 
 -- from what is known of its blocks
-grew : (P : ℕ) (v v₂ v₃ : Vol) (a e n d x t y c : ℕ) (new : (ℕ → ℕ) → ℕ) → Finished P v v₂ v₃ a e c x t y (λ g. 0) new (λ p. 0) → two (object v e) 26 ≡ n → c ≡ suc n
+grew : (P : ℕ) (v v₂ v₃ : Vol) (a e n d x t y c : ℕ) (new : (ℕ → ℕ) → ℕ) (hand : ℕ → ℕ) → Finished P v v₂ v₃ a e c x t y (λ g. 0) new (λ p. 0) → two (object v e) 26 ≡ n → c ≡ suc n
     → y ≡ usedPages (user v) a + need n → ((m : ℕ) → m < n → pageAt v₂ (rootBy x t c) m ≡ pageAt v (fileAt v e) m) → pageAt v₂ (rootBy x t c) n ≡ d
-    → ((g : ℕ → ℕ) → last v₂ (rootBy x t c) n g ≡ new g) → Grew P v v₃ a e n d
+    → ((g : ℕ → ℕ) → last v₂ (rootBy x t c) n g ≡ new g) → ((p : ℕ) → new (hit p) ≡ hand p) → OnlyAt (NewIn v₂ (rootBy x t c) n) v v₂ → Grew P v v₃ a e n d hand
 unfolding last
-grew P v v₂ v₃ a e n d x t y c new F i j k old at l = record {
+grew P v v₂ v₃ a e n d x t y c new hand F i j k old at l hands o = record {
   good = F .good;
-  longer = record { count = i; count′ = F .count ∙ j; entry = F .entry; spent = F .spent ∙ k; old = λ m h. F .page m ∙ old m h; weight = weight };
+  longer = record { count = i; count′ = F .count ∙ j; entry = F .entry; spent = F .spent ∙ k; old = λ m h. F .page m ∙ old m h; weight = λ g g0. omega (arith, F .weight g g0, l g, same g) };
   beside = F .beside;
   at = F .page n ∙ at;
+  taken = λ z h. omega (arith, h, same (hit z), l (hit z), hands z);
+  words = only-trans (AroundNew P v₃ a e n) v v₂ v₃ (only-wider _ _ v v₂ blocks o) (only-wider _ _ v₂ v₃ counts (F .words));
 }
   where
-    weight : (g : ℕ → ℕ) → g 0 ≡ 0 → weighR v₃ (fileAt v₃ e) g ≡ weighR v (fileAt v e) g + last v₃ (fileAt v₃ e) n g
-    weight g g0 = omega (
+    same : (g : ℕ → ℕ) → last v₃ (fileAt v₃ e) n g ≡ last v₂ (rootBy x t c) n g
+    same g = omega (
       arith,
-      F .weight g g0,
-      l g,
       ap g (F .page n),
       ap (λ (z : ℕ). is (n % 512) 0 * g z) (F .index (n / 512)),
       ap (λ (r : Root). is n 512 * g (subindexOf r)) (F .root),
     )
+
+    blocks : (p q : ℕ) → NewIn v₂ (rootBy x t c) n p q → AroundNew P v₃ a e n p q
+    blocks p q (inl h) = inl (omega (arith, h, same (hit p)))
+    blocks p q (inr (inl (h, (z, lo, hi)))) = inr (inr (inl (inl (h, (z ∙ sym (F .index (n / 512)), lo, hi)))))
+    blocks p q (inr (inr (h, b, (z, lo, hi)))) = inr (inr (inl (inr (h, b, (z ∙ sym (ap subindexOf (F .root)), lo, hi)))))
+
+    counts : (p q : ℕ) → CountsOf v a e p q → AroundNew P v₃ a e n p q
+    counts p q (inl (z, lo, hi)) = inr (inr (inr (inl (z ∙ sym (F .beside .places .ofObject e), lo, hi))))
+    counts p q (inr (z, lo, hi)) = inr (inr (inr (inr (z ∙ sym (F .beside .places .ofUser a), lo, hi))))
 
 -- a page is put at position m of index block X, which has m
 pub grown-leaf : (P : ℕ) (v : Vol) (X m d : ℕ) → 0 < X → m < 512 → 0 < d → d < P → Fill v 1 X m → Below v P 1 X → Grown P v (setSlot v X m d) 1 X X m d (λ g. g d)
@@ -126,12 +143,13 @@ module _ (P : ℕ) (v : Vol) (hand : ℕ → ℕ) (G : Good P v hand) (pos : 0 <
   -- ---- within one index block: position n of page t
   module _ (d : ℕ) (hd : d < P) (pd : 0 < d) (hand-is : (p : ℕ) → hand p ≡ hit d p) (fl : flags (object v e) 30 ≡ 1) (lt : n < 512)
       (le : usedPages (user v) a + 1 ≤ given (user v) a) where
-    pub caseB : Grew P v (finish (setSlot v t n d) U O a e (suc n) (pointer 1 t) (usedPages (user v) a + 1)) a e n d
+    pub caseB : Grew P v (finish (setSlot v t n d) U O a e (suc n) (pointer 1 t) (usedPages (user v) a + 1)) a e n d hand
     unfolding Shape rootBy weighR Fill Below weigh pageAt
-    caseB = grew P v v₂ _ a e n d 1 t _ (suc n) (λ g. g d)
+    caseB = grew P v v₂ _ a e n d 1 t _ (suc n) (λ g. g d) hand
         (finished P v hand G pos big a f ha hf uf (hit t) v₂ K (suc n) 1 t (usedPages (user v) a + 1) (λ g. 0) (λ g. g d) (λ p. 0) R)
         refl refl (ap (λ (k : ℕ). usedPages (user v) a + k) (sym (need-mid n mid)))
         (λ m h. ap (upto m 512) (W .old m h) ∙ sym (ap (λ (r : Root). pageAt v r m) (root-is 1 fl))) at (λ g. last-mid v₂ (tree 1 t) n g mid ∙ ap g at)
+        (λ p. omega (arith, hand-is p, hit-sym p d)) (only-slot _ v t n d (λ p j h. inr (inl (mid, (h .0 ∙ sym ix, omega (arith, h .1, lt), omega (arith, h .2, lt))))))
       where
         S : Shape P v 1 t n
         S = shape-is 1 fl
@@ -170,18 +188,22 @@ module _ (P : ℕ) (v : Vol) (hand : ℕ → ℕ) (G : Good P v hand) (pos : 0 <
         at : upto n 512 (leaf v₂ 1 t n) ≡ d
         at = upto-in n 512 (leaf v₂ 1 t n) lt ∙ W .at
 
+        ix : indexAt v₂ (tree 1 t) (n / 512) ≡ t
+        ix = ap (indexAt v₂ (tree 1 t)) (let q : n / 512 ≡ 0 = omega (arith, lt) in q) ∙ index-1 v₂ t
+
   -- ---- within an index block under the subindex: position n % 512 of block n / 512
   module _ (d : ℕ) (hd : d < P) (pd : 0 < d) (hand-is : (p : ℕ) → hand p ≡ hit d p) (fl : flags (object v e) 30 ≡ 2) (lt : n < 262144) (mid : 0 < n % 512)
       (le : usedPages (user v) a + 1 ≤ given (user v) a) where
     abbrev X : ℕ
     X = slot v t (n / 512)
 
-    pub caseD : Grew P v (finish (setSlot v X (n % 512) d) U O a e (suc n) (pointer 2 t) (usedPages (user v) a + 1)) a e n d
+    pub caseD : Grew P v (finish (setSlot v X (n % 512) d) U O a e (suc n) (pointer 2 t) (usedPages (user v) a + 1)) a e n d hand
     unfolding Shape rootBy weighR Fill Below weigh blocks pageAt
-    caseD = grew P v v₂ _ a e n d 2 t _ (suc n) (λ g. g d)
+    caseD = grew P v v₂ _ a e n d 2 t _ (suc n) (λ g. g d) hand
         (finished P v hand G pos big a f ha hf uf (hit X) v₂ K (suc n) 2 t (usedPages (user v) a + 1) (λ g. 0) (λ g. g d) (λ p. 0) R)
         refl refl (ap (λ (k : ℕ). usedPages (user v) a + k) (sym (need-mid n mid)))
         (λ m h. ap (upto m 262144) (W .old m h) ∙ sym (ap (λ (r : Root). pageAt v r m) (root-is 2 fl))) pg (λ g. last-mid v₂ (tree 2 t) n g mid ∙ ap g pg)
+        (λ p. omega (arith, hand-is p, hit-sym p d)) (only-slot _ v X (n % 512) d (λ p j h. inr (inl (mid, (h .0 ∙ sym (index-2 v₂ t (n / 512) i ∙ top (n / 512)), h .1, h .2)))))
       where
         S : Shape P v 2 t n
         S = shape-is 2 fl
@@ -247,13 +269,13 @@ module _ (P : ℕ) (v : Vol) (hand : ℕ → ℕ) (G : Good P v hand) (pos : 0 <
   -- ---- an empty file: index block b with its first page
   module _ (d b : ℕ) (hd : d < P) (hb : b < P) (pd : 0 < d) (pb : 0 < b) (hand-is : (p : ℕ) → hand p ≡ hit d p + hit b p) (bare : (j : ℕ) → slot v b j ≡ 0)
       (fl : flags (object v e) 30 ≡ 0) (n0 : n ≡ 0) (le : usedPages (user v) a + 2 ≤ given (user v) a) where
-    pub caseA : Grew P v (finish (setSlot v b 0 d) U O a e 1 (pointer 1 b) (usedPages (user v) a + 2)) a e n d
+    pub caseA : Grew P v (finish (setSlot v b 0 d) U O a e 1 (pointer 1 b) (usedPages (user v) a + 2)) a e n d hand
     unfolding Shape rootBy weighR sum Below pageAt
-    caseA = grew P v v₂ _ a e n d 1 b _ 1 (λ g. g b + g d)
+    caseA = grew P v v₂ _ a e n d 1 b _ 1 (λ g. g b + g d) hand
         (finished P v hand G pos big a f ha hf uf (hit b) v₂ K 1 1 b (usedPages (user v) a + 2) (λ g. 0) (λ g. g b + g d) (λ p. 0) R)
         refl (sym (ap suc n0)) (ap (λ (k : ℕ). usedPages (user v) a + k) (sym (need-block n (omega (arith, n0)) (omega (arith, n0)))))
         (λ m h. absurd (let r : ⊥ = omega (arith, n0) in r)) pg
-        (λ g. omega (arith, last-block v₂ (tree 1 b) n g (omega (arith, n0)) (omega (arith, n0)), ap g pg, ap g (ap (indexAt v₂ (tree 1 b)) (let q : n / 512 ≡ 0 = omega (arith, n0) in q) ∙ index-1 v₂ b)))
+        lastly (λ p. omega (arith, hand-is p, hit-sym p d, hit-sym p b)) (only-slot _ v b 0 d (λ p j h. inl (omega (arith, lastly (hit p), subst (λ (z : ℕ). hit p z ≡ 1) (h .0) (hit-same p (omega (arith, h .0)))))))
       where
         v₂ : Vol
         v₂ = setSlot v b 0 d
@@ -281,16 +303,20 @@ module _ (P : ℕ) (v : Vol) (hand : ℕ → ℕ) (G : Good P v hand) (pos : 0 <
         pg : upto n 512 (leaf v₂ 1 b n) ≡ d
         pg = upto-in n 512 (leaf v₂ 1 b n) (omega (arith, n0)) ∙ ap (leaf v₂ 1 b) n0 ∙ W .at
 
+        lastly : (g : ℕ → ℕ) → last v₂ (tree 1 b) n g ≡ g b + g d
+        lastly g = omega (arith, last-block v₂ (tree 1 b) n g (omega (arith, n0)) (omega (arith, n0)), ap g pg, ap g (ap (indexAt v₂ (tree 1 b)) (let q : n / 512 ≡ 0 = omega (arith, n0) in q) ∙ index-1 v₂ b))
+
   -- ---- a new index block under the subindex
   module _ (d b : ℕ) (hd : d < P) (hb : b < P) (pd : 0 < d) (pb : 0 < b) (hand-is : (p : ℕ) → hand p ≡ hit d p + hit b p) (bare : (j : ℕ) → slot v b j ≡ 0)
       (fl : flags (object v e) 30 ≡ 2) (lt : n < 262144) (start : n % 512 ≡ 0) (le : usedPages (user v) a + 2 ≤ given (user v) a) where
-    pub caseE : Grew P v (finish (setSlot (setSlot v t (n / 512) b) b 0 d) U O a e (suc n) (pointer 2 t) (usedPages (user v) a + 2)) a e n d
-    unfolding Shape rootBy weighR Fill Below weigh blocks pageAt
-    caseE = grew P v v₂ _ a e n d 2 t _ (suc n) (λ g. g b + g d)
+    pub caseE : Grew P v (finish (setSlot (setSlot v t (n / 512) b) b 0 d) U O a e (suc n) (pointer 2 t) (usedPages (user v) a + 2)) a e n d hand
+    unfolding Shape rootBy weighR Fill Below weigh blocks pageAt subindexOf
+    caseE = grew P v v₂ _ a e n d 2 t _ (suc n) (λ g. g b + g d) hand
         (finished P v hand G pos big a f ha hf uf D v₂ K (suc n) 2 t (usedPages (user v) a + 2) (λ g. 0) (λ g. g b + g d) (λ p. 0) R)
         refl refl (ap (λ (k : ℕ). usedPages (user v) a + k) (sym (need-block n start (omega (arith, S .0)))))
         (λ m h. ap (upto m 262144) (W .old m h) ∙ sym (ap (λ (r : Root). pageAt v r m) (root-is 2 fl))) pg
-        (λ g. omega (arith, last-block v₂ (tree 2 t) n g start (omega (arith, S .0)), ap g pg, ap g (index-2 v₂ t (n / 512) i ∙ now)))
+        lastly (λ p. omega (arith, hand-is p, hit-sym p d, hit-sym p b))
+        (only-trans _ v v₁ v₂ (only-slot _ v t (n / 512) b (λ p j h. inr (inr (start, omega (arith, S .0), h)))) (only-slot _ v₁ b 0 d (λ p j h. inl (needs p (h .0)))))
       where
         S : Shape P v 2 t n
         S = shape-is 2 fl
@@ -369,18 +395,25 @@ module _ (P : ℕ) (v : Vol) (hand : ℕ → ℕ) (G : Good P v hand) (pos : 0 <
         pg : upto n 262144 (leaf v₂ 2 t n) ≡ d
         pg = upto-in n 262144 (leaf v₂ 2 t n) lt ∙ W .at
 
+        lastly : (g : ℕ → ℕ) → last v₂ (tree 2 t) n g ≡ g b + g d
+        lastly g = omega (arith, last-block v₂ (tree 2 t) n g start (omega (arith, S .0)), ap g pg, ap g (index-2 v₂ t (n / 512) i ∙ now))
+
+        needs : (p : ℕ) → p ≡ b → Needs v₂ (tree 2 t) n p
+        needs p h = omega (arith, lastly (hit p), subst (λ (z : ℕ). hit p z ≡ 1) h (hit-same p (omega arith)))
+
   -- ---- the index block is full: a subindex block s over it and over a new one
   module _ (d b s : ℕ) (hd : d < P) (hb : b < P) (hs : s < P) (pd : 0 < d) (pb : 0 < b) (ps : 0 < s) (hand-is : (p : ℕ) → hand p ≡ hit d p + hit b p + hit s p)
       (bare : (j : ℕ) → slot v b j ≡ 0) (bare′ : (j : ℕ) → slot v s j ≡ 0)
       (fl : flags (object v e) 30 ≡ 1) (full : n ≡ 512) (le : usedPages (user v) a + 3 ≤ given (user v) a) where
-    pub caseC : Grew P v (finish (setSlot (setSlot (setSlot v s 0 t) s 1 b) b 0 d) U O a e 513 (pointer 2 s) (usedPages (user v) a + 3)) a e n d
+    pub caseC : Grew P v (finish (setSlot (setSlot (setSlot v s 0 t) s 1 b) b 0 d) U O a e 513 (pointer 2 s) (usedPages (user v) a + 3)) a e n d hand
     unfolding Shape rootBy weighR Fill Below weigh blocks pageAt subindexOf
-    caseC = grew P v v₃ _ a e n d 2 s _ 513 (λ g. g s + (g b + g d))
+    caseC = grew P v v₃ _ a e n d 2 s _ 513 (λ g. g s + (g b + g d)) hand
         (finished P v hand G pos big a f ha hf uf D v₃ K 513 2 s (usedPages (user v) a + 3) (λ g. 0) (λ g. g s + (g b + g d)) (λ p. 0) R)
         refl (sym (ap suc full)) (ap (λ (k : ℕ). usedPages (user v) a + k) (sym (need-raise n full)))
         (λ m h. upto-in m 262144 (leaf v₃ 2 s m) (omega (arith, full)) ∙ raise-old P v v₃ D agree 1 t s b d (λ g. g b + g d) pos ps hs s0 s1 so bz F B W m (omega (arith, full))
         ∙ sym (upto-in m 512 (leaf v 1 t m) (omega (arith, full))) ∙ sym (ap (λ (r : Root). pageAt v r m) (root-is 1 fl))) pg
-        (λ g. omega (arith, last-raise v₃ (tree 2 s) n g full, ap g pg, ap g (ap (indexAt v₃ (tree 2 s)) (let q : n / 512 ≡ 1 = omega (arith, full) in q) ∙ index-2 v₃ s 1 (omega arith) ∙ s1)))
+        lastly (λ p. omega (arith, hand-is p, hit-sym p d, hit-sym p b, hit-sym p s))
+        (only-trans _ v v₂ v₃ (only-trans _ v v₁ v₂ (only-slot _ v s 0 t (λ p j h. inl (top p (h .0)))) (only-slot _ v₁ s 1 b (λ p j h. inl (top p (h .0))))) (only-slot _ v₂ b 0 d (λ p j h. inl (index p (h .0)))))
       where
         S : Shape P v 1 t n
         S = shape-is 1 fl
@@ -464,3 +497,12 @@ module _ (P : ℕ) (v : Vol) (hand : ℕ → ℕ) (G : Good P v hand) (pos : 0 <
 
         pg : upto n 262144 (leaf v₃ 2 s n) ≡ d
         pg = upto-in n 262144 (leaf v₃ 2 s n) (omega (arith, full)) ∙ ap (leaf v₃ 2 s) full ∙ raise-at P v v₃ D agree 1 t s b d (λ g. g b + g d) pos ps hs s0 s1 so bz F B W
+
+        lastly : (g : ℕ → ℕ) → last v₃ (tree 2 s) n g ≡ g s + (g b + g d)
+        lastly g = omega (arith, last-raise v₃ (tree 2 s) n g full, ap g pg, ap g (ap (indexAt v₃ (tree 2 s)) (let q : n / 512 ≡ 1 = omega (arith, full) in q) ∙ index-2 v₃ s 1 (omega arith) ∙ s1))
+
+        top : (p : ℕ) → p ≡ s → Needs v₃ (tree 2 s) n p
+        top p h = omega (arith, lastly (hit p), subst (λ (z : ℕ). hit p z ≡ 1) h (hit-same p (omega arith)))
+
+        index : (p : ℕ) → p ≡ b → Needs v₃ (tree 2 s) n p
+        index p h = omega (arith, lastly (hit p), subst (λ (z : ℕ). hit p z ≡ 1) h (hit-same p (omega arith)))

@@ -42,7 +42,7 @@ pub record Returned (P : ℕ) (v w : Vol) (a e : ℕ) : Type 0 where
   pub address : (x : ℕ) → x < 65536 → (m : ℕ) → pageAt w (fileAt w x) m ≡ pageAt v (fileAt v x) m
   pub beside : Beside P v w a e
 
-pub returned : (P : ℕ) (v v′ v″ : Vol) (a e n d : ℕ) → e < 65536 → 0 < used (object v e) → Sound P v → Grew P v v′ a e n d → Lost P v′ v″ a e n (λ p. 0) → Returned P v v″ a e
+pub returned : (P : ℕ) (v v′ v″ : Vol) (a e n d : ℕ) → e < 65536 → 0 < used (object v e) → Sound P v → Grew P v v′ a e n d (λ p. 0) → Lost P v′ v″ a e n (λ p. 0) → Returned P v v″ a e
 returned P v v′ v″ a e n d he ue S g l = record {
   count = l .longer .count ∙ sym (g .longer .count);
   spent = omega (arith, g .longer .spent, l .longer .spent);

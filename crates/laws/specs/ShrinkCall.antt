@@ -18,12 +18,14 @@ use Rattle.book.specs.Shrink.{shrink}
 use Rattle.book.specs.Trees.{pageAt}
 use Rattle.book.specs.Words.{Vol, vol}
 use Rattle.laws.specs.After.{after-call}
+use Rattle.laws.specs.Around.{Around}
 use Rattle.laws.specs.Call.{kept-call}
 use Rattle.laws.specs.Count.{good, sound}
 use Rattle.laws.specs.Done.{done}
 use Rattle.laws.specs.Kinds.{grows-kind}
 use Rattle.laws.specs.Leave.{Beside, beside-refl, beside-bits}
 use Rattle.laws.specs.Levels.{last}
+use Rattle.laws.specs.Places.{OnlyAt}
 use Rattle.laws.specs.Shrink.{shrunk}
 use Rattle.laws.specs.ShrinkCases.{Lost}
 use Rattle.laws.specs.Tree.{hit-zero}
@@ -57,6 +59,11 @@ module _ (img : List ℕ) (u f : ℕ) where
     pub beside-shrink : Beside P v v′ u e
     unfolding shrinkCall call Clear
     beside-shrink = after-call img _ _ 0 _ _ r img′ o (λ w. Beside P v w u e) (beside-refl P v u e) (λ W A S c. shrink-step W A S (c .0) (c .1 .0) .beside)
+
+    -- no other word changes: the bits of the last position's pages, its slot, the counts
+    pub frame-shrink : OnlyAt (Around P v u e (n - 1)) v v′
+    unfolding shrinkCall call Clear
+    frame-shrink = after-call img _ _ 0 _ _ r img′ o (λ w. OnlyAt (Around P v u e (n - 1)) v w) (λ p k h. refl) (λ W A S c. shrink-step W A S (c .0) (c .1 .0) .words)
 
     -- the file's pages but the last are where they were
     pub shrink-old : (m : ℕ) → m < n - 1 → pageAt v′ (fileAt v′ e) m ≡ pageAt v (fileAt v e) m
