@@ -22,9 +22,10 @@ use Rattle.book.specs.Words.{Vol, vol}
 use Rattle.laws.specs.After.{after-call}
 use Rattle.laws.specs.Call.{kept-call}
 use Rattle.laws.specs.Count.{good, sound, bit-le, file-unused}
-use Rattle.laws.specs.DeleteFile.{Deleted, deleted, used-zero}
+use Rattle.laws.specs.DeleteFile.{DeletePlaces, Deleted, deleted, used-zero}
 use Rattle.laws.specs.Done.{done}
 use Rattle.laws.specs.Leave.{Beside, beside-refl, beside-bits}
+use Rattle.laws.specs.Places.{OnlyAt}
 
 module _ (img : List ℕ) (u f : ℕ) where
   abbrev P : ℕ
@@ -52,6 +53,11 @@ module _ (img : List ℕ) (u f : ℕ) where
     pub beside-delete-file : Beside P v v′ u e
     unfolding deleteFileCall call Clear
     beside-delete-file = after-call img _ _ 0 _ _ r img′ o (λ w. Beside P v w u e) (beside-refl P v u e) (λ W A S c. delete-step W A S (c .0) .beside)
+
+    -- no other word changes: the bits of the file's pages, its entry, its owner's used pages
+    pub frame-delete-file : OnlyAt (DeletePlaces P v u e) v v′
+    unfolding deleteFileCall call Clear
+    frame-delete-file = after-call img _ _ 0 _ _ r img′ o (λ w. OnlyAt (DeletePlaces P v u e) v w) (λ p k h. refl) (λ W A S c. delete-step W A S (c .0) .words)
 
     -- done: the file is gone
     module _ (z : r .number ≡ 0) where
