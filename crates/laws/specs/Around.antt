@@ -1,7 +1,7 @@
 -- The words that a file's last position has: slots, bits, counts; and what growing and shrinking may change. Assumes nothing.
-use mathlib.Core.Path.{_≡_, sym, ap, _∙_, subst}
-use mathlib.Core.Logic.{_≢_, _⊎_, inl, inr}
-use Prim.Native.Nat.{ℕ, suc, _+_, _*_, _/_, _%_, _≤_, _<_}
+use mathlib.Core.Path.{_≡_, sym, _∙_, subst}
+use mathlib.Core.Logic.{_⊎_, inl, inr}
+use Prim.Native.Nat.{ℕ, _+_, _*_, _/_, _%_, _<_}
 use native.Mathlib.Omega.{arith}
 use Rattle.book.specs.Bits.{bitPage, bitWord, mark, claim}
 use Rattle.book.specs.Entries.{objectPage, userPage}
@@ -13,7 +13,7 @@ use Rattle.book.specs.Trees.{Root, indexAt, subindexOf}
 use Rattle.book.specs.Words.{Vol, put2}
 use Rattle.laws.specs.Levels.{last}
 use Rattle.laws.specs.Leave.{SamePlaces, bitPage-same}
-use Rattle.laws.specs.Places.{Places, PageOf, WordsOf, FieldOf, Either, OnlyAt, only-wider, only-then, only-put, only-put2, only-wipe}
+use Rattle.laws.specs.Places.{Places, PageOf, WordsOf, FieldOf, Either, OnlyAt, only-wider, only-put, only-put2, only-wipe}
 
 -- page x is one of those that position n needs
 abbrev pub Needs : Vol → Root → ℕ → ℕ → Type 0

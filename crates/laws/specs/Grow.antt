@@ -12,14 +12,14 @@ use Rattle.book.specs.Grow.{first, onward, raise, block, phaseBy, indexOf, ente
 use Rattle.book.specs.Holders.{hit, some}
 use Rattle.book.specs.Pointers.{slot, flags, page, pointer, setSlot}
 use Rattle.book.specs.Rules.{Rule6, Sound}
-use Rattle.book.specs.Trees.{Root, weigh, weighR, pageAt, rootBy, Fill}
+use Rattle.book.specs.Trees.{Root, weigh, weighR, rootBy, Fill}
 use Rattle.book.specs.Words.{Vol, two, word}
 use Rattle.laws.specs.Around.{AroundNew, Needs, only-trans, only-take}
 use Rattle.laws.specs.Cases.{Grew, caseA, caseB, caseC, caseD, caseE, root-is, shape-is}
 use Rattle.laws.specs.Claim.{claim-good, claim-user, claim-obj, claim-keeps, claim-zero, claim-free, free-pos}
 use Rattle.laws.specs.Count.{Good, good, sound, free, free-count, room}
 use Rattle.laws.specs.Kinds.{kind-empty, kind-low, kind-high}
-use Rattle.laws.specs.Longer.{Longer, longer-still}
+use Rattle.laws.specs.Longer.{longer-still}
 use Rattle.laws.specs.Part.{all-rest, file-le, rest}
 use Rattle.laws.specs.Marks.{claim-still}
 use Rattle.laws.specs.Leave.{SamePlaces, Still, Beside, places-sym, places-trans, still-trans, still-beside, beside-trans}

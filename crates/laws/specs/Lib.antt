@@ -58,6 +58,6 @@ pub mod GrowCall
 pub mod ShrinkCall
 pub mod DeleteFileCall
 pub mod Return
-pub mod Counts
+pub mod FileCost
 pub mod Space
 pub mod Around
