@@ -42,6 +42,14 @@ pub mod Open
 pub mod Write
 pub mod Find
 pub mod FormatCall
+pub mod Several
+pub mod Node
+pub mod Roles
+pub mod Owners
+pub mod Holder
+pub mod Visits
+pub mod Who
+pub mod Singles
 pub mod Leave
 pub mod Edited
 pub mod Levels
