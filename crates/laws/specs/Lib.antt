@@ -66,6 +66,6 @@ pub mod GrowCall
 pub mod ShrinkCall
 pub mod DeleteFileCall
 pub mod Return
-pub mod FileCost
+pub mod Counts
 pub mod Space
 pub mod Around

@@ -1,19 +1,24 @@
--- How many pages a file holds. Assumes nothing.
-use mathlib.Core.Path.{_≡_, refl, ap, _∙_}
+-- Pages counted: what a file holds, what is reserved, visited and free. Assumes nothing.
+use mathlib.Core.Path.{_≡_, refl, sym, ap, _∙_}
 use mathlib.Core.Logic.{inl, inr}
 use Prim.Native.Nat.{ℕ, zero, suc, _+_, _<_}
 use native.Mathlib.Omega.{arith}
-use Rattle.sums.specs.Sum.{sum, sum-zero, sum-ext, sum-const}
+use Rattle.sums.specs.Sum.{sum, sum-zero, sum-ext, sum-none, sum-const}
+use Rattle.book.specs.Bits.{bit, reserved}
 use Rattle.book.specs.Entries.{object, used, pageCount}
 use Rattle.book.specs.Files.{fileAt, Shape, FileShape, cost, isRun}
-use Rattle.book.specs.Holders.{some}
+use Rattle.book.specs.Holders.{some, all, holders, visits}
 use Rattle.book.specs.Pointers.{flags, page}
 use Rattle.book.specs.Rules.{Rule7, Sound}
 use Rattle.book.specs.Trees.{Root, run, weighR, rootAt, rootBy}
 use Rattle.book.specs.Words.{Vol}
 use Rattle.laws.specs.Cost.{fill-1, fill-2}
+use Rattle.laws.specs.Count.{free, free-count, good, most, bit-holders, holders-count, sound-within}
 use Rattle.laws.specs.Finish.{file-used}
+use Rattle.laws.specs.Visits.{visits-holders}
 use Rattle.laws.specs.Tree.{some-pos}
+
+-- ---- a file
 
 run-count : (v : Vol) (t n : ℕ) → 0 < t → weighR v (run t n) some ≡ n
 unfolding weighR
@@ -58,3 +63,19 @@ module _ (P : ℕ) (v : Vol) (S : Sound P v) (e : ℕ) (he : e < 65536) (ue : 0 
 
   pub run-cost : isRun x n → weighR v (fileAt v e) some ≡ n
   run-cost k = ap (λ (r : Root). weighR v r some) root ∙ shape-run P v x t n shape k
+
+-- ---- the volume
+
+module _ (P : ℕ) (v : Vol) (S : Sound P v) where
+  -- each held page is visited once: as many as are reserved
+  pub visits-reserved : visits P v ≡ reserved P v
+  unfolding reserved
+  visits-reserved = visits-holders P v (S .r8) ∙ sym (sum-ext P (bit P v) (holders P v) (bit-holders P v S))
+
+  pub reserved-held : 0 < P → reserved P v ≡ 1 + all P v some
+  unfolding reserved
+  reserved-held h = sum-ext P (bit P v) (holders P v) (bit-holders P v S) ∙ holders-count P v (sound-within P v (most P v S)) h
+
+  -- free and held pages are all pages
+  pub free-visits : 0 < P → free P v + visits P v ≡ P
+  free-visits h = omega (arith, visits-reserved, reserved-held h, free-count P v (λ p. 0) (good P v S) h, sum-none P (λ p. 0) (λ p i. refl))
