@@ -15,7 +15,8 @@ use Rattle.book.specs.Rules.{Rule6, Sound}
 use Rattle.book.specs.Trees.{Root, weigh, weighR, rootBy, Fill}
 use Rattle.book.specs.Words.{Vol, two, word}
 use Rattle.laws.specs.Around.{AroundNew, Needs, only-trans, only-take}
-use Rattle.laws.specs.Cases.{Grew, caseA, caseB, caseC, caseD, caseE, root-is, shape-is}
+use Rattle.laws.specs.Cases.{Grew, caseA, caseB, root-is, shape-is}
+use Rattle.laws.specs.CasesSub.{caseC, caseD, caseE}
 use Rattle.laws.specs.Claim.{claim-good, claim-user, claim-obj, claim-keeps, claim-zero, claim-free, free-pos}
 use Rattle.laws.specs.Count.{Good, good, sound, free, free-count, room}
 use Rattle.laws.specs.Kinds.{kind-empty, kind-low, kind-high}

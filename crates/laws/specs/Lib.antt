@@ -69,3 +69,5 @@ pub mod Return
 pub mod Counts
 pub mod Space
 pub mod Around
+pub mod CasesSub
+pub mod ShrinkCasesSub
