@@ -22,7 +22,8 @@ use Rattle.laws.specs.Around.{AroundNew}
 use Rattle.laws.specs.Call.{kept-call}
 use Rattle.laws.specs.Cases.{Grew}
 use Rattle.laws.specs.Choose.{lowest-chooser}
-use Rattle.laws.specs.Count.{good, sound}
+use Rattle.laws.specs.Count.{Good, good, sound, free}
+use Rattle.laws.specs.FreeCount.{beside-free}
 use Rattle.laws.specs.Done.{done}
 use Rattle.laws.specs.Grow.{grown}
 use Rattle.laws.specs.Kinds.{grows-kind}
@@ -87,6 +88,10 @@ module _ (img : List ℕ) (u f : ℕ) where
           let c = grow-done .clear in
           subst₂ (λ (w : Vol) (d : ℕ). Grew P v w u e n d (λ p. 0)) (sym (grow-done .image)) (sym (grow-done .value)) (grow-step (c .0) (c .1 .0) (c .1 .1 .0) (c .1 .1 .1 .0) (c .1 .1 .1 .1 .0) (c .1 .1 .1 .1 .1 .0))
 
+      before : Good P v (λ p. 0)
+      unfolding growCall call asking judged Clear
+      before = good P v (grow-done .clear .1 .1 .0)
+
       pub grow-value : r .value ≡ lowestFree P v
       unfolding growCall call asking
       grow-value = grow-done .value
@@ -100,6 +105,17 @@ module _ (img : List ℕ) (u f : ℕ) where
       pub grow-used : usedPages (user v′) u ≡ usedPages (user v) u + need n
       grow-used = grew-call .longer .spent
 
+      -- as many pages less are free
+      pub grow-free : free P v′ + need n ≡ free P v
+      unfolding growCall call asking judged Clear
+      grow-free =
+          let c = grow-done .clear in
+          omega (
+            arith,
+            grow-used,
+            beside-free P v v′ u f (omega (arith, c .0 .least)) (omega (arith, c .1 .0 .0)) (omega (arith, c .1 .0 .1)) (c .1 .1 .1 .0 .1) before (grew-call .good) beside-grow,
+          )
+
       -- the pages of the new position are taken, and no others
-      pub grow-bits : Sound P v → (p : ℕ) → p < P → bit P v′ p ≡ bit P v p + last v′ (fileAt v′ e) n (hit p)
-      grow-bits S p h = omega (arith, beside-bits P v v′ u e (good P v S) (grew-call .good) beside-grow p h, grew-call .longer .weight (hit p) (hit-zero p))
+      pub grow-bits : (p : ℕ) → p < P → bit P v′ p ≡ bit P v p + last v′ (fileAt v′ e) n (hit p)
+      grow-bits p h = omega (arith, beside-bits P v v′ u e before (grew-call .good) beside-grow p h, grew-call .longer .weight (hit p) (hit-zero p))

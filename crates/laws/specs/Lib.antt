@@ -71,3 +71,4 @@ pub mod Space
 pub mod Around
 pub mod CasesSub
 pub mod ShrinkCasesSub
+pub mod FreeCount
