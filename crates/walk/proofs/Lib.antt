@@ -1,0 +1,5 @@
+-- Laws that proofs of this crate and of its users cite.
+pub mod Digits
+pub mod Marked
+pub mod Walks
+pub mod Pointers
