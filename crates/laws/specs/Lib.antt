@@ -23,3 +23,4 @@ pub mod Delete
 pub mod Call
 pub mod Reach
 pub mod Positions
+pub mod Regroup

@@ -1,3 +1,5 @@
 -- Laws that proofs of this crate and of its users cite.
+pub mod Deciding
 pub mod Parts
 pub mod Slots
+pub mod Stored

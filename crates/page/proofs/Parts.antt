@@ -1,6 +1,5 @@
 -- Parts of an image that are written and come back. Assumes nothing.
-use mathlib.Core.Path.{_≡_, refl, sym, ap, ap₂, _∙_, fun-ext}
-use mathlib.Core.Logic.{_≢_}
+use mathlib.Core.Path.{_≡_, sym, ap, ap₂, _∙_, fun-ext}
 use mathlib.Core.List.{List, _++_}
 use Prim.Native.Nat.{ℕ, _+_, _-_, _*_, _≤_, _<_}
 use native.Mathlib.Nat.{add-sub-cancel-left}
@@ -9,7 +8,7 @@ use native.Mathlib.Omega.{arith}
 use lib.ListN.{length, getD, take, drop, set, List·getD-append}
 use lib.Seq.{length-take-le, getD-take, getD-drop, getD-append-add, getD-set-same, getD-set-other}
 use borrow.Rule.Slice.PartMut.{midOf, postOf, putMid, mid-len}
-use Rattle.book.specs.Words.{Words, Vol, vol, putWords, wipe, zeros}
+use Rattle.book.specs.Words.{Words, vol, putWords, wipe, zeros}
 use Rattle.book.specs.Written.{vol-in, vol-out, putWords-here, putWords-page, putWords-low, putWords-high, wipe-here, wipe-page}
 use Rattle.page.specs.Parts.{Begins}
 
@@ -94,3 +93,10 @@ zeros-wipe img q = fun-ext (λ p. fun-ext (λ k. elim (ℕ-discrete p q) [
     | no h ↦ putWords-high (vol img) q 0 1024 zeros q k (omega arith) ∙ vol-out img q k (omega arith)
   ] ∙ sym (ap (λ (x : ℕ). wipe (vol img) q x k) e ∙ wipe-here (vol img) q k)
 ]))
+
+-- words are below 65,536
+pub vol-lt : (img : List ℕ) → ((i : ℕ) → getD img i 0 < 65536) → (p k : ℕ) → vol img p k < 65536
+vol-lt img f p k = elim (decLt k 1024) [
+  | yes h ↦ omega (arith, vol-in img p k h, f (1024 * p + k))
+  | no h ↦ omega (arith, vol-out img p k (omega arith))
+]

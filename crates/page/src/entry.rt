@@ -1,7 +1,6 @@
 // Where an entry lies in its file: 32 words, 32 to a page, for users and objects alike.
 use crate::WORDS;
 use crate::write::zero_words;
-
 ghost use mathlib.Core.Path.{_≡_};
 ghost use Prim.Native.Nat.{_+_, _*_, _≤_};
 ghost use lib.ListN.{length};
@@ -16,13 +15,17 @@ pub struct EntryPlace {
 
 impl EntryPlace {
     pub const WORDS: usize = 32;
+
     pub const PER_PAGE: usize = 32;
 
     // The place of entry n.
     pub fn of(n: usize) -> Self
         ensures { λ r. ⌜ (r .page ≡ entryPage n) × (r .word ≡ entryWord n) ⌝ }
     {
-        Self { page: n / Self::PER_PAGE, word: Self::WORDS * (n % Self::PER_PAGE) }
+        Self {
+            page: n / Self::PER_PAGE,
+            word: Self::WORDS * (n % Self::PER_PAGE),
+        }
     }
 }
 

@@ -1,7 +1,6 @@
 // Names and types: which are legal, when two are equal, how one is stored. Comparisons go word by word and stop at the first difference.
 use crate::WORDS;
 use crate::read::word_at;
-
 ghost use mathlib.Core.Path.{_≡_};
 ghost use Prim.Native.Nat.{ℕ, _+_, _*_, _/_, _%_, _≤_, _<_};
 ghost use lib.ListN.{length, getD};
@@ -133,11 +132,7 @@ pub fn same_at(img: &[u16], p: usize, j: usize, q: usize, k: usize, n: usize) ->
 fn byte_or_zero(s: &[u8], i: usize) -> u16
     ensures { λ r. ⌜ (r ≡ getD (now (s .entry)) i 0) × (r < 256) ⌝ }
 {
-    if i < s.len() {
-        s[i] as u16
-    } else {
-        0
-    }
+    if i < s.len() { s[i] as u16 } else { 0 }
 }
 
 // Word i of the stored form of s.

@@ -6,9 +6,9 @@ use Prim.Native.Nat.{ℕ, zero, suc, _+_, _-_, _*_, _≤_, _<_}
 use native.Mathlib.Nat.{not-suc-le-zero, le-refl}
 use native.Mathlib.Numerals.{add-one}
 use native.Mathlib.Omega.{arith}
-use lib.ListN.{length, getD, take, drop}
+use lib.ListN.{getD, take, drop}
 use Rattle.sums.specs.Sum.{sum, sum-ext, is}
-use Rattle.book.specs.Words.{Vol, vol, two, word}
+use Rattle.book.specs.Words.{Vol, vol, two}
 use Rattle.book.specs.Written.{word-pos}
 use Rattle.book.specs.Pointers.{slot}
 use Rattle.book.specs.Trees.{weigh, Below}

@@ -1,12 +1,11 @@
 -- Walks put together: one after the other, and in a row. Assumes nothing.
-use mathlib.Core.Path.{_≡_, refl, sym, ap, ap₂, _∙_, subst}
+use mathlib.Core.Path.{_≡_, refl, sym, ap, _∙_, subst}
 use mathlib.Core.List.{List}
-use Prim.Native.Nat.{ℕ, zero, suc, _+_, _-_, _*_, _≤_, _<_}
+use Prim.Native.Nat.{ℕ, zero, suc, _+_, _≤_, _<_}
 use native.Mathlib.Nat.{not-suc-le-zero}
 use native.Mathlib.Decide.{ℕ-discrete}
 use native.Mathlib.Numerals.{add-one}
 use native.Mathlib.Omega.{arith}
-use lib.ListN.{length}
 use Rattle.sums.specs.Sum.{sum, sum-ext, sum-add, sum-swap, sum-suc, sum-zero}
 use Rattle.book.specs.Holders.{hit, some}
 use Rattle.book.specs.Image.{pages}
@@ -47,6 +46,17 @@ module _ (P : ℕ) (m : List ℕ) (v : ℕ) where
   walked-then W m′ x k X m″ (On y) j = record { more = λ p h. omega (arith, k .more p h, j .more p h); count = omega (arith, k .count, j .count); kept = j .kept ∙ k .kept }
   walked-then W m′ x k X m″ Met j = (j .0, j .1, omega (arith, j .2, k .more (j .0) (j .1)))
 
+-- one walk whose answer was looked at, and then another
+module _ (P : ℕ) (m : List ℕ) (v : ℕ) (W : Weigher) (m′ : List ℕ) (r : Walk) (k : Walked P m v W m′ r) where
+  pub marked-on : (x : ℕ) → r ≡ On x → Marked P m v W m′ x
+  marked-on x e = subst (λ (w : Walk). Walked P m v W m′ w) e k
+
+  pub then-on : (x : ℕ) → r ≡ On x → (X : Weigher) (m″ : List ℕ) (s : Walk) → Walked P m′ x X m″ s → Walked P m v (λ g. W g + X g) m″ s
+  then-on x e X m″ s j = walked-then P m v W m′ x (marked-on x e) X m″ s j
+
+  pub then-met : r ≡ Met → (X : Weigher) (m″ : List ℕ) → Walked P m v (λ g. W g + X g) m″ Met
+  then-met e X m″ = walked-met P m v W (λ g. W g + X g) (λ p. omega arith) m′ m″ (subst (λ (w : Walk). Walked P m v W m′ w) e k)
+
 -- ---- in a row: F i is the i-th to be walked over
 
 abbrev pub rowOf : (ℕ → Weigher) → ℕ → Weigher
@@ -73,7 +83,7 @@ module _ (P : ℕ) (m : List ℕ) (v : ℕ) (F : ℕ → Weigher) where
     row-on y q =
         walked-same P m v (λ g. rowOf F i g + X g) (rowOf F (i + 1))
         (λ g. ap (λ (n : ℕ). rowOf F i g + n) (e g) ∙ sym (ap (λ (n : ℕ). rowOf F n g) (add-one i) ∙ sum-suc i (λ j. F j g)))
-        m″ (On y) (walked-then P m v (rowOf F i) m′ x k X m″ (On y) (subst (λ (w : Walk). Walked P m′ x X m″ w) q turn))
+        m″ (On y) (walked-then P m v (rowOf F i) m′ x k X m″ (On y) (marked-on P m′ x X m″ r turn y q))
 
     pub row-met : r ≡ Met → (n : ℕ) → i < n → (m‴ : List ℕ) → Walked P m v (rowOf F n) m‴ Met
     row-met q n l m‴ =

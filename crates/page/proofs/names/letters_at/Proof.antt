@@ -1,81 +1,100 @@
+-- `page::names::letters_at` meets its contract. Assumes nothing.
+use mathlib.Core.Path.{_≡_, subst}
+use Prim.Native.Nat.{ℕ, _+_, _*_, _/_, _≤_, _<_, _-_}
+use native.Mathlib.Omega.{arith}
+use borrow.Author.Count.{below-more}
+use borrow.Author.Needs.{needs}
+use Rattle.book.specs.Words.{vol}
+use Rattle.book.specs.Names.{Letter, byteAt}
+use Rattle.book.specs.Decides.{holds, fails}
+use Rattle.page.proofs.Stored.{byte-high, byte-low, word-more}
 use Rattle.page.proofs.names.letters_at.Statement.{statement}
 use Rattle.page.proofs.names.letters_at.Tie as tie
-use Rattle.page.proofs.names.letters_at.Reads as reads
-use Rattle.page.proofs.names.letters_at.Lts as lts
-use Rattle.page.proofs.names.high.Reads as high-reads
-use Rattle.page.proofs.names.letter.Reads as letter-reads
-use Rattle.page.proofs.names.low.Reads as low-reads
-use Rattle.page.proofs.read.word_at.Reads as word-at-reads
 
 abbrev Inv-loop : tie.InvT-loop
-Inv-loop img p k n i₀ i = ?
+Inv-loop img p k n i₀ i = (i ≤ n / 2) × ((j : ℕ) → j < 2 * i → Letter (byteAt (vol img p) k j))
 
 abbrev μ-loop : tie.MeasureT-loop
-μ-loop img p k n i₀ i = ?
+μ-loop img p k n i₀ i = n / 2 - i
 
--- src/names.rt:61:5
 loop-holds : tie.Need-loop-holds Inv-loop μ-loop
-loop-holds c = ?
+loop-holds c = (omega arith, λ j h. absurd (let r : ⊥ = omega arith in r))
 
--- src/names.rt:62:33
 add-word-at : tie.Need-add-word-at Inv-loop μ-loop
-add-word-at c = ?
+add-word-at c = omega arith
 
--- src/names.rt:62:13
 word-at-requires : tie.Need-word-at-requires Inv-loop μ-loop
-word-at-requires c κs = ?
+word-at-requires c κs = omega arith
 
--- src/names.rt:63:20
 high-requires : tie.Need-high-requires Inv-loop μ-loop
-high-requires c κs = ?
+high-requires c κs = search needs
 
--- src/names.rt:63:13
 letter-requires : tie.Need-letter-requires Inv-loop μ-loop
-letter-requires c κs = ?
+letter-requires c κs = search needs
 
--- src/names.rt:64:20
 mul-result : tie.Need-mul-result Inv-loop μ-loop
-mul-result c = ?
+mul-result c = omega arith
 
--- src/names.rt:64:13
 returns : tie.Need-returns Inv-loop μ-loop
-returns c = ?
+returns c =
+    let a = c .before .before .before .before .before .before .before .args in
+    let l = c .before .before .before .before .before .loop in
+    let t = c .before .letter in
+    let e : byteAt (vol (a .img .now) (a .p)) (a .k) (2 * l .i) ≡ c .before .before .high .result = omega (arith, byte-high (vol (a .img .now) (a .p)) (a .k) (l .i)) in
+    record { most = omega arith; before = l .inv .1; stops = λ h b. fails (t .result) _ (t .ensures) (c .if1 .taken) (subst Letter e b) }
 
--- src/names.rt:66:20
 low-requires : tie.Need-low-requires Inv-loop μ-loop
-low-requires c κs = ?
+low-requires c κs = search needs
 
--- src/names.rt:66:13
 letter-requires-2 : tie.Need-letter-requires-2 Inv-loop μ-loop
-letter-requires-2 c κs = ?
+letter-requires-2 c κs = search needs
 
--- src/names.rt:67:20
 mul-result-2 : tie.Need-mul-result-2 Inv-loop μ-loop
-mul-result-2 c = ?
+mul-result-2 c = omega arith
 
--- src/names.rt:67:20
 add-result : tie.Need-add-result Inv-loop μ-loop
-add-result c = ?
+add-result c = omega arith
 
--- src/names.rt:67:13
 returns-2 : tie.Need-returns-2 Inv-loop μ-loop
-returns-2 c = ?
+returns-2 c =
+    let a = c .before .before .before .before .before .before .before .before .before .before .args in
+    let l = c .before .before .before .before .before .before .before .before .loop in
+    let s = c .before .before .before .before .letter in
+    let t = c .before .letter2 in
+    let w = vol (a .img .now) (a .p) in
+    let d : c .before .before .before .before .before .high .result ≡ byteAt w (a .k) (2 * l .i) = omega (arith, byte-high w (a .k) (l .i)) in
+    let e : byteAt w (a .k) (2 * l .i + 1) ≡ c .before .before .low .result = omega (arith, byte-low w (a .k) (l .i)) in
+    record {
+      most = omega arith;
+      before = below-more _ (2 * l .i) (l .inv .1) (subst Letter d (holds (s .result) _ (s .ensures) (c .before .before .before .if1 .left)));
+      stops = λ h b. fails (t .result) _ (t .ensures) (c .if2 .taken) (subst Letter e b);
+    }
 
--- src/names.rt:69:9
 add-i : tie.Need-add-i Inv-loop μ-loop
-add-i c = ?
+add-i c = omega arith
 
--- src/names.rt:61:5
 loop-less : tie.Need-loop-less Inv-loop μ-loop
-loop-less c = ?
+loop-less c = omega arith
 
--- src/names.rt:61:5
 loop-again : tie.Need-loop-again Inv-loop μ-loop
-loop-again c = ?
+loop-again c =
+    let a = c .before .before .before .before .before .before .before .before .before .before .args in
+    let l = c .before .before .before .before .before .before .before .before .loop in
+    let s = c .before .before .before .before .letter in
+    let t = c .before .letter2 in
+    let w = vol (a .img .now) (a .p) in
+    let d : c .before .before .before .before .before .high .result ≡ byteAt w (a .k) (2 * l .i) = omega (arith, byte-high w (a .k) (l .i)) in
+    let e : c .before .before .low .result ≡ byteAt w (a .k) (2 * l .i + 1) = omega (arith, byte-low w (a .k) (l .i)) in (
+      omega arith,
+      word-more (λ j. Letter (byteAt w (a .k) j)) (l .i) (l .inv .1)
+          (subst Letter d (holds (s .result) _ (s .ensures) (c .before .before .before .if1 .left)))
+          (subst Letter e (holds (t .result) _ (t .ensures) (c .if2 .left))),
+    )
 
--- src/names.rt:56:1
 returns-3 : tie.Need-returns-3 Inv-loop μ-loop
-returns-3 c = ?
+returns-3 c =
+    let l = c .before .loop in
+    record { most = omega arith; before = λ j h. l .inv .1 j (omega arith); stops = λ h. absurd (let r : ⊥ = omega arith in r) }
 
 pub letters-at-spec : {M : Type 1} → statement M
 letters-at-spec =

@@ -2,10 +2,7 @@ use mathlib.Core.Path.{refl}
 use Rattle.walk.proofs.Marked.{no-marks}
 use Rattle.walk.proofs.marks.no_marks.Statement.{statement}
 use Rattle.walk.proofs.marks.no_marks.Tie as tie
-use Rattle.walk.proofs.marks.no_marks.Reads as reads
-use Rattle.walk.proofs.marks.no_marks.Lts as lts
 
--- src/marks.rt:37:1
 returns : tie.Need-returns
 returns c = no-marks 1024 refl
 

@@ -1,14 +1,11 @@
 use Prim.Native.Nat.{ℕ, _+_, _-_, _*_, _<_, _≤_}
-use mathlib.Core.Path.{_≡_, refl, sym, _∙_}
+use mathlib.Core.Path.{_≡_, refl}
 use native.Mathlib.Omega.{arith}
 use borrow.Author.Needs.{needs}
 use borrow.Fn.Kinds.{In}
 use borrow.Fn.PlainCycle.{Measures, is, falls, and}
-use Rattle.book.specs.Decides.{Decides, holds, fails}
 use Rattle.book.specs.Image.{pages}
-use Rattle.book.specs.Words.{vol}
-use Rattle.walk.specs.Walked.{Marked, slotOf}
-use Rattle.walk.specs.Marks.{Newly}
+use Rattle.walk.specs.Walked.{Marked}
 use Rattle.walk.proofs.Marked.{marking-new, marking-old}
 use Rattle.walk.proofs.Walks.{rowOf, row-start, row-on, row-met, row-end}
 use Rattle.walk.proofs.Pointers.{below-top, slotsOf, slot-read, slot-below, slot-weigh, block-walking, block-below, pointer-none, pointer-met, pointer-page, pointer-block, mark-fits, mark-walking}
