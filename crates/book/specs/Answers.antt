@@ -2,7 +2,6 @@
 use Prim.Native.Nat.{ℕ}
 use Rattle.book.specs.declared.Role.{Role}
 use Rattle.book.specs.declared.Role.the-variants.{Subindex, Index, Data}
-use Rattle.book.specs.declared.FileHolder.{FileHolder}
 use Rattle.book.specs.declared.Holder.{Holder}
 use Rattle.book.specs.declared.Holder.the-variants.{Free, Master, BitFile, UserIndex, UserPage, ObjectSubindex, ObjectIndex, ObjectPage, File}
 use Rattle.book.specs.declared.Refusal.{Refusal}

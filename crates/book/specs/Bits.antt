@@ -2,7 +2,7 @@
 use Prim.Native.Nat.{ℕ, zero, suc, _+_, _-_, _*_, _/_, _%_}
 use Rattle.sums.specs.Sum.{sum, is}
 use Rattle.sums.specs.Search.{every, lowest, highest}
-use Rattle.book.specs.Words.{Words, Vol, word, put, wipe}
+use Rattle.book.specs.Words.{Vol, word, put, wipe}
 use Rattle.book.specs.Pointers.{page, bitPointer}
 use Rattle.book.specs.Trees.{Root, run, pageAt}
 

@@ -1,8 +1,8 @@
 -- The eighteen calls: for each number that it can be refused with, what that number asks for. Assumes nothing.
 use mathlib.Core.Path.{_≡_}
 use mathlib.Core.List.{List, []}
-use Prim.Native.Nat.{ℕ, _+_, _-_, _*_, _≤_, _<_}
-use lib.ListN.{length, getD, take, drop}
+use Prim.Native.Nat.{ℕ, _-_, _*_, _≤_, _<_}
+use lib.ListN.{take, drop}
 use Rattle.book.specs.Words.{Vol, vol}
 use Rattle.book.specs.Pointers.{flags}
 use Rattle.book.specs.Trees.{pageAt}

@@ -1,8 +1,8 @@
 -- Two outcomes that meet a call's table are the same: proved once, for any call. Assumes nothing.
-use mathlib.Core.Path.{_≡_, refl, sym, _∙_, ap}
+use mathlib.Core.Path.{_≡_, sym, _∙_, ap}
 use mathlib.Core.Logic.{inl, inr}
 use mathlib.Core.List.{List}
-use Prim.Native.Nat.{ℕ, suc, _+_, _*_, _/_, _%_, _<_}
+use Prim.Native.Nat.{ℕ, _+_, _*_, _/_, _%_, _<_}
 use native.Mathlib.Decide.{ℕ-discrete}
 use native.Mathlib.Omega.{arith}
 use lib.ListN.{length, getD}
@@ -12,7 +12,7 @@ use Rattle.book.specs.Written.{vol-in}
 use Rattle.book.specs.Rules.{Sound, rules}
 use Rattle.book.specs.Rows.{Rows, Lowest, Clear, lowest-one, lowest-applies, clear-none}
 use Rattle.book.specs.Answers.{Numbers}
-use Rattle.book.specs.Outcome.{Call, call, asking, RuleFor, RefusedAs, DoneAs, Outcome, Gives, Single}
+use Rattle.book.specs.Outcome.{Call, call, asking, RuleFor, Outcome, Gives, Single}
 
 -- equal volumes of one length are equal images
 pub vol-ext : (a b : List ℕ) → length a ≡ length b → vol a ≡ vol b → a ≡ b

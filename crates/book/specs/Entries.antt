@@ -1,6 +1,5 @@
 -- Entries of 32 words, 32 to a page: one definition for users and objects, by entry number. Assumes nothing.
-use mathlib.Core.Path.{_≡_}
-use Prim.Native.Nat.{ℕ, zero, suc, _+_, _-_, _*_, _/_, _%_}
+use Prim.Native.Nat.{ℕ, _+_, _-_, _*_, _/_, _%_}
 use Rattle.sums.specs.Search.{pick, lowest}
 use Rattle.book.specs.Words.{Words, Vol, two, word, putWords}
 use Rattle.book.specs.Pointers.{userPointer, objectPointer}

@@ -4,7 +4,7 @@ use mathlib.Core.Logic.{_⊎_}
 use Prim.Native.Nat.{ℕ, zero, suc, _+_, _-_, _*_, _/_, _%_, _≤_, _<_, min}
 use Rattle.sums.specs.Sum.{is}
 use Rattle.sums.specs.Search.{pick}
-use Rattle.book.specs.Words.{Words, Vol, two}
+use Rattle.book.specs.Words.{Words, Vol}
 use Rattle.book.specs.Pointers.{flags, page}
 use Rattle.book.specs.Trees.{Root, run, rootAt, Below, Fill}
 use Rattle.book.specs.Entries.{object, used, pageCount, byteCount, filePointer}

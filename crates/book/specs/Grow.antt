@@ -1,6 +1,6 @@
 -- Growing an indexed file by one page: data page, then index block if needed, then subindex block if needed. Assumes nothing.
-use Prim.Native.Nat.{ℕ, zero, suc, _+_, _*_, _/_, _%_}
-use Rattle.book.specs.Words.{Words, Vol, two, put2}
+use Prim.Native.Nat.{ℕ, zero, suc, _+_, _/_, _%_}
+use Rattle.book.specs.Words.{Words, Vol, put2}
 use Rattle.book.specs.Pointers.{flags, page, pointer, slot, setSlot, indexed, subindexed}
 use Rattle.book.specs.Trees.{pageAt}
 use Rattle.book.specs.Bits.{claim}

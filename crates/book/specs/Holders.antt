@@ -1,7 +1,7 @@
 -- Who holds a page. Assumes nothing.
 use mathlib.Core.Path.{_≡_}
 use mathlib.Core.Logic.{_⊎_}
-use Prim.Native.Nat.{ℕ, zero, suc, _+_, _*_, _<_}
+use Prim.Native.Nat.{ℕ, zero, suc, _+_, _<_}
 use Rattle.sums.specs.Sum.{sum, is}
 use Rattle.book.specs.Words.{Vol}
 use Rattle.book.specs.Trees.{Root, weighR, pageAt, indexAt, subindexOf}
@@ -10,7 +10,6 @@ use Rattle.book.specs.Entries.{userFile, objectFile, fileEntry}
 use Rattle.book.specs.Files.{fileAt}
 use Rattle.book.specs.declared.Role.{Role}
 use Rattle.book.specs.declared.Role.the-variants.{Subindex, Index, Data}
-use Rattle.book.specs.declared.FileHolder.{FileHolder}
 use Rattle.book.specs.declared.Holder.{Holder}
 use Rattle.book.specs.declared.Holder.the-variants.{Free, Master, BitFile, UserIndex, UserPage, ObjectSubindex, ObjectIndex, ObjectPage, File}
 

@@ -1,14 +1,12 @@
 -- A call, and what it may come back with. Assumes nothing.
-use mathlib.Core.Path.{_≡_, refl, sym, _∙_, ap, subst}
-use mathlib.Core.Logic.{_⊎_, inl, inr}
+use mathlib.Core.Path.{_≡_}
+use mathlib.Core.Logic.{_⊎_}
 use mathlib.Core.List.{List}
-use Prim.Native.Nat.{ℕ, zero, suc, _+_, _*_, _/_, _%_, _<_}
-use native.Mathlib.Decide.{ℕ-discrete}
-use native.Mathlib.Omega.{arith}
+use Prim.Native.Nat.{ℕ}
 use lib.ListN.{length}
 use Rattle.book.specs.Words.{Vol, vol}
 use Rattle.book.specs.Rules.{Sound, rules}
-use Rattle.book.specs.Rows.{Rows, end, row, Lowest, Clear, lowest-one, lowest-applies, clear-none}
+use Rattle.book.specs.Rows.{Rows, row, Lowest, Clear}
 use Rattle.book.specs.Image.{pages, Whole}
 use Rattle.book.specs.Answers.{Numbers}
 

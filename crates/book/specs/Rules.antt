@@ -1,9 +1,9 @@
 -- Sound: the ten rules. Assumes nothing.
 use mathlib.Core.Path.{_≡_}
 use mathlib.Core.Logic.{_⊎_}
-use Prim.Native.Nat.{ℕ, zero, suc, _+_, _*_, _≤_, _<_}
+use Prim.Native.Nat.{ℕ, zero, suc, _+_, _≤_, _<_}
 use Rattle.sums.specs.Sum.{sum}
-use Rattle.book.specs.Words.{Words, Vol}
+use Rattle.book.specs.Words.{Vol}
 use Rattle.book.specs.Pointers.{flags, page, slot, Zero, Inside, plain, indexed, subindexed, bitPointer, userPointer, objectPointer}
 use Rattle.book.specs.Trees.{Below}
 use Rattle.book.specs.Bits.{bit, bitPages}

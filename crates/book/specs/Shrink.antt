@@ -1,5 +1,5 @@
 -- Shrinking an indexed file by one page returns the set that growing took, and returns to a single index at 512. Assumes nothing.
-use Prim.Native.Nat.{ℕ, zero, suc, _+_, _-_, _*_, _/_, _%_}
+use Prim.Native.Nat.{ℕ, _-_, _/_, _%_}
 use Rattle.book.specs.Words.{Words, Vol}
 use Rattle.book.specs.Pointers.{flags, page, pointer, slot, setSlot, indexed, subindexed}
 use Rattle.book.specs.Bits.{release}

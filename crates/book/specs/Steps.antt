@@ -4,7 +4,7 @@ use Prim.Native.Nat.{ℕ, _+_, _-_}
 use lib.ListN.{getD}
 use Rattle.book.specs.Words.{Vol, put, put2, putWords}
 use Rattle.book.specs.Trees.{pageAt}
-use Rattle.book.specs.Entries.{user, object, given, unreserved, userPage, objectPage, entryWord, opens, oneMore, fileEntry}
+use Rattle.book.specs.Entries.{user, object, given, unreserved, userPage, objectPage, entryWord, opens, oneMore}
 use Rattle.book.specs.Files.{fileAt}
 
 -- user u's given pages become g, and unreserved s

@@ -1,6 +1,6 @@
 -- A tree of pages over its level, and a run of pages: what a pointer with flags stands for. Assumes nothing.
 use mathlib.Core.Path.{_≡_}
-use Prim.Native.Nat.{ℕ, zero, suc, _+_, _-_, _*_, _/_, _%_, _^_, _≤_, _<_, min}
+use Prim.Native.Nat.{ℕ, zero, suc, _+_, _-_, _*_, _/_, _%_, _^_, _<_, min}
 use Rattle.sums.specs.Sum.{sum}
 use Rattle.book.specs.Words.{Words, Vol}
 use Rattle.book.specs.Pointers.{flags, page, slot}

@@ -1,7 +1,7 @@
 -- The twelve marked yard examples: rows of a table, each with the numbers of the rules' own definitions beside the paper's. Assumes nothing.
 use mathlib.Core.Path.{_≡_, refl}
 use mathlib.Core.List.{List, [], _∷_}
-use Prim.Native.Nat.{ℕ, zero, suc, _+_, min}
+use Prim.Native.Nat.{ℕ, _+_}
 use Rattle.sums.specs.Sum.{is}
 use Rattle.sums.specs.Search.{pick}
 use Rattle.book.specs.Words.{Words, setWord, zeros}

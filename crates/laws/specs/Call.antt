@@ -1,15 +1,14 @@
 -- From a step to its call: what holds of done and of refused. Assumes nothing.
-use mathlib.Core.Path.{_≡_, refl, sym, ap, _∙_, subst}
+use mathlib.Core.Path.{_≡_, sym, ap, _∙_, subst}
 use mathlib.Core.Logic.{_⊎_, inl, inr}
 use mathlib.Core.List.{List}
 use Prim.Native.Nat.{ℕ, _/_}
-use lib.ListN.{length}
 use Rattle.book.specs.Words.{Vol, vol}
 use Rattle.book.specs.Rules.{Sound}
 use Rattle.book.specs.Rows.{Rows, Clear}
 use Rattle.book.specs.Answers.{Numbers}
 use Rattle.book.specs.Image.{pages, Whole}
-use Rattle.book.specs.Outcome.{Call, asking, judged, Outcome, RefusedAs, DoneAs}
+use Rattle.book.specs.Outcome.{asking, judged, Outcome, RefusedAs, DoneAs}
 
 module _ {A : Type 0} (img : List ℕ) (args : Type 0) (rest : Rows) (none : A) (gives : A → Type 0) (after : Vol) (r : Numbers A) (img′ : List ℕ)
     (o : Outcome (asking img args rest none gives after) img r img′) where

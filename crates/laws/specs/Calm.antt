@@ -1,24 +1,17 @@
 -- A change of pages that no user, object or file tree holds keeps every rule but those of the bits. Assumes nothing.
-use mathlib.Core.Path.{_≡_, refl, sym, ap, ap₂, _∙_, subst, fun-ext}
-use mathlib.Core.Logic.{_≢_, _⊎_, inl, inr}
-use Prim.Native.Nat.{ℕ, zero, suc, _+_, _-_, _*_, _/_, _%_, _^_, _≤_, _<_, zero-le, min}
-use native.Mathlib.Nat.{le-refl, not-suc-le-zero, le-trans, mod-lt, eq-zero-or-pos}
-use native.Mathlib.Decide.{ℕ-discrete, decLt}
+use mathlib.Core.Path.{_≡_, sym, ap, subst}
+use mathlib.Core.Logic.{inl, inr}
+use Prim.Native.Nat.{ℕ, zero, suc, _-_, _≤_}
 use native.Mathlib.Omega.{arith}
-use Rattle.sums.specs.Search.{pick}
-use Rattle.sums.specs.Sum.{sum, is, sum-ext, sum-none, sum-add, sum-le, sum-at, sum-at-zero, sum-change, sum-mul}
-use Rattle.book.specs.Bits.{bitFile, bitPages, bit}
-use Rattle.book.specs.Entries.{entry, userFile, objectFile, user, object, used, given, usedPages, grant}
-use Rattle.book.specs.Files.{fileAt, Shape}
-use Rattle.book.specs.Holders.{hit, some, mine, system, all, holders}
-use Rattle.book.specs.Names.{byteAt, Letter, Legal, SameName}
-use Rattle.book.specs.Pointers.{slot, flags, page, Zero, Inside}
-use Rattle.book.specs.Rules.{UserOk, FileOk, Rule1, Rule2, Rule3, Rule4, Rule5, Rule5By, Rule6, Rule7, Rule8, Rule9, Rule10, Sound}
-use Rattle.book.specs.Trees.{Root, tree, run, weigh, weighR, blocks, blocksR, leaf, pageAt, Below, Fill, rootAt, rootBy}
-use Rattle.book.specs.Words.{Vol, two, word}
-use Rattle.laws.specs.Count.{root-0, root-1, root-2, zero-flags, zero-page}
-use Rattle.laws.specs.Frame.{weighR-frame, blocksR-frame, pageAt-frame, pageAt-le, entry-frame, blocksR-le, users-root, objs-root, bits-root, Roots, rootAt-ext}
-use Rattle.laws.specs.Tree.{Agree, slot-same, weigh-frame, blocks-frame, leaf-frame, Below-frame, Fill-frame}
+use Rattle.sums.specs.Sum.{is}
+use Rattle.book.specs.Entries.{userFile, user, object}
+use Rattle.book.specs.Files.{Shape}
+use Rattle.book.specs.Pointers.{page, Inside}
+use Rattle.book.specs.Rules.{Rule2}
+use Rattle.book.specs.Trees.{Root, tree, blocks, blocksR, rootBy}
+use Rattle.book.specs.Words.{Vol}
+use Rattle.laws.specs.Count.{root-1, zero-page}
+use Rattle.laws.specs.Tree.{Agree, Below-frame, Fill-frame}
 
 -- the page of the user index, and of the object file's top, is one of its tree's blocks
 module _ (P : ℕ) (v : Vol) (C : ℕ → ℕ) (c0 : C 0 ≡ 0) where

@@ -1,21 +1,17 @@
 -- How many pages a file of n takes. Assumes nothing.
-use mathlib.Core.Path.{_≡_, refl, sym, ap, ap₂, _∙_, subst}
-use mathlib.Core.Logic.{_≢_, _⊎_, inl, inr}
-use Prim.Native.Nat.{ℕ, zero, suc, _+_, _-_, _*_, _/_, _%_, _^_, _≤_, _<_, zero-le, min}
-use native.Mathlib.Nat.{le-refl, not-suc-le-zero, eq-zero-or-pos}
-use native.Mathlib.Decide.{ℕ-discrete, decLt}
+use mathlib.Core.Path.{_≡_, refl, sym, ap, _∙_}
+use mathlib.Core.Logic.{inl, inr}
+use Prim.Native.Nat.{ℕ, zero, suc, _+_, _-_, _*_, _/_, _%_, _≤_, _<_, min}
+use native.Mathlib.Nat.{eq-zero-or-pos}
+use native.Mathlib.Decide.{ℕ-discrete}
 use native.Mathlib.Omega.{arith}
 use Rattle.sums.specs.Sum.{sum, is, is-same, is-other, sum-ext, sum-add}
-use Rattle.book.specs.Files.{need}
+use Rattle.book.specs.Files.{cost, need}
 use Rattle.book.specs.Holders.{some}
 use Rattle.book.specs.Pointers.{slot}
 use Rattle.book.specs.Trees.{weigh, Fill}
 use Rattle.book.specs.Words.{Vol}
-use Rattle.laws.specs.Tree.{some-pos, some-zero, weigh-none}
-
--- data pages, index blocks and subindex block of an indexed file
-unfoldable pub cost : ℕ → ℕ
-cost n = n + (n + 511) / 512 + min 1 (n - 512)
+use Rattle.laws.specs.Tree.{some-pos, some-zero}
 
 pub cost-suc : (n : ℕ) → cost (suc n) ≡ cost n + need n
 unfolding cost need

@@ -1,22 +1,21 @@
 -- Counting: the free pages of a sound volume. Assumes nothing.
 use mathlib.Core.Path.{_≡_, refl, sym, ap, ap₂, _∙_, subst}
 use mathlib.Core.Logic.{_≢_, _⊎_, inl, inr}
-use Prim.Native.Nat.{ℕ, zero, suc, _+_, _-_, _*_, _/_, _%_, _^_, _≤_, _<_, zero-le, min}
-use native.Mathlib.Nat.{le-refl, not-suc-le-zero, le-trans, mod-lt, eq-zero-or-pos}
-use native.Mathlib.Decide.{ℕ-discrete}
+use Prim.Native.Nat.{ℕ, zero, suc, _+_, _-_, _*_, _%_, _≤_, _<_, zero-le}
+use native.Mathlib.Nat.{eq-zero-or-pos}
 use native.Mathlib.Omega.{arith}
 use Rattle.sums.specs.Search.{pick, pick-yes, pick-no}
-use Rattle.sums.specs.Sum.{sum, is, is-same, is-other, is-le, is-eq, sum-ext, sum-none, sum-add, sum-le, sum-at, sum-at-zero, sum-at₂, sum-change, sum-swap, sum-is, sum-suc, sum-le-at, sum-find, sum-const, is-sym}
-use Rattle.book.specs.Bits.{bitFile, bitPages, bit}
+use Rattle.sums.specs.Sum.{sum, is, sum-ext, sum-none, sum-add, sum-swap, sum-is, sum-le-at, sum-find, sum-const, is-sym}
+use Rattle.book.specs.Bits.{bitFile, bit}
 use Rattle.book.specs.Entries.{userFile, objectFile, user, object, used, given, usedPages, grant, unreserved}
 use Rattle.book.specs.Files.{fileAt, Shape, FileShape}
 use Rattle.book.specs.Holders.{hit, some, mine, system, all, holders, systemPages}
-use Rattle.book.specs.Pointers.{slot, flags, page, Zero, Inside}
+use Rattle.book.specs.Pointers.{flags, page, Zero, Inside}
 use Rattle.book.specs.Rules.{Rule1, Rule2, Rule3, Rule4, Rule5, Rule5By, Rule6, Rule7, Rule8, Rule9, Rule10, Sound}
-use Rattle.book.specs.Trees.{Root, tree, run, weigh, weighR, blocks, blocksR, leaf, Below, Fill, rootAt, rootBy}
-use Rattle.book.specs.Words.{Vol, two, word}
+use Rattle.book.specs.Trees.{Root, tree, run, weighR, Below, rootAt, rootBy}
+use Rattle.book.specs.Words.{Vol, two}
 use Rattle.book.specs.Written.{digit-le}
-use Rattle.laws.specs.Tree.{weigh-count, sum-hit, slot-zero, hit-zero}
+use Rattle.laws.specs.Tree.{weigh-count, sum-hit}
 
 -- the pages of r are below P
 unfoldable pub BelowR : Vol → ℕ → Root → Type 0

@@ -1,25 +1,24 @@
 -- A file is deleted: its entry is cleared, its owner's count falls, and the bits of all its pages are cleared. Assumes nothing.
-use mathlib.Core.Path.{_≡_, refl, sym, ap, ap₂, _∙_, subst}
-use mathlib.Core.Logic.{_≢_, _⊎_, inl, inr}
-use Prim.Native.Nat.{ℕ, zero, suc, _+_, _-_, _*_, _/_, _%_, _≤_, _<_, zero-le}
-use native.Mathlib.Decide.{ℕ-discrete, decLt}
+use mathlib.Core.Path.{_≡_, ap, ap₂, _∙_, subst}
+use mathlib.Core.Logic.{_≢_}
+use Prim.Native.Nat.{ℕ, _+_, _-_, _*_, _/_, _<_}
 use native.Mathlib.Omega.{arith}
 use Rattle.sums.specs.Search.{pick}
-use Rattle.sums.specs.Sum.{sum, is, sum-zero, sum-at}
+use Rattle.sums.specs.Sum.{is, sum-zero}
 use Rattle.book.specs.Bits.{bit}
-use Rattle.book.specs.Entries.{userFile, objectFile, user, object, used, given, usedPages, grant}
+use Rattle.book.specs.Entries.{user, object, used, given, usedPages, grant}
 use Rattle.book.specs.Files.{fileAt}
-use Rattle.book.specs.Holders.{hit, some, all, mine}
+use Rattle.book.specs.Holders.{hit, some, all}
 use Rattle.book.specs.Pointers.{flags, page}
 use Rattle.book.specs.Rules.{UserOk, Rule4, Rule5, Rule5By, Rule6, Rule10}
-use Rattle.book.specs.Trees.{Root, run, weighR, pageAt}
-use Rattle.book.specs.Words.{Vol, two, word}
-use Rattle.laws.specs.Count.{Good, Most, file-unused}
-use Rattle.laws.specs.Edit.{Change, Fine, entries, edit-mine, edit-good}
+use Rattle.book.specs.Trees.{Root, weighR}
+use Rattle.book.specs.Words.{Vol}
+use Rattle.laws.specs.Count.{Good, file-unused}
+use Rattle.laws.specs.Edit.{Change, entries, edit-mine, edit-good}
 use Rattle.laws.specs.Frame.{Roots}
 use Rattle.laws.specs.Part.{rest, all-calm, most-calm}
 use Rattle.laws.specs.Rules.{used-ext, used-same}
-use Rattle.laws.specs.Tree.{Agree, two-ext, some-zero}
+use Rattle.laws.specs.Tree.{Agree, two-ext}
 use Rattle.laws.specs.Names.{Legal-ext, SameName-ext}
 
 -- only bits change: pages in hand are given back, or taken, in one go

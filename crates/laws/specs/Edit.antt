@@ -1,26 +1,24 @@
 -- One file of one user changes, with his entry: all else stays. Assumes nothing.
-use mathlib.Core.Path.{_≡_, refl, sym, ap, ap₂, _∙_, subst, subst₂, fun-ext}
+use mathlib.Core.Path.{_≡_, refl, sym, ap, _∙_, subst}
 use mathlib.Core.Logic.{_≢_, _⊎_, inl, inr}
-use Prim.Native.Nat.{ℕ, zero, suc, _+_, _-_, _*_, _/_, _%_, _^_, _≤_, _<_, zero-le, min}
-use native.Mathlib.Nat.{le-refl, not-suc-le-zero, le-trans, mod-lt, eq-zero-or-pos}
+use Prim.Native.Nat.{ℕ, zero, suc, _+_, _-_, _*_, _/_, _%_, _≤_, _<_}
+use native.Mathlib.Nat.{le-trans, eq-zero-or-pos}
 use native.Mathlib.Decide.{ℕ-discrete, decLt}
 use native.Mathlib.Omega.{arith}
-use Rattle.sums.specs.Search.{pick}
-use Rattle.sums.specs.Sum.{sum, is, is-same, is-other, sum-at, sum-at₂, sum-ext, sum-none, sum-change}
-use Rattle.book.specs.Bits.{bitFile, bitPages, bitPage, bit, digit}
-use Rattle.book.specs.Entries.{Table, entry, userFile, objectFile, user, object, used, given, usedPages, grant, unreserved}
+use Rattle.sums.specs.Sum.{sum, is, is-other, sum-at, sum-at₂, sum-none, sum-change}
+use Rattle.book.specs.Bits.{bitFile, bitPage, bit, digit}
+use Rattle.book.specs.Entries.{entry, userFile, objectFile, user, object, used, usedPages, grant, unreserved}
 use Rattle.book.specs.Files.{fileAt}
 use Rattle.book.specs.Holders.{hit, some, all, system, mine, systemPages}
 use Rattle.book.specs.Pointers.{slot, flags, page}
-use Rattle.book.specs.Rules.{Rule6, Rule10}
+use Rattle.book.specs.Rules.{Rule10}
 use Rattle.book.specs.Trees.{Root, tree, run, weigh, weighR, blocksR, pageAt}
 use Rattle.book.specs.Words.{Vol, two, word}
-use Rattle.book.specs.Written.{word-pos, word-ext}
-use Rattle.laws.specs.Count.{Good, Most, bit-le, Within, sound-within, BelowR}
-use Rattle.laws.specs.Frame.{pageAt-le, pageAt-le₂, pageAt-below, pageAt-frame, weighR-frame, Roots, bits-root, users-root, objs-root, blocksR-le, Kept, file-kept, mine-other, mine-change, all-change}
+use Rattle.laws.specs.Count.{Good, bit-le, Within, sound-within, BelowR}
+use Rattle.laws.specs.Frame.{pageAt-le, pageAt-le₂, pageAt-below, pageAt-frame, weighR-frame, Roots, bits-root, users-root, objs-root, blocksR-le, file-kept, mine-other, mine-change, all-change}
 use Rattle.laws.specs.Part.{rest, all-rest, file-le, weighR-add, blocksR-add}
-use Rattle.laws.specs.Rules.{Master, Entries, UserNew, FileNew, rule1, rule2, rule3, rule4, rule5, rule6, rule7, used-same, spent-same, grant-same, obj-used-same}
-use Rattle.laws.specs.Tree.{Agree, word-zero, some-zero, two-ext, hit-zero, hit-same, hit-le, hit-other}
+use Rattle.laws.specs.Rules.{Master, Entries, UserNew, FileNew, rule1, rule2, rule3, rule4, rule5, rule6, rule7, used-same, spent-same, grant-same}
+use Rattle.laws.specs.Tree.{Agree, word-zero, two-ext, hit-zero, hit-same, hit-other}
 
 -- two files
 pub file-le₂ : (v : Vol) (g : ℕ → ℕ) (u f a b : ℕ) → u < 256 → f < 256 → a < 256 → b < 256 → 256 * u + f ≢ 256 * a + b
@@ -176,7 +174,7 @@ module _ (P : ℕ) (v : Vol) (hand : ℕ → ℕ) (G : Good P v hand) (pos : 0 <
     c-bits : weighR v (bitFile P v) C ≡ 0
     c-bits = omega (arith, parts (bitFile P v), D-else, file-le v D a f ha hf, obj-page P v hand G pos (e / 32) .0, user-page P v hand G pos (a / 32) .0)
 
-    c-users : blocksR v (userFile v) C ≡ 0
+    pub c-users : blocksR v (userFile v) C ≡ 0
     c-users = omega (
       arith,
       partsB (userFile v),
@@ -188,7 +186,7 @@ module _ (P : ℕ) (v : Vol) (hand : ℕ → ℕ) (G : Good P v hand) (pos : 0 <
       user-page P v hand G pos (a / 32) .2,
     )
 
-    c-objs : blocksR v (objectFile v) C ≡ 0
+    pub c-objs : blocksR v (objectFile v) C ≡ 0
     c-objs = omega (
       arith,
       partsB (objectFile v),
@@ -200,7 +198,7 @@ module _ (P : ℕ) (v : Vol) (hand : ℕ → ℕ) (G : Good P v hand) (pos : 0 <
       user-page P v hand G pos (a / 32) .1,
     )
 
-    c-file : (u h : ℕ) → u < 256 → h < 256 → 256 * u + h ≢ e → weighR v (fileAt v (256 * u + h)) C ≡ 0
+    pub c-file : (u h : ℕ) → u < 256 → h < 256 → 256 * u + h ≢ e → weighR v (fileAt v (256 * u + h)) C ≡ 0
     c-file u h hu hh ne = omega (
       arith,
       parts (fileAt v (256 * u + h)),
@@ -277,10 +275,10 @@ module _ (P : ℕ) (v : Vol) (hand : ℕ → ℕ) (G : Good P v hand) (pos : 0 <
         ∙ ap (digit (p % 16)) (E .agree (pageAt v (bitFile P v) (p / 16384)) (omega (arith, c-bits, pageAt-le v C c0 (bitFile P v) (p / 16384))) (p % 16384 / 16))
 
     -- the trees' weights
-    zeroB : (r : Root) → weighR v r C ≡ 0 → blocksR v r C ≡ 0
+    pub zeroB : (r : Root) → weighR v r C ≡ 0 → blocksR v r C ≡ 0
     zeroB r h = omega (arith, blocksR-le v r C)
 
-    file-root : (x : ℕ) → x ≢ e → fileAt v′ x ≡ fileAt v x
+    pub file-root : (x : ℕ) → x ≢ e → fileAt v′ x ≡ fileAt v x
     file-root x n = file-kept v v′ x (record {
       head = objs-words x n 0 (omega arith);
       pages = two-ext (object v′ x) (object v x) 26 (objs-words x n 26 (omega arith)) (objs-words x n 27 (omega arith));
@@ -288,7 +286,7 @@ module _ (P : ℕ) (v : Vol) (hand : ℕ → ℕ) (G : Good P v hand) (pos : 0 <
       ptr′ = objs-words x n 31 (omega arith);
     })
 
-    w-file : (g : ℕ → ℕ) (u h : ℕ) → u < 256 → h < 256 → 256 * u + h ≢ e → weighR v′ (fileAt v′ (256 * u + h)) g ≡ weighR v (fileAt v (256 * u + h)) g
+    pub w-file : (g : ℕ → ℕ) (u h : ℕ) → u < 256 → h < 256 → 256 * u + h ≢ e → weighR v′ (fileAt v′ (256 * u + h)) g ≡ weighR v (fileAt v (256 * u + h)) g
     w-file g u h hu hh n = ap (λ (r : Root). weighR v′ r g) (file-root (256 * u + h) n)
         ∙ weighR-frame v v′ C (E .agree) (fileAt v (256 * u + h)) (zeroB _ (c-file u h hu hh n)) g
 

@@ -1,25 +1,24 @@
 -- The first user ever: the user index and the object index become pages of the volume. Assumes nothing.
-use mathlib.Core.Path.{_≡_, refl, sym, ap, ap₂, _∙_, subst, subst₂, fun-ext}
-use mathlib.Core.Logic.{_≢_, _⊎_, inl, inr}
-use Prim.Native.Nat.{ℕ, zero, suc, _+_, _-_, _*_, _/_, _%_, _^_, _≤_, _<_, zero-le, min}
-use native.Mathlib.Decide.{ℕ-discrete, decLt}
+use mathlib.Core.Path.{_≡_, refl, sym, ap, _∙_, subst₂, fun-ext}
+use mathlib.Core.Logic.{_⊎_, inl, inr}
+use Prim.Native.Nat.{ℕ, _+_, _-_, _*_, _/_, _%_, _≤_, _<_, zero-le}
+use native.Mathlib.Decide.{decLt}
 use native.Mathlib.Omega.{arith}
-use Rattle.sums.specs.Sum.{sum, sum-zero, sum-none}
+use Rattle.sums.specs.Sum.{sum-zero, sum-none}
 use Rattle.book.specs.Bits.{bitFile, bitPages}
 use Rattle.book.specs.Entries.{Table, entry, userFile, objectFile, user, object, used}
 use Rattle.book.specs.Files.{fileAt}
-use Rattle.book.specs.Holders.{some, system, mine}
+use Rattle.book.specs.Holders.{system, mine}
 use Rattle.book.specs.Pointers.{slot, flags, page, Zero, Inside}
-use Rattle.book.specs.Rules.{Rule1, Rule2, Rule3, Rule5, Rule5By}
-use Rattle.book.specs.Trees.{Root, tree, run, weigh, leaf, weighR, blocksR, pageAt, upto, Below}
+use Rattle.book.specs.Rules.{Rule2, Rule3, Rule5, Rule5By}
+use Rattle.book.specs.Trees.{Root, tree, run, leaf, weighR, pageAt, Below}
 use Rattle.book.specs.Words.{Vol, two, word}
-use Rattle.laws.specs.Count.{Good, Most, root-0, root-1, zero-flags, zero-page}
+use Rattle.laws.specs.Count.{Good, root-0, root-1, zero-flags}
 use Rattle.laws.specs.Edit.{weighR-nobody}
 use Rattle.laws.specs.Frame.{upto-in, upto-out, blocksR-le, weighR-frame}
-use Rattle.laws.specs.Grown.{below-zero}
 use Rattle.laws.specs.Rules.{flags-ext, page-ext}
 use Rattle.laws.specs.System.{Settled}
-use Rattle.laws.specs.Tree.{Agree, word-zero, slot-same, slot-zero, some-pos, weigh-empty}
+use Rattle.laws.specs.Tree.{Agree, word-zero, slot-same, some-pos, weigh-empty}
 use Rattle.laws.specs.Names.{Legal-ext}
 
 -- a tree of one level over an empty block has no page

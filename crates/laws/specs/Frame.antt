@@ -1,21 +1,21 @@
 -- What a change of some pages leaves alone, over the whole volume. Assumes nothing.
 use mathlib.Core.Path.{_≡_, refl, sym, ap, ap₂, _∙_, subst}
-use mathlib.Core.Logic.{_≢_, _⊎_, inl, inr}
-use Prim.Native.Nat.{ℕ, zero, suc, _+_, _-_, _*_, _/_, _%_, _^_, _≤_, _<_, zero-le, min}
-use native.Mathlib.Nat.{le-refl, not-suc-le-zero, le-trans, mod-lt, eq-zero-or-pos, one-mul, zero-mul}
-use native.Mathlib.Decide.{ℕ-discrete, decLt}
+use mathlib.Core.Logic.{_≢_}
+use Prim.Native.Nat.{ℕ, zero, suc, _+_, _-_, _*_, _/_, _%_, _^_, _≤_, _<_, zero-le}
+use native.Mathlib.Nat.{one-mul, zero-mul}
+use native.Mathlib.Decide.{decLt}
 use native.Mathlib.Omega.{arith}
 use Rattle.sums.specs.Search.{pick}
-use Rattle.sums.specs.Sum.{sum, is, sum-ext, sum-none, sum-add, sum-le, sum-at, sum-at-zero, sum-at₂, sum-change, sum-mul}
-use Rattle.book.specs.Bits.{bitFile, bitPages, bit}
-use Rattle.book.specs.Entries.{entry, userFile, objectFile, user, object, used}
+use Rattle.sums.specs.Sum.{sum, is, sum-ext, sum-le, sum-at, sum-at₂, sum-change}
+use Rattle.book.specs.Bits.{bitFile, bitPages}
+use Rattle.book.specs.Entries.{entry, userFile, objectFile, object, used}
 use Rattle.book.specs.Files.{fileAt}
-use Rattle.book.specs.Holders.{hit, some, mine, system, all, holders}
-use Rattle.book.specs.Pointers.{slot, flags, page}
-use Rattle.book.specs.Trees.{Root, tree, run, weigh, weighR, blocks, blocksR, leaf, pageAt, upto, Below, Fill, rootAt, rootBy}
+use Rattle.book.specs.Holders.{some, mine, system, all}
+use Rattle.book.specs.Pointers.{flags, page}
+use Rattle.book.specs.Trees.{Root, tree, run, weigh, weighR, blocks, blocksR, leaf, pageAt, upto, rootAt, rootBy}
 use Rattle.book.specs.Words.{Vol, two, word}
 use Rattle.laws.specs.Count.{BelowR}
-use Rattle.laws.specs.Tree.{Agree, Link, two-ext, weigh-frame, blocks-frame, leaf-frame, Below-frame, Fill-frame, weigh-link, blocks-le, leaf-le, leaf-le₂, leaf-below, hit-other}
+use Rattle.laws.specs.Tree.{Agree, weigh-frame, blocks-frame, leaf-frame, blocks-le, leaf-le, leaf-le₂, leaf-below}
 
 pub upto-in : (n m x : ℕ) → n < m → upto n m x ≡ x
 unfolding upto

@@ -1,17 +1,17 @@
 -- A tree of pages grows by one position. Assumes nothing.
 use mathlib.Core.Path.{_≡_, refl, sym, ap, ap₂, _∙_, subst, subst₂}
-use mathlib.Core.Logic.{_≢_, _⊎_, inl, inr}
-use Prim.Native.Nat.{ℕ, zero, suc, _+_, _-_, _*_, _/_, _%_, _^_, _≤_, _<_, zero-le, min}
-use native.Mathlib.Nat.{le-refl, not-suc-le-zero, le-trans, mod-lt, mul-le-mul-right, div-add-mod', suc-mul, zero-div, zero-mod, div-eq-of-lt, mod-eq-of-lt, div-self, mod-self}
+use mathlib.Core.Logic.{_≢_}
+use Prim.Native.Nat.{ℕ, zero, suc, _+_, _-_, _*_, _/_, _%_, _^_, _≤_, _<_, min}
+use native.Mathlib.Nat.{not-suc-le-zero, mod-lt, mul-le-mul-right, div-add-mod', suc-mul, zero-div, zero-mod, div-eq-of-lt, mod-eq-of-lt, div-self, mod-self}
 use native.Mathlib.Decide.{ℕ-discrete, decLt}
 use native.Mathlib.Omega.{arith}
-use Rattle.sums.specs.Sum.{sum, sum-ext, sum-none, sum-add, sum-change, sum-only, sum-only₂}
-use Rattle.book.specs.Holders.{hit, some}
+use Rattle.sums.specs.Sum.{sum, sum-none, sum-change, sum-only, sum-only₂}
+use Rattle.book.specs.Holders.{hit}
 use Rattle.book.specs.Pointers.{slot, setSlot}
 use Rattle.book.specs.Trees.{weigh, blocks, leaf, Below, Fill}
-use Rattle.book.specs.Words.{Vol, two, word, put2}
-use Rattle.book.specs.Written.{word-pos, word-ext, put2-hi, put2-lo, put2-two, put2-page, put2-word}
-use Rattle.laws.specs.Tree.{Agree, two-ext, hit-zero, hit-same, hit-other, slot-zero, weigh-none, weigh-frame, leaf-frame, Below-frame, Fill-frame, pow-pos, slot-lt}
+use Rattle.book.specs.Words.{Vol, word, put2}
+use Rattle.book.specs.Written.{word-pos, word-ext, put2-two, put2-page, put2-word}
+use Rattle.laws.specs.Tree.{Agree, two-ext, hit-same, slot-zero, weigh-none, weigh-frame, leaf-frame, Below-frame, Fill-frame, pow-pos, slot-lt}
 
 -- ---- a slot is set
 

@@ -1,24 +1,22 @@
 -- The trees apart: what one holds, no other does. Assumes nothing.
-use mathlib.Core.Path.{_≡_, refl, sym, ap, ap₂, _∙_, subst, subst₂, fun-ext}
-use mathlib.Core.Logic.{_≢_, _⊎_, inl, inr}
-use Prim.Native.Nat.{ℕ, zero, suc, _+_, _-_, _*_, _/_, _%_, _^_, _≤_, _<_, zero-le, min}
-use native.Mathlib.Nat.{le-refl, not-suc-le-zero, le-trans, mod-lt, eq-zero-or-pos}
-use native.Mathlib.Decide.{ℕ-discrete, decLt}
+use mathlib.Core.Path.{_≡_, refl, sym, ap, _∙_, subst, subst₂, fun-ext}
+use Prim.Native.Nat.{ℕ, zero, suc, _+_, _-_, _*_, _/_, _%_, _≤_, _<_}
+use native.Mathlib.Nat.{le-trans}
 use native.Mathlib.Omega.{arith}
 use Rattle.sums.specs.Search.{pick}
-use Rattle.sums.specs.Sum.{sum, is, is-same, sum-ext, sum-none, sum-add, sum-le, sum-at, sum-at-zero, sum-change, sum-mul}
-use Rattle.book.specs.Bits.{bitFile, bitPages, bitPage, bit}
-use Rattle.book.specs.Entries.{entry, userFile, objectFile, user, object, used, given, usedPages, grant, Table, unreserved}
-use Rattle.book.specs.Files.{fileAt, FileShape}
-use Rattle.book.specs.Holders.{hit, some, mine, system, all, systemPages}
-use Rattle.book.specs.Pointers.{slot, flags, page}
+use Rattle.sums.specs.Sum.{sum, is, sum-ext, sum-add, sum-at}
+use Rattle.book.specs.Bits.{bitFile}
+use Rattle.book.specs.Entries.{entry, userFile, objectFile, user, object, used, usedPages, grant, Table, unreserved}
+use Rattle.book.specs.Files.{fileAt}
+use Rattle.book.specs.Holders.{some, mine, system, all, systemPages}
+use Rattle.book.specs.Pointers.{slot}
 use Rattle.book.specs.Rules.{Rule4, Rule6, Rule7, Rule10}
-use Rattle.book.specs.Trees.{Root, tree, run, weigh, weighR, blocks, blocksR, leaf, pageAt, rootAt, rootBy}
-use Rattle.book.specs.Words.{Vol, two, word}
-use Rattle.laws.specs.Count.{Good, Most, bit-le}
-use Rattle.laws.specs.Frame.{weighR-frame, blocksR-frame, pageAt-frame, pageAt-le, entry-frame, blocksR-le, Roots, rootAt-ext, users-root, objs-root, bits-root}
+use Rattle.book.specs.Trees.{Root, tree, run, weigh, weighR, blocks, blocksR, pageAt, rootAt}
+use Rattle.book.specs.Words.{Vol, two}
+use Rattle.laws.specs.Count.{Most}
+use Rattle.laws.specs.Frame.{weighR-frame, pageAt-frame, entry-frame, blocksR-le, Roots, users-root, objs-root, bits-root}
 use Rattle.laws.specs.Rules.{Master, rule1, rule2, rule3, rule5, shape-same}
-use Rattle.laws.specs.Tree.{Agree, two-ext, hit-zero, hit-same, hit-le, hit-other}
+use Rattle.laws.specs.Tree.{Agree, two-ext}
 
 -- the user, object and file trees
 unfoldable pub rest : Vol → (ℕ → ℕ) → ℕ

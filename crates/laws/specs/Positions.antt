@@ -1,9 +1,9 @@
 -- The page at a position of a root, by its flags x, page t and count m: as code reads it. Assumes nothing.
-use mathlib.Core.Path.{_≡_, refl, sym, ap, ap₂, _∙_, subst}
-use Prim.Native.Nat.{ℕ, zero, suc, _+_, _-_, _*_, _/_, _%_, _≤_, _<_}
+use mathlib.Core.Path.{_≡_, ap, _∙_, subst}
+use Prim.Native.Nat.{ℕ, zero, suc, _+_, _-_, _/_, _%_, _≤_, _<_}
 use native.Mathlib.Omega.{arith}
 use Rattle.book.specs.Pointers.{slot}
-use Rattle.book.specs.Trees.{Root, tree, run, leaf, pageAt, rootBy, Below}
+use Rattle.book.specs.Trees.{leaf, pageAt, rootBy, Below}
 use Rattle.book.specs.Words.{Vol}
 use Rattle.laws.specs.Count.{BelowR}
 use Rattle.laws.specs.Frame.{upto-in, upto-out}

@@ -1,5 +1,5 @@
 -- What the rules say of each tree by itself: all its pages are below P. Assumes nothing.
-use mathlib.Core.Path.{_≡_, refl, sym, ap, _∙_, subst}
+use mathlib.Core.Path.{_≡_, refl, sym, subst}
 use mathlib.Core.Logic.{_⊎_, inl, inr}
 use Prim.Native.Nat.{ℕ, zero, suc, _+_, _*_, _≤_, _<_, zero-le}
 use native.Mathlib.Nat.{eq-zero-or-pos}
@@ -8,7 +8,7 @@ use Rattle.sums.specs.Search.{pick-yes}
 use Rattle.book.specs.Bits.{bitFile}
 use Rattle.book.specs.Entries.{userFile, objectFile, object, used}
 use Rattle.book.specs.Files.{fileAt, Shape, FileShape}
-use Rattle.book.specs.Pointers.{flags, page, Zero, Inside}
+use Rattle.book.specs.Pointers.{flags, page, Inside}
 use Rattle.book.specs.Rules.{Rule1, Rule2, Rule3, Rule5, Rule5By, Rule7}
 use Rattle.book.specs.Trees.{Root, tree, run, Below, rootAt, rootBy}
 use Rattle.book.specs.Words.{Vol, two}

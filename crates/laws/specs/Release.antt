@@ -1,22 +1,22 @@
 -- One bit is set or cleared; a page in hand is given back. Assumes nothing.
-use mathlib.Core.Path.{_≡_, refl, sym, ap, ap₂, _∙_, subst}
-use mathlib.Core.Logic.{_≢_, _⊎_, inl, inr}
-use Prim.Native.Nat.{ℕ, zero, suc, _+_, _-_, _*_, _/_, _%_, _^_, _≤_, _<_, zero-le, min}
-use native.Mathlib.Decide.{ℕ-discrete, decLt}
+use mathlib.Core.Path.{_≡_, sym, ap, ap₂, _∙_, subst}
+use mathlib.Core.Logic.{_≢_}
+use Prim.Native.Nat.{ℕ, _+_, _-_, _/_, _%_, _<_}
+use native.Mathlib.Decide.{ℕ-discrete}
 use native.Mathlib.Omega.{arith}
-use Rattle.sums.specs.Sum.{sum, is, is-same, is-other}
-use Rattle.book.specs.Bits.{bitFile, bitPages, bitPage, bit, digit, toDigit, mark}
-use Rattle.book.specs.Holders.{hit, some, all}
+use Rattle.sums.specs.Sum.{is}
+use Rattle.book.specs.Bits.{bitFile, bitPage, bit, digit, mark}
+use Rattle.book.specs.Holders.{hit, all}
 use Rattle.book.specs.Pointers.{page}
 use Rattle.book.specs.Rules.{Rule1}
-use Rattle.book.specs.Trees.{Root, run, weighR, pageAt}
-use Rattle.book.specs.Words.{Vol, two, word, put}
+use Rattle.book.specs.Trees.{Root, pageAt}
+use Rattle.book.specs.Words.{Vol, two, word}
 use Rattle.book.specs.Written.{digit-same, digit-other, word-pos, word-ext, put-here, put-page, put-word}
-use Rattle.laws.specs.Claim.{bitPage-is, bitPage-pos, bitPage-lt, bitPage-rest}
-use Rattle.laws.specs.Count.{Good, Most, bit-le}
+use Rattle.laws.specs.Claim.{bitPage-is, bitPage-pos, bitPage-rest}
+use Rattle.laws.specs.Count.{Good, bit-le}
 use Rattle.laws.specs.Frame.{Roots, bits-root}
-use Rattle.laws.specs.Part.{rest, all-rest, all-calm, most-calm}
-use Rattle.laws.specs.Tree.{Agree, hit-zero, hit-same, hit-le, hit-other}
+use Rattle.laws.specs.Part.{all-calm, most-calm}
+use Rattle.laws.specs.Tree.{Agree, hit-zero, hit-same, hit-other}
 
 module _ (P : ℕ) (v : Vol) (r : Rule1 P v) (d x : ℕ) (hd : d < P) (hx : x < 2) where
   abbrev B : ℕ → ℕ

@@ -1,25 +1,22 @@
 -- Rules 1 to 7 after a change of at most one user's entry and at most one file's. Assumes nothing.
-use mathlib.Core.Path.{_≡_, refl, sym, ap, ap₂, _∙_, subst, subst₂, fun-ext}
+use mathlib.Core.Path.{_≡_, refl, sym, ap, ap₂, _∙_, subst, subst₂}
 use mathlib.Core.Logic.{_≢_, _⊎_, inl, inr}
-use Prim.Native.Nat.{ℕ, zero, suc, _+_, _-_, _*_, _/_, _%_, _^_, _≤_, _<_, zero-le, min}
-use native.Mathlib.Nat.{le-refl, not-suc-le-zero, le-trans, mod-lt, eq-zero-or-pos}
-use native.Mathlib.Decide.{ℕ-discrete, decLt}
+use Prim.Native.Nat.{ℕ, zero, suc, _+_, _-_, _*_, _/_, _%_, _≤_, _<_}
+use native.Mathlib.Nat.{not-suc-le-zero}
+use native.Mathlib.Decide.{ℕ-discrete}
 use native.Mathlib.Omega.{arith}
 use Rattle.sums.specs.Search.{pick}
-use Rattle.sums.specs.Sum.{sum, is}
-use Rattle.book.specs.Bits.{bitFile, bitPages, bit}
 use Rattle.book.specs.Entries.{entry, userFile, objectFile, user, object, used, given, usedPages, grant}
 use Rattle.book.specs.Files.{fileAt, Shape, FileShape}
-use Rattle.book.specs.Holders.{hit, some, mine, system, all, holders}
-use Rattle.book.specs.Names.{Legal, SameName, SameFile}
+use Rattle.book.specs.Holders.{all}
+use Rattle.book.specs.Names.{SameName, SameFile}
 use Rattle.book.specs.Pointers.{slot, flags, page, Zero, Inside}
-use Rattle.book.specs.Rules.{UserOk, FileOk, Rule1, Rule2, Rule3, Rule4, Rule5, Rule5By, Rule6, Rule7, Rule8, Rule9, Rule10, Sound}
-use Rattle.book.specs.Trees.{Root, tree, run, weigh, weighR, blocks, blocksR, leaf, pageAt, Below, Fill, rootAt, rootBy}
-use Rattle.book.specs.Words.{Vol, two, word}
+use Rattle.book.specs.Rules.{UserOk, FileOk, Rule1, Rule2, Rule3, Rule4, Rule5, Rule5By, Rule6, Rule7}
+use Rattle.book.specs.Trees.{run, blocks, blocksR, rootAt, rootBy}
+use Rattle.book.specs.Words.{Vol, two}
 use Rattle.laws.specs.Calm.{users-top, Shape-frame}
-use Rattle.laws.specs.Count.{root-0, root-1, root-2, zero-flags, zero-page}
-use Rattle.laws.specs.Frame.{weighR-frame, blocksR-frame, pageAt-frame, pageAt-le, entry-frame, blocksR-le, Roots, rootAt-ext}
-use Rattle.laws.specs.Tree.{Agree, two-ext, slot-same, weigh-frame, blocks-frame, leaf-frame, Below-frame, Fill-frame}
+use Rattle.laws.specs.Frame.{Roots}
+use Rattle.laws.specs.Tree.{Agree, two-ext, slot-same, Below-frame}
 use Rattle.laws.specs.Names.{Legal-ext, SameName-ext, SameName-sym, SameFile-ext, SameFile-sym}
 
 -- ---- the master page

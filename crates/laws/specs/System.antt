@@ -1,27 +1,27 @@
 -- A page of zeros becomes a page of the object file: a pointer to it is stored in one of its blocks. Assumes nothing.
 use mathlib.Core.Path.{_≡_, refl, sym, ap, ap₂, _∙_, subst, subst₂, fun-ext}
-use mathlib.Core.Logic.{_≢_, _⊎_, inl, inr}
-use Prim.Native.Nat.{ℕ, zero, suc, _+_, _-_, _*_, _/_, _%_, _^_, _≤_, _<_, zero-le, min}
-use native.Mathlib.Nat.{le-refl, not-suc-le-zero, le-trans, mod-lt, eq-zero-or-pos}
+use mathlib.Core.Logic.{_≢_, inl, inr}
+use Prim.Native.Nat.{ℕ, zero, suc, _+_, _-_, _*_, _/_, _%_, _^_, _≤_, _<_}
+use native.Mathlib.Nat.{mod-lt, eq-zero-or-pos}
 use native.Mathlib.Decide.{ℕ-discrete, decLt}
 use native.Mathlib.Omega.{arith}
 use Rattle.sums.specs.Search.{pick}
-use Rattle.sums.specs.Sum.{sum, is, sum-ext, sum-le, sum-at, sum-none, sum-only, sum-change, sum-le-at}
+use Rattle.sums.specs.Sum.{sum, is, sum-ext, sum-none, sum-only, sum-le-at}
 use Rattle.book.specs.Bits.{bitFile, bitPage, bitPages, bit, digit}
-use Rattle.book.specs.Entries.{Table, entry, userFile, objectFile, user, object, used, given, usedPages, grant, unreserved}
+use Rattle.book.specs.Entries.{Table, entry, userFile, objectFile, user, object, used, usedPages, grant, unreserved}
 use Rattle.book.specs.Files.{fileAt}
 use Rattle.book.specs.Holders.{hit, some, all, system, mine, systemPages}
 use Rattle.book.specs.Pointers.{slot, flags, page, Inside}
 use Rattle.book.specs.Rules.{Rule1, Rule2, Rule3, Rule4, Rule5, Rule5By, Rule6, Rule7, Rule10}
-use Rattle.book.specs.Trees.{Root, tree, run, weigh, blocks, leaf, weighR, blocksR, pageAt, upto, rootAt, rootBy, Below}
+use Rattle.book.specs.Trees.{Root, tree, run, weigh, blocks, leaf, weighR, blocksR, pageAt, upto, rootAt, Below}
 use Rattle.book.specs.Words.{Vol, two, word}
-use Rattle.laws.specs.Count.{Good, Most, bit-le, Within, sound-within, root-1, root-2, zero-flags}
+use Rattle.laws.specs.Count.{Good, bit-le, root-1, root-2, zero-flags}
 use Rattle.laws.specs.Edit.{weigh-nobody, weighR-nobody}
 use Rattle.laws.specs.Frame.{upto-in, upto-out, pageAt-le, pageAt-frame, weighR-frame, entry-frame, Roots, bits-root, users-root, objs-root, blocksR-le, rootAt-ext}
 use Rattle.laws.specs.Grown.{below-zero}
 use Rattle.laws.specs.Part.{rest, all-rest, file-le}
-use Rattle.laws.specs.Rules.{Master, master-roots, flags-at, page-at, flags-ext, page-ext, rule1, rule2, rule3, shape-same}
-use Rattle.laws.specs.Tree.{Agree, Link, some-zero, some-pos, two-ext, hit-zero, hit-same, hit-le, hit-other, word-zero, slot-zero, slot-same, weigh-link, weigh-none, Below-frame, blocks-le, pow-pos, slot-lt}
+use Rattle.laws.specs.Rules.{Master, master-roots, flags-at, page-at, flags-ext, page-ext, rule1, rule2, shape-same}
+use Rattle.laws.specs.Tree.{Agree, Link, some-zero, some-pos, hit-zero, hit-same, word-zero, slot-zero, slot-same, weigh-link, weigh-none, Below-frame, blocks-le, pow-pos, slot-lt}
 use Rattle.laws.specs.Names.{Legal-ext}
 
 -- equal sums of terms in order have equal terms

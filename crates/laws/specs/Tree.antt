@@ -1,12 +1,12 @@
 -- Laws of a tree of pages, over its level. Assumes nothing.
 use mathlib.Core.Path.{_≡_, refl, sym, ap, ap₂, _∙_, subst}
-use mathlib.Core.Logic.{_≢_, _⊎_}
+use mathlib.Core.Logic.{_≢_}
 use Prim.Native.Nat.{ℕ, zero, suc, _+_, _-_, _*_, _/_, _%_, _^_, _≤_, _<_, zero-le, min}
-use native.Mathlib.Nat.{le-refl, not-suc-le-zero, le-trans, add-le-add, mul-comm, add-mul, mod-lt, div-add-mod', div-lt-iff-lt-mul, pow-suc, mul-zero, zero-mul}
+use native.Mathlib.Nat.{le-refl, not-suc-le-zero, mul-comm, mod-lt, div-add-mod', div-lt-iff-lt-mul, pow-suc}
 use native.Mathlib.Decide.{ℕ-discrete}
 use native.Mathlib.Omega.{arith}
 use lib.Arith.{lt-one}
-use Rattle.sums.specs.Sum.{sum, is, is-same, is-other, is-le, is-eq, sum-ext, sum-none, sum-add, sum-le, sum-at, sum-at-zero, sum-at₂, sum-change, sum-swap, sum-is, sum-suc, sum-le-at, sum-mul}
+use Rattle.sums.specs.Sum.{sum, is, is-same, is-other, is-le, is-eq, sum-ext, sum-none, sum-add, sum-le, sum-at, sum-at-zero, sum-at₂, sum-change, sum-swap, sum-is, sum-le-at, sum-mul}
 use Rattle.book.specs.Holders.{hit, some}
 use Rattle.book.specs.Pointers.{slot}
 use Rattle.book.specs.Trees.{weigh, blocks, leaf, Below, Fill}

@@ -1,24 +1,24 @@
 -- Only one user's entry and the unreserved count change: create a user's entry, delete a user, give, take. Assumes nothing.
-use mathlib.Core.Path.{_≡_, refl, sym, ap, ap₂, _∙_, subst, subst₂}
-use mathlib.Core.Logic.{_≢_, _⊎_, inl, inr}
-use Prim.Native.Nat.{ℕ, zero, suc, _+_, _-_, _*_, _/_, _%_, _^_, _≤_, _<_, zero-le, min}
-use native.Mathlib.Decide.{ℕ-discrete, decLt}
+use mathlib.Core.Path.{_≡_, refl, sym, ap, _∙_, subst}
+use mathlib.Core.Logic.{_≢_}
+use Prim.Native.Nat.{ℕ, _+_, _-_, _*_, _/_, _%_, _<_}
+use native.Mathlib.Decide.{ℕ-discrete}
 use native.Mathlib.Omega.{arith}
-use Rattle.sums.specs.Sum.{sum, is}
-use Rattle.book.specs.Entries.{entry, userFile, objectFile, user, object, used, given, usedPages, grant}
+use Rattle.sums.specs.Sum.{is}
+use Rattle.book.specs.Entries.{entry, userFile, objectFile, user, object, used, usedPages, grant}
 use Rattle.book.specs.Files.{fileAt}
-use Rattle.book.specs.Holders.{hit, some, all, mine}
-use Rattle.book.specs.Pointers.{flags, page}
+use Rattle.book.specs.Holders.{hit, some, mine}
+use Rattle.book.specs.Pointers.{flags}
 use Rattle.book.specs.Rules.{Rule6, Rule7}
 use Rattle.book.specs.Trees.{Root, weighR, blocksR, pageAt}
 use Rattle.book.specs.Words.{Vol, two, word}
-use Rattle.laws.specs.Count.{Good, Most}
-use Rattle.laws.specs.Edit.{Outside, Change, Fine, obj-page, user-page, obj-at, objs-words, user-at, users-words, edit-mine, edit-good, weighR-nobody}
-use Rattle.laws.specs.Frame.{pageAt-le, weighR-frame, blocksR-le, Kept, file-kept}
+use Rattle.laws.specs.Count.{Good}
+use Rattle.laws.specs.Edit.{Outside, Change, user-page, obj-at, objs-words, user-at, users-words, edit-mine, edit-good, weighR-nobody}
+use Rattle.laws.specs.Frame.{pageAt-le, weighR-frame, blocksR-le, file-kept}
 use Rattle.laws.specs.Part.{file-le}
 use Rattle.laws.specs.Rules.{UserNew, FileNew, used-ext, shape-same}
 use Rattle.laws.specs.Shrunk.{all-zero}
-use Rattle.laws.specs.Tree.{Agree, two-ext, hit-zero, hit-same, some-zero}
+use Rattle.laws.specs.Tree.{Agree, two-ext, hit-zero}
 use Rattle.laws.specs.Names.{Legal-ext, SameFile-ext}
 
 module _ (P : ℕ) (v : Vol) (hand : ℕ → ℕ) (G : Good P v hand) (pos : 0 < P) (a : ℕ) (ha : a < 256) (v′ : Vol)

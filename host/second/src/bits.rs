@@ -1,0 +1,63 @@
+//! The bit file: one bit for each page, 1 is reserved.
+
+/// The word and the bit (from the right) of a page.
+pub fn bit_place(page: u32) -> (usize, u32) {
+    (page as usize / 16, page % 16)
+}
+
+/// The bits of a word of the bit file that stand for pages below P.
+pub fn bits_below(pages: u32, word: usize) -> u16 {
+    let left = pages.saturating_sub(16 * word as u32);
+    if left >= 16 {
+        u16::MAX
+    } else {
+        (1 << left) - 1
+    }
+}
+
+/// Words of the bit file that have a bit for a page below P.
+pub fn words_in_use(pages: u32) -> usize {
+    pages.div_ceil(16) as usize
+}
+
+pub fn is_reserved(bits: &[u16], page: u32) -> bool {
+    let (word, bit) = bit_place(page);
+    bits[word] >> bit & 1 == 1
+}
+
+pub fn reserve(bits: &mut [u16], page: u32) {
+    let (word, bit) = bit_place(page);
+    bits[word] |= 1 << bit;
+}
+
+pub fn release(bits: &mut [u16], page: u32) {
+    let (word, bit) = bit_place(page);
+    bits[word] &= !(1 << bit);
+}
+
+/// The reserved count: the ones below P.
+pub fn reserved_count(bits: &[u16], pages: u32) -> u32 {
+    (0..words_in_use(pages))
+        .map(|word| (bits[word] & bits_below(pages, word)).count_ones())
+        .sum()
+}
+
+/// The lowest free page.
+pub fn lowest_free(bits: &[u16], pages: u32) -> Option<u32> {
+    (0..words_in_use(pages)).find_map(|word| {
+        let free = !bits[word] & bits_below(pages, word);
+        (free != 0).then(|| 16 * word as u32 + free.trailing_zeros())
+    })
+}
+
+/// The highest start with so many free pages in a row.
+pub fn highest_run(bits: &[u16], pages: u32, count: u32) -> Option<u32> {
+    let mut run = 0;
+    for page in (0..pages).rev() {
+        run = if is_reserved(bits, page) { 0 } else { run + 1 };
+        if run >= count {
+            return Some(page);
+        }
+    }
+    None
+}

@@ -1,0 +1,85 @@
+//! Finding: users and files by name, a file's page by position.
+
+use crate::arguments::is_index;
+use crate::check::demand_sound;
+use crate::entry::{entry_words, name_words, type_words};
+use crate::image::{page_count, page_words};
+use crate::name::{is_name, is_type, pack, NAME_WORDS, TYPE_WORDS};
+use crate::reply::{demand, Outcome, Refusal, Reply, ABSENT, BAD_ARGUMENT};
+use crate::volume::{data_page, file_entry, files, user_entry, users};
+
+/// The index of the user with this name.
+pub fn find_user(image: &[u16], name: &[u8]) -> Reply {
+    try_find_user(image, name).into()
+}
+
+fn try_find_user(image: &[u16], name: &[u8]) -> Outcome {
+    let pages = page_count(image)?;
+    demand(is_name(name), BAD_ARGUMENT)?;
+    demand_sound(image, pages)?;
+    user_named(image, name).ok_or(ABSENT)
+}
+
+/// The used user with this name, on a sound image.
+pub(crate) fn user_named(image: &[u16], name: &[u8]) -> Option<u32> {
+    let wanted = pack::<NAME_WORDS>(name);
+    let found = users(image).find(|(_, entry)| name_words(entry) == wanted);
+    found.map(|(user, _)| user)
+}
+
+/// The index of the user's file with this name and type.
+pub fn find_file(image: &[u16], user: u32, name: &[u8], kind: &[u8]) -> Reply {
+    try_find_file(image, user, name, kind).into()
+}
+
+fn try_find_file(image: &[u16], user: u32, name: &[u8], kind: &[u8]) -> Outcome {
+    let pages = page_count(image)?;
+    demand(
+        is_index(user) && is_name(name) && is_type(kind),
+        BAD_ARGUMENT,
+    )?;
+    demand_sound(image, pages)?;
+    file_named(image, user, name, kind).ok_or(ABSENT)
+}
+
+/// The user's file with this name and type, on a sound image.
+pub(crate) fn file_named(image: &[u16], user: u32, name: &[u8], kind: &[u8]) -> Option<u32> {
+    let (name, kind) = (pack::<NAME_WORDS>(name), pack::<TYPE_WORDS>(kind));
+    let mut files = files(image, user);
+    let found = files.find(|(_, entry)| name_words(entry) == name && type_words(entry) == kind);
+    found.map(|(file, _)| file)
+}
+
+/// The entry of a used user, after the tests every call on a user makes.
+pub(crate) fn named_user(image: &[u16], user: u32) -> Result<usize, Refusal> {
+    let pages = page_count(image)?;
+    demand(is_index(user), BAD_ARGUMENT)?;
+    demand_sound(image, pages)?;
+    user_entry(image, user).ok_or(ABSENT)
+}
+
+/// The entry of a used file, after the tests every call on a file makes.
+pub(crate) fn named_file(image: &[u16], user: u32, file: u32) -> Result<usize, Refusal> {
+    let pages = page_count(image)?;
+    demand(is_index(user) && is_index(file), BAD_ARGUMENT)?;
+    demand_sound(image, pages)?;
+    file_entry(image, user, file).ok_or(ABSENT)
+}
+
+/// The page number of a file's page.
+pub fn address(image: &[u16], user: u32, file: u32, position: u32) -> Reply {
+    try_address(image, user, file, position).into()
+}
+
+pub(crate) fn try_address(image: &[u16], user: u32, file: u32, position: u32) -> Outcome {
+    let start = named_file(image, user, file)?;
+    data_page(image, entry_words(image, start), position).ok_or(ABSENT)
+}
+
+/// The words of a file's page; none where `address` would refuse.
+pub fn read_page(image: &[u16], user: u32, file: u32, position: u32) -> &[u16] {
+    match try_address(image, user, file, position) {
+        Ok(page) => page_words(image, page),
+        Err(_) => &[],
+    }
+}

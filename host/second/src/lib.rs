@@ -1,0 +1,36 @@
+//! A second implementation of document 01, the NORD File System's disk
+//! images, written from the paper alone. It serves only to be compared with
+//! the proved library, and as the plain program to measure that one against.
+//!
+//! An image is a slice of 16-bit words; P is its length divided by 1,024.
+//! Each call answers by the numbers of document 01's table.
+
+#![forbid(unsafe_code)]
+
+mod arguments;
+pub mod bits;
+mod check;
+pub mod entry;
+mod files;
+mod find;
+mod format;
+mod holder;
+pub mod image;
+mod length;
+mod list;
+pub mod name;
+pub mod pointer;
+mod reply;
+mod users;
+mod volume;
+mod walk;
+
+pub use check::check;
+pub use files::{create_contiguous, create_indexed, delete_file, note_open, write_page};
+pub use find::{address, find_file, find_user, read_page};
+pub use format::format;
+pub use holder::who_holds;
+pub use length::{grow, shrink};
+pub use list::list;
+pub use reply::{kind, HolderReply, Reply};
+pub use users::{create_user, delete_user, give, take};

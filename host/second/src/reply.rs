@@ -1,0 +1,99 @@
+//! The numbers a call gives back.
+
+/// What a call answers: the number of document 01's table, the broken rule
+/// with number 3, and the value with number 0. All else is zero.
+#[derive(Clone, Copy, Debug, Default, PartialEq, Eq)]
+pub struct Reply {
+    pub number: u32,
+    pub rule: u32,
+    pub value: u32,
+}
+
+/// What who-holds answers: a reply, and with number 0 the holder.
+#[derive(Clone, Copy, Debug, Default, PartialEq, Eq)]
+pub struct HolderReply {
+    pub reply: Reply,
+    pub kind: u32,
+    pub user: u32,
+    pub file: u32,
+    pub position: u32,
+}
+
+/// The kinds of holder, by number.
+pub mod kind {
+    pub const FREE: u32 = 0;
+    pub const MASTER: u32 = 1;
+    pub const BIT_FILE: u32 = 2;
+    pub const USER_INDEX: u32 = 3;
+    pub const USER_PAGE: u32 = 4;
+    pub const OBJECT_SUBINDEX: u32 = 5;
+    pub const OBJECT_INDEX: u32 = 6;
+    pub const OBJECT_PAGE: u32 = 7;
+    pub const FILE_SUBINDEX: u32 = 8;
+    pub const FILE_INDEX: u32 = 9;
+    pub const FILE_DATA: u32 = 10;
+}
+
+/// Why a call is refused: its number in the table, and the rule with 3.
+#[derive(Clone, Copy, Debug, PartialEq, Eq)]
+pub(crate) struct Refusal {
+    number: u32,
+    rule: u32,
+}
+
+/// How a call ends inside the library, before it becomes numbers.
+pub(crate) type Outcome = Result<u32, Refusal>;
+
+impl Refusal {
+    const fn of(number: u32) -> Refusal {
+        Refusal { number, rule: 0 }
+    }
+
+    /// Number 3, with the lowest broken rule.
+    pub(crate) const fn unsound(rule: u32) -> Refusal {
+        Refusal { number: 3, rule }
+    }
+}
+
+pub(crate) const BAD_LENGTH: Refusal = Refusal::of(1);
+pub(crate) const BAD_ARGUMENT: Refusal = Refusal::of(2);
+pub(crate) const ABSENT: Refusal = Refusal::of(4);
+pub(crate) const NAME_TAKEN: Refusal = Refusal::of(5);
+pub(crate) const WRONG_KIND: Refusal = Refusal::of(6);
+pub(crate) const HAS_FILE: Refusal = Refusal::of(7);
+pub(crate) const ENTRIES_FULL: Refusal = Refusal::of(8);
+pub(crate) const GIVEN_SHORT: Refusal = Refusal::of(9);
+pub(crate) const UNRESERVED_SHORT: Refusal = Refusal::of(10);
+pub(crate) const NO_RUN: Refusal = Refusal::of(11);
+
+/// Goes on where the condition holds, refuses otherwise.
+pub(crate) fn demand(condition: bool, refusal: Refusal) -> Result<(), Refusal> {
+    if condition {
+        Ok(())
+    } else {
+        Err(refusal)
+    }
+}
+
+impl From<Refusal> for Reply {
+    fn from(refusal: Refusal) -> Reply {
+        Reply {
+            number: refusal.number,
+            rule: refusal.rule,
+            value: 0,
+        }
+    }
+}
+
+impl From<Outcome> for Reply {
+    fn from(outcome: Outcome) -> Reply {
+        match outcome {
+            Ok(value) => Reply {
+                number: 0,
+                rule: 0,
+                value,
+            },
+            Err(refusal) => refusal.into(),
+        }
+    }
+}
