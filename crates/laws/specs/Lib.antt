@@ -72,3 +72,4 @@ pub mod Around
 pub mod CasesSub
 pub mod ShrinkCasesSub
 pub mod FreeCount
+pub mod Regroup
