@@ -1,3 +1,6 @@
 -- Laws that proofs of this crate and of its users cite.
 pub mod Slots
 pub mod Heads
+pub mod Pages
+pub mod Named
+pub mod Alike

@@ -27,3 +27,4 @@ pub mod Sparse
 pub mod Broken
 pub mod Reach
 pub mod Positions
+pub mod Moved
