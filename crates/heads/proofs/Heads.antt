@@ -1,15 +1,22 @@
 -- The master page's pointers, as the code judges them. Assumes nothing.
-use mathlib.Core.Path.{_≡_, sym, ap, _∙_}
+use mathlib.Core.Path.{_≡_, refl}
 use mathlib.Core.Logic.{_⊎_, inl, inr}
+use mathlib.Core.List.{List}
 use mathlib.Core.Bool.{Bool, true, false}
-use Prim.Native.Nat.{ℕ, _≤_, _<_}
+use Prim.Native.Nat.{ℕ, _<_}
 use native.Mathlib.Omega.{arith}
-use Rattle.book.specs.Words.{Vol}
-use Rattle.book.specs.Pointers.{page, Zero, Inside}
-use Rattle.book.specs.Rules.{Rule2}
+use Rattle.book.specs.Words.{Vol, vol}
+use Rattle.book.specs.Pointers.{flags, page, Zero, Inside}
+use Rattle.book.specs.Trees.{rootBy}
+use Rattle.book.specs.Entries.{userFile, objectFile}
+use Rattle.book.specs.Image.{pages}
+use Rattle.book.specs.Rules.{Rule2, Rule3, Rule5}
 use Rattle.book.specs.Decides.{Decides}
 use Rattle.page.proofs.Deciding.{decides-iff}
 use Rattle.laws.specs.Count.{zero-page}
+use Rattle.laws.specs.Reach.{below-users, below-objects}
+use Rattle.tree.specs.Reach.{Reach}
+use Rattle.tree.proofs.Reach.{reach-same, root-read}
 
 -- within `if test { .. }`, and after it
 pub told : (b : Bool) (A : Type 0) → Decides b A → b ≡ true → A
@@ -65,3 +72,21 @@ module _ (P : ℕ) (v : Vol) where
   objects-inside (inl z) h = omega (arith, zero-page (v 0) 1016 (z .1))
   objects-inside (inr (r, inl o)) h = o .2
   objects-inside (inr (r, inr o)) h = o .2
+
+-- ---- the user file and the object file can be read
+
+module _ (img : List ℕ) (h : 0 < pages img) where
+  pub users-reach : Rule2 (pages img) (vol img) → Rule3 (pages img) (vol img) → Reach img (userFile (vol img))
+  users-reach a b = record { some = h; below = below-users (pages img) (vol img) a b }
+
+  pub objects-reach : Rule2 (pages img) (vol img) → Rule5 (pages img) (vol img) → Reach img (objectFile (vol img))
+  objects-reach a b = record { some = h; below = below-objects (pages img) (vol img) a b }
+
+  -- by the flags x and the page t of their pointers
+  pub users-reached : Rule2 (pages img) (vol img) → Rule3 (pages img) (vol img) → (x t : ℕ) → x ≡ flags (vol img 0) 1018 → t ≡ page (vol img 0) 1018 → Reach img (rootBy x t 0)
+  unfolding userFile
+  users-reached a b x t e f = reach-same _ _ _ (root-read (vol img 0) 1018 0 x t 0 e f refl) (users-reach a b)
+
+  pub objects-reached : Rule2 (pages img) (vol img) → Rule5 (pages img) (vol img) → (x t : ℕ) → x ≡ flags (vol img 0) 1016 → t ≡ page (vol img 0) 1016 → Reach img (rootBy x t 0)
+  unfolding objectFile
+  objects-reached a b x t e f = reach-same _ _ _ (root-read (vol img 0) 1016 0 x t 0 e f refl) (objects-reach a b)

@@ -4,3 +4,5 @@ pub mod Heads
 pub mod Pages
 pub mod Named
 pub mod Alike
+pub mod Judged
+pub mod Blocks

@@ -1,5 +1,6 @@
 -- The entries of one page of a file, and what holds of an entry read from its page. Assumes nothing.
 use mathlib.Core.Path.{_≡_, sym, ap, ap₂, _∙_, subst, fun-ext}
+use mathlib.Core.Bool.{Bool}
 use Prim.Native.Nat.{ℕ, _+_, _*_, _/_, _%_, _≤_, _<_}
 use native.Mathlib.Omega.{arith}
 use Rattle.book.specs.Words.{Words, Vol, two, word}
@@ -7,10 +8,11 @@ use Rattle.book.specs.Trees.{Root, pageAt}
 use Rattle.book.specs.Names.{LegalName, LegalType}
 use Rattle.book.specs.Entries.{Table, entryWord, entry, user, object, userPage, objectPage, used, given, usedPages}
 use Rattle.book.specs.Rules.{UserOk, FileOk}
+use Rattle.book.specs.Decides.{Decides}
 use Rattle.tree.specs.Reach.{entryIn}
-use Rattle.tree.proofs.Entries.{absent-word}
+use Rattle.tree.proofs.Entries.{absent-word, user-in}
 use Rattle.heads.specs.Span.{Span}
-use Rattle.heads.specs.Fine.{UserFine, FileFine}
+use Rattle.heads.specs.Fine.{UserFine, FileFine, Unused}
 
 -- ---- entry x, on page q of the file at r
 
@@ -30,6 +32,12 @@ module _ (v : Vol) (q first x : ℕ) (f : first % 32 ≡ 0) (h : first ≤ x) (l
   pub object-on : q ≡ objectPage v first → entryIn v q x ≡ object v x
   unfolding object objectPage
   object-on e = entry-in v _ q x (on-page _ e)
+
+  -- the owner of x owns all objects of the page
+  pub owner-on : (b : Bool) → q ≡ userPage v (first / 256) → Decides b (0 < used (entryIn v q (first / 256))) → Decides b (0 < used (user v (x / 256)))
+  owner-on b e d =
+      let s : first / 256 ≡ x / 256 = omega arith in
+      subst (λ (u : ℕ). Decides b (0 < used (user v u))) s (subst (λ (w : Words). Decides b (0 < used w)) (user-in v (first / 256) q e) d)
 
 -- an entry of an absent page is unused
 pub absent-unused : (v : Vol) (q x : ℕ) (w : Words) → entryIn v q x ≡ w → q ≡ 0 → used w ≡ 0
@@ -60,10 +68,17 @@ module _ (U W : Table) (x : ℕ) (e : U x ≡ W x) where
         type = subst (λ (w : Words). LegalType w 9) e (a .type);
       }
 
-pub users-absent : (v : Vol) (q first : ℕ) → first % 32 ≡ 0 → q ≡ userPage v first → q ≡ 0 → Span (UserFine (user v)) first (first + 32)
-unfolding Span
-users-absent v q first f e z x h l u = absurd (let r : ⊥ = omega (arith, absent-unused v q x _ (user-on v q first x f h l e) z) in r)
+-- ---- a page that is absent
 
-pub objects-absent : (v : Vol) (T : Table) (q first : ℕ) → first % 32 ≡ 0 → q ≡ objectPage v first → q ≡ 0 → Span (FileFine T (object v)) first (first + 32)
-unfolding Span
-objects-absent v T q first f e z x h l u = absurd (let r : ⊥ = omega (arith, absent-unused v q x _ (object-on v q first x f h l e) z) in r)
+module _ (v : Vol) (q first : ℕ) (f : first % 32 ≡ 0) (z : q ≡ 0) where
+  pub users-none : q ≡ userPage v first → Span (Unused (user v)) first (first + 32)
+  unfolding Span
+  users-none e x h l = absent-unused v q x _ (user-on v q first x f h l e) z
+
+  pub users-absent : q ≡ userPage v first → Span (UserFine (user v)) first (first + 32)
+  unfolding Span
+  users-absent e x h l u = absurd (let r : ⊥ = omega (arith, absent-unused v q x _ (user-on v q first x f h l e) z) in r)
+
+  pub objects-absent : (T : Table) → q ≡ objectPage v first → Span (FileFine T (object v)) first (first + 32)
+  unfolding Span
+  objects-absent T e x h l u = absurd (let r : ⊥ = omega (arith, absent-unused v q x _ (object-on v q first x f h l e) z) in r)

@@ -1,4 +1,7 @@
 // Rules 5 and 6: the blocks of the object file, and the used objects.
+use crate::block::block_ok;
+use crate::stored::entry_legal;
+use crate::twins::apart;
 use page::read::flags_at;
 use page::read::page_at;
 use page::read::slot_at;
@@ -6,9 +9,6 @@ use tree::entry::entry_used;
 use tree::entry::entry_word;
 use tree::root::object_page;
 use tree::root::user_page;
-use crate::block::block_ok;
-use crate::stored::entry_legal;
-use crate::twins::apart;
 ghost use mathlib.Core.Path.{_≡_};
 ghost use Prim.Native.Nat.{ℕ, _+_, _*_, _/_, _%_, _≤_, _<_};
 ghost use Rattle.book.specs.Words.{vol};

@@ -1,7 +1,7 @@
 // Equal names: used entries of one file whose n words from word 1 on are the same. The file is given by its flags and top page.
+use crate::stored::entry_same;
 use tree::entry::entry_used;
 use tree::root::root_page;
-use crate::stored::entry_same;
 ghost use mathlib.Core.Path.{_≡_};
 ghost use Prim.Native.Nat.{_+_, _%_, _≤_, _<_};
 ghost use Rattle.book.specs.Words.{vol};
@@ -43,7 +43,15 @@ fn fresh(img: &[u16], flags: u16, top: usize, n: usize, base: usize, q: usize, y
 }
 
 // The same of any entry y on page q: an unused one has no twin.
-fn entry_apart(img: &[u16], flags: u16, top: usize, n: usize, base: usize, q: usize, y: usize) -> bool
+fn entry_apart(
+    img: &[u16],
+    flags: u16,
+    top: usize,
+    n: usize,
+    base: usize,
+    q: usize,
+    y: usize,
+) -> bool
     requires { ⌜ On (now img) (rootBy flags top 0) q y × (n < 32) × (base ≤ y) ⌝ }
     ensures { λ r. ⌜ Decides r (Fresh (entry (vol (now (img .entry))) (rootBy flags top 0)) n base y) ⌝ }
 {

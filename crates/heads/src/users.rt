@@ -1,12 +1,12 @@
 // Rule 4: the used users.
+use crate::stored::entry_legal;
+use crate::twins::apart;
 use page::read::flags_at;
 use page::read::page_at;
 use tree::entry::entry_two;
 use tree::entry::entry_used;
 use tree::entry::entry_word;
 use tree::root::user_page;
-use crate::stored::entry_legal;
-use crate::twins::apart;
 ghost use mathlib.Core.Path.{_≡_};
 ghost use Prim.Native.Nat.{_+_, _%_, _≤_, _<_};
 ghost use Rattle.book.specs.Words.{vol};

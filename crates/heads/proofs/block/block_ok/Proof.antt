@@ -10,9 +10,6 @@ use Rattle.heads.specs.Slots.{SlotOk, Slots}
 use Rattle.heads.proofs.Slots.{slots-absent}
 use Rattle.heads.proofs.block.block_ok.Statement.{statement}
 use Rattle.heads.proofs.block.block_ok.Tie as tie
-use Rattle.heads.proofs.block.block_ok.Reads as reads
-use Rattle.heads.proofs.block.block_ok.Lts as lts
-use Rattle.heads.proofs.block.slot_ok.Reads as slot-ok-reads
 
 abbrev Inv-loop : tie.InvT-loop
 Inv-loop img total b m n₀ n = (n ≤ 512) × ((k : ℕ) → k < n → SlotOk (pages img) (vol img) b m k)
@@ -20,38 +17,30 @@ Inv-loop img total b m n₀ n = (n ≤ 512) × ((k : ℕ) → k < n → SlotOk (
 abbrev μ-loop : tie.MeasureT-loop
 μ-loop img total b m n₀ n = 512 - n
 
--- src/block.rt:34:9
 returns : tie.Need-returns Inv-loop μ-loop
 returns c = slots-absent _ _ _ _ (omega arith) (omega arith)
 
--- src/block.rt:37:5
 loop-holds : tie.Need-loop-holds Inv-loop μ-loop
 loop-holds c = (omega arith, below-none _)
 
--- src/block.rt:38:13
 slot-ok-requires : tie.Need-slot-ok-requires Inv-loop μ-loop
 slot-ok-requires c κs = search needs
 
--- src/block.rt:39:13
 returns-2 : tie.Need-returns-2 Inv-loop μ-loop
 unfolding Slots
 returns-2 c = λ s. fails (c .before .slot-ok .result) _ (c .before .slot-ok .ensures) (c .if2 .taken) (s (c .before .before .before .loop .n) (omega arith))
 
--- src/block.rt:41:9
 add-n : tie.Need-add-n Inv-loop μ-loop
 add-n c = omega arith
 
--- src/block.rt:37:5
 loop-less : tie.Need-loop-less Inv-loop μ-loop
 loop-less c = omega arith
 
--- src/block.rt:37:5
 loop-again : tie.Need-loop-again Inv-loop μ-loop
 loop-again c =
     let l = c .before .before .before .loop in
     (omega arith, below-more _ (l .n) (l .inv .1) (holds (c .before .slot-ok .result) _ (c .before .slot-ok .ensures) (c .if2 .left)))
 
--- src/block.rt:29:1
 returns-3 : tie.Need-returns-3 Inv-loop μ-loop
 unfolding Slots
 returns-3 c = λ n h. c .before .loop .inv .1 n (omega arith)

@@ -3,27 +3,19 @@ use Rattle.heads.proofs.Slots.{slot-filled}
 use borrow.Author.Needs.{needs}
 use Rattle.heads.proofs.block.slot_ok.Statement.{statement}
 use Rattle.heads.proofs.block.slot_ok.Tie as tie
-use Rattle.heads.proofs.block.slot_ok.Reads as reads
-use Rattle.heads.proofs.block.slot_ok.Lts as lts
-use Rattle.page.proofs.read.slot_at.Reads as slot-at-reads
 
--- src/block.rt:15:9
 slot-at-requires : tie.Need-slot-at-requires
 slot-at-requires c κs = search needs
 
--- src/block.rt:17:9
 returns : tie.Need-returns
 returns c = search needs
 
--- src/block.rt:20:9
 returns-2 : tie.Need-returns-2
 returns-2 c = search needs
 
--- src/block.rt:23:9
 returns-3 : tie.Need-returns-3
 returns-3 c = λ s. slot-filled _ _ _ _ _ (c .before .before .before .slot-at .result) (c .before .before .before .slot-at .ensures .0) (omega arith) (c .if3 .taken) s
 
--- src/block.rt:11:1
 returns-4 : tie.Need-returns-4
 returns-4 c = search needs
 

@@ -3,46 +3,33 @@ use Rattle.heads.proofs.Heads.{told, untold, rule2-none, rule2-wrong, r
 use borrow.Author.Needs.{needs}
 use Rattle.heads.proofs.master.rule2.Statement.{statement}
 use Rattle.heads.proofs.master.rule2.Tie as tie
-use Rattle.heads.proofs.master.rule2.Reads as reads
-use Rattle.heads.proofs.master.rule2.Lts as lts
-use Rattle.heads.proofs.master.inside_at.Reads as inside-at-reads
-use Rattle.heads.proofs.master.zero_at.Reads as zero-at-reads
 
--- src/master.rt:79:8
 zero-at-requires : tie.Need-zero-at-requires
 zero-at-requires c κs = search needs
 
--- src/master.rt:80:9
 zero-at-requires-2 : tie.Need-zero-at-requires-2
 zero-at-requires-2 c κs = search needs
 
--- src/master.rt:80:9
 returns : tie.Need-returns
 returns c = rule2-none _ _ (c .zero-at2 .result) (told (c .before .before .zero-at .result) _ (c .before .before .zero-at .ensures) (c .before .if1 .taken)) (c .zero-at2 .ensures)
 
--- src/master.rt:82:9
 inside-at-requires : tie.Need-inside-at-requires
 inside-at-requires c κs = search needs
 
--- src/master.rt:83:9
 returns-2 : tie.Need-returns-2
 returns-2 c = rule2-wrong _ _ (untold (c .before .before .before .zero-at .result) _ (c .before .before .before .zero-at .ensures) (c .before .before .if1 .left)) (fails (c .before .inside-at .result) _ (c .before .inside-at .ensures) (c .if2 .taken))
 
--- src/master.rt:85:8
 inside-at-requires-2 : tie.Need-inside-at-requires-2
 inside-at-requires-2 c κs = search needs
 
--- src/master.rt:86:9
 returns-3 : tie.Need-returns-3
 returns-3 c =
     let a = c .before .before .before in
     rule2-one _ _ (holds (a .inside-at .result) _ (a .inside-at .ensures) (c .before .before .if2 .left)) (told (c .before .inside-at2 .result) _ (c .before .inside-at2 .ensures) (c .if3 .taken))
 
--- src/master.rt:88:5
 inside-at-requires-3 : tie.Need-inside-at-requires-3
 inside-at-requires-3 c κs = search needs
 
--- src/master.rt:75:1
 returns-4 : tie.Need-returns-4
 returns-4 c =
     let a = c .before .before .before .before in

@@ -10,26 +10,18 @@ use Rattle.heads.proofs.Heads.{users-inside}
 use borrow.Author.Needs.{needs}
 use Rattle.heads.proofs.master.rule3.Statement.{statement}
 use Rattle.heads.proofs.master.rule3.Tie as tie
-use Rattle.heads.proofs.master.rule3.Reads as reads
-use Rattle.heads.proofs.master.rule3.Lts as lts
-use Rattle.heads.proofs.block.block_ok.Reads as block-ok-reads
-use Rattle.page.proofs.read.page_at.Reads as page-at-reads
 
--- src/master.rt:96:15
 page-at-requires : tie.Need-page-at-requires
 page-at-requires c κs = search needs
 
--- src/master.rt:96:15
 cast-top : tie.Need-cast-top
 cast-top c = search needs
 
--- src/master.rt:97:5
 block-ok-requires : tie.Need-block-ok-requires
 block-ok-requires c κs =
     let s = c .before .before in
     record { count = search needs; inside = omega (arith, users-inside _ _ (s .pre .2) (omega arith)) }
 
--- src/master.rt:92:1
 returns : tie.Need-returns
 unfolding Rule3 Slots
 returns c =

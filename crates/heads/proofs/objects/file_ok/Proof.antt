@@ -1,63 +1,58 @@
+use Rattle.book.specs.Words.{vol}
+use Rattle.book.specs.Entries.{user}
+use Rattle.tree.specs.Reach.{entryIn}
+use native.Mathlib.Omega.{arith}
+use Rattle.heads.proofs.Judged.{file-by}
+use Rattle.book.specs.Decides.{holds, fails}
 use borrow.Author.Needs.{needs}
 use Rattle.heads.proofs.objects.file_ok.Statement.{statement}
 use Rattle.heads.proofs.objects.file_ok.Tie as tie
-use Rattle.heads.proofs.objects.file_ok.Reads as reads
-use Rattle.heads.proofs.objects.file_ok.Lts as lts
-use Rattle.heads.proofs.stored.entry_legal.Reads as entry-legal-reads
-use Rattle.tree.proofs.entry.entry_used.Reads as entry-used-reads
-use Rattle.tree.proofs.entry.entry_word.Reads as entry-word-reads
 
--- src/objects.rt:105:9
 entry-used-requires : tie.Need-entry-used-requires
 entry-used-requires c κs = search needs
 
--- src/objects.rt:106:9
 returns : tie.Need-returns
-returns c = ?
+returns c = λ h. absurd (fails (c .before .entry-used .result) _ (c .before .entry-used .ensures) (c .if1 .taken) h)
 
--- src/objects.rt:109:9
 returns-2 : tie.Need-returns-2
-returns-2 c = ?
+returns-2 c = λ f. let a = f (holds (c .before .before .entry-used .result) _ (c .before .before .entry-used .ensures) (c .before .if1 .left)) in fails (c .before .before .before .before .args .owned) _ (c .before .before .before .before .pre .2) (c .if2 .taken) (a .owner)
 
--- src/objects.rt:111:8
 entry-word-requires : tie.Need-entry-word-requires
 entry-word-requires c κs = search needs
 
--- src/objects.rt:111:8
 cast-if3 : tie.Need-cast-if3
 cast-if3 c = search needs
 
--- src/objects.rt:112:9
 returns-3 : tie.Need-returns-3
-returns-3 c = ?
+returns-3 c = λ f. let a = f (holds (c .before .before .before .before .entry-used .result) _ (c .before .before .before .before .entry-used .ensures) (c .before .before .before .if1 .left)) in omega (arith, a .whose)
 
--- src/objects.rt:114:8
 entry-word-requires-2 : tie.Need-entry-word-requires-2
 entry-word-requires-2 c κs = search needs
 
--- src/objects.rt:114:8
 cast-if4 : tie.Need-cast-if4
 cast-if4 c = search needs
 
--- src/objects.rt:115:9
 returns-4 : tie.Need-returns-4
-returns-4 c = ?
+returns-4 c = λ f. let a = f (holds (c .before .before .before .before .before .before .entry-used .result) _ (c .before .before .before .before .before .before .entry-used .ensures) (c .before .before .before .before .before .if1 .left)) in omega (arith, a .number)
 
--- src/objects.rt:117:9
 entry-legal-requires : tie.Need-entry-legal-requires
 entry-legal-requires c κs = search needs
 
--- src/objects.rt:118:9
 returns-5 : tie.Need-returns-5
-returns-5 c = ?
+returns-5 c = λ f. let a = f (holds (c .before .before .before .before .before .before .before .before .entry-used .result) _ (c .before .before .before .before .before .before .before .before .entry-used .ensures) (c .before .before .before .before .before .before .before .if1 .left)) in fails (c .before .entry-legal .result) _ (c .before .entry-legal .ensures) (c .if5 .taken) (a .name)
 
--- src/objects.rt:120:5
 entry-legal-requires-2 : tie.Need-entry-legal-requires-2
 entry-legal-requires-2 c κs = search needs
 
--- src/objects.rt:101:1
 returns-6 : tie.Need-returns-6
-returns-6 c = ?
+returns-6 c =
+    let a = c .before .before .before .before .before .before .before .before .before .before .before .args in let v = vol (a .img .now) in
+    file-by (user v) (entryIn v (a .q)) (a .e) (c .entry-legal2 .result)
+    (holds (c .before .before .before .before .before .before .before .before .before .entry-used .result) _ (c .before .before .before .before .before .before .before .before .before .entry-used .ensures) (c .before .before .before .before .before .before .before .before .if1 .left))
+    (holds (a .owned) _ (c .before .before .before .before .before .before .before .before .before .before .before .pre .2) (c .before .before .before .before .before .before .before .if2 .left))
+    (omega arith) (omega arith)
+    (holds (c .before .before .entry-legal .result) _ (c .before .before .entry-legal .ensures) (c .before .if5 .left))
+    (c .entry-legal2 .ensures)
 
 pub file-ok-spec : {M : Type 1} → statement M
 file-ok-spec =

@@ -1,55 +1,68 @@
+use mathlib.Core.Path.{_≡_, ap, subst}
+use Prim.Native.Nat.{ℕ, _+_, _≤_, _-_}
+use native.Mathlib.Omega.{arith}
+use borrow.Author.Needs.{needs}
+use Rattle.book.specs.Words.{vol}
+use Rattle.book.specs.Entries.{user, used}
+use Rattle.heads.specs.Span.{Span, span-none, span-more, span-at}
+use Rattle.heads.specs.Fine.{Unused}
+use Rattle.heads.proofs.Heads.{told, untold}
+use Rattle.heads.proofs.Pages.{user-on, users-none}
 use Rattle.heads.proofs.objects.page_unused.Statement.{statement}
 use Rattle.heads.proofs.objects.page_unused.Tie as tie
-use Rattle.heads.proofs.objects.page_unused.Reads as reads
-use Rattle.heads.proofs.objects.page_unused.Lts as lts
-use Rattle.tree.proofs.entry.entry_used.Reads as entry-used-reads
-use Rattle.tree.proofs.root.user_page.Reads as user-page-reads
 
 abbrev Inv-loop : tie.InvT-loop
-Inv-loop img first q end u₀ u = ?
+Inv-loop img first q end u₀ u = (first ≤ u) × (u ≤ first + 32) × Span (Unused (user (vol img))) first u
 
 abbrev μ-loop : tie.MeasureT-loop
-μ-loop img first q end u₀ u = ?
+μ-loop img first q end u₀ u = first + 32 - u
 
--- src/objects.rt:32:9
 user-page-requires : tie.Need-user-page-requires Inv-loop μ-loop
-user-page-requires c κs = ?
+user-page-requires c κs = search needs
 
--- src/objects.rt:34:9
 returns : tie.Need-returns Inv-loop μ-loop
-returns c = ?
+returns c = users-none _ (c .before .user-page .result) (c .before .before .before .args .first) (c .before .before .before .pre .1) (omega arith) (c .before .user-page .ensures .0)
 
--- src/objects.rt:36:15
 add-end : tie.Need-add-end Inv-loop μ-loop
-add-end c = ?
+add-end c = omega arith
 
--- src/objects.rt:38:5
 loop-holds : tie.Need-loop-holds Inv-loop μ-loop
-loop-holds c = ?
+loop-holds c = (omega arith, omega arith, span-none _ _)
 
--- src/objects.rt:39:12
 entry-used-requires : tie.Need-entry-used-requires Inv-loop μ-loop
-entry-used-requires c κs = ?
+entry-used-requires c κs = omega arith
 
--- src/objects.rt:40:13
 returns-2 : tie.Need-returns-2 Inv-loop μ-loop
-returns-2 c = ?
+returns-2 c =
+    λ s.
+    let a = c .before .before .before .before .before .before .before .args in let l = c .before .before .before .loop in let v = vol (a .img .now) in
+    let h = told (c .before .entry-used .result) _ (c .before .entry-used .ensures) (c .if2 .taken) in
+    omega (
+      arith,
+      h,
+      ap used (user-on v (c .before .before .before .before .before .user-page .result) (a .first) (l .u) (c .before .before .before .before .before .before .before .pre .1) (l .inv .0) (omega arith) (c .before .before .before .before .before .user-page .ensures .0)),
+      span-at _ _ _ s (l .u) (l .inv .0) (omega arith),
+    )
 
--- src/objects.rt:42:9
 add-u : tie.Need-add-u Inv-loop μ-loop
-add-u c = ?
+add-u c = omega arith
 
--- src/objects.rt:38:5
 loop-less : tie.Need-loop-less Inv-loop μ-loop
-loop-less c = ?
+loop-less c = omega arith
 
--- src/objects.rt:38:5
 loop-again : tie.Need-loop-again Inv-loop μ-loop
-loop-again c = ?
+loop-again c =
+    let a = c .before .before .before .before .before .before .before .args in let l = c .before .before .before .loop in let v = vol (a .img .now) in
+    let h = untold (c .before .entry-used .result) _ (c .before .entry-used .ensures) (c .if2 .left) in (
+      omega arith,
+      omega arith,
+      span-more _ _ _ (l .inv .2) (omega (arith, h, ap used (user-on v (c .before .before .before .before .before .user-page .result) (a .first) (l .u) (c .before .before .before .before .before .before .before .pre .1) (l .inv .0) (omega arith) (c .before .before .before .before .before .user-page .ensures .0)))),
+    )
 
--- src/objects.rt:28:1
 returns-3 : tie.Need-returns-3 Inv-loop μ-loop
-returns-3 c = ?
+returns-3 c =
+    let l = c .before .loop in let e : l .u ≡ c .before .before .before .before .before .args .first + 32 = omega arith in
+    subst (λ (z : ℕ). Span (Unused (user (vol (c .before .before .before .before .before .args .img .now)))) (c .before .before .before .before .before .args .first) z) e (l .inv .2)
 
 pub page-unused-spec : {M : Type 1} → statement M
 page-unused-spec =

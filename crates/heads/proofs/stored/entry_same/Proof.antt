@@ -3,32 +3,22 @@ use Rattle.heads.proofs.Named.{same-in}
 use borrow.Author.Needs.{needs}
 use Rattle.heads.proofs.stored.entry_same.Statement.{statement}
 use Rattle.heads.proofs.stored.entry_same.Tie as tie
-use Rattle.heads.proofs.stored.entry_same.Reads as reads
-use Rattle.heads.proofs.stored.entry_same.Lts as lts
-use Rattle.page.proofs.entry.EntryPlace.of.Reads as of-reads
-use Rattle.page.proofs.names.same_at.Reads as same-at-reads
 
--- src/stored.rt:28:9
 of-requires : tie.Need-of-requires
 of-requires c κs = search needs
 
--- src/stored.rt:30:9
 of-requires-2 : tie.Need-of-requires-2
 of-requires-2 c κs = search needs
 
--- src/stored.rt:32:21
 add-same-at : tie.Need-add-same-at
 add-same-at c = search needs
 
--- src/stored.rt:32:31
 add-same-at-2 : tie.Need-add-same-at-2
 add-same-at-2 c = search needs
 
--- src/stored.rt:32:5
 same-at-requires : tie.Need-same-at-requires
 same-at-requires c κs = search needs
 
--- src/stored.rt:24:1
 returns : tie.Need-returns
 returns c =
     let a = c .before .before .before .before .args in

@@ -1,46 +1,46 @@
+use mathlib.Core.Path.{_≡_, subst}
+use Prim.Native.Nat.{ℕ, _+_, _%_, _≤_, _-_}
+use native.Mathlib.Omega.{arith}
+use Rattle.book.specs.Words.{vol}
+use Rattle.book.specs.Trees.{rootBy}
+use Rattle.book.specs.Entries.{entry}
+use Rattle.book.specs.Decides.{holds, fails}
+use Rattle.heads.specs.Span.{Span, span-none, span-join, span-part}
+use Rattle.heads.specs.Twins.{Fresh}
 use Rattle.heads.proofs.twins.apart.Statement.{statement}
 use Rattle.heads.proofs.twins.apart.Tie as tie
-use Rattle.heads.proofs.twins.apart.Reads as reads
-use Rattle.heads.proofs.twins.apart.Lts as lts
-use Rattle.heads.proofs.twins.page_apart.Reads as page-apart-reads
 
 abbrev Inv-loop : tie.InvT-loop
-Inv-loop img flags top n base end first₀ first = ?
+Inv-loop img flags top n base end first₀ first = (base ≤ first) × (first ≤ base + 256) × (first % 32 ≡ 0) × Span (Fresh (entry (vol img) (rootBy flags top 0)) n base) base first
 
 abbrev μ-loop : tie.MeasureT-loop
-μ-loop img flags top n base end first₀ first = ?
+μ-loop img flags top n base end first₀ first = base + 256 - first
 
--- src/twins.rt:81:15
 add-end : tie.Need-add-end Inv-loop μ-loop
-add-end c = ?
+add-end c = omega arith
 
--- src/twins.rt:83:5
 loop-holds : tie.Need-loop-holds Inv-loop μ-loop
-loop-holds c = ?
+loop-holds c = (omega arith, omega arith, omega arith, span-none _ _)
 
--- src/twins.rt:84:13
 page-apart-requires : tie.Need-page-apart-requires Inv-loop μ-loop
-page-apart-requires c κs = ?
+page-apart-requires c κs = let s = c .before .before .before in (s .pre .0, omega arith, omega arith, omega arith, omega arith)
 
--- src/twins.rt:85:13
 returns : tie.Need-returns Inv-loop μ-loop
-returns c = ?
+returns c = λ s. fails (c .before .page-apart .result) _ (c .before .page-apart .ensures) (c .if1 .taken) (span-part _ (c .before .before .before .before .before .args .base) _ _ (c .before .before .before .before .before .args .base + 256) (omega arith) (omega arith) s)
 
--- src/twins.rt:87:9
 add-first : tie.Need-add-first Inv-loop μ-loop
-add-first c = ?
+add-first c = omega arith
 
--- src/twins.rt:83:5
 loop-less : tie.Need-loop-less Inv-loop μ-loop
-loop-less c = ?
+loop-less c = omega arith
 
--- src/twins.rt:83:5
 loop-again : tie.Need-loop-again Inv-loop μ-loop
-loop-again c = ?
+loop-again c = (omega arith, omega arith, omega arith, span-join _ _ _ _ (c .before .before .before .loop .inv .3) (holds (c .before .page-apart .result) _ (c .before .page-apart .ensures) (c .if1 .left)))
 
--- src/twins.rt:77:1
 returns-2 : tie.Need-returns-2 Inv-loop μ-loop
-returns-2 c = ?
+returns-2 c =
+    let a = c .before .before .before .args in let l = c .before .loop in let e : l .first ≡ a .base + 256 = omega arith in
+    subst (λ (z : ℕ). Span (Fresh (entry (vol (a .img .now)) (rootBy (a .flags) (a .top) 0)) (a .n) (a .base)) (a .base) z) e (l .inv .3)
 
 pub apart-spec : {M : Type 1} → statement M
 apart-spec =

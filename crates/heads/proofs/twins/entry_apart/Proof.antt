@@ -8,29 +8,21 @@ use Rattle.heads.proofs.Alike.{used-on, fresh-unused}
 use borrow.Author.Needs.{needs}
 use Rattle.heads.proofs.twins.entry_apart.Statement.{statement}
 use Rattle.heads.proofs.twins.entry_apart.Tie as tie
-use Rattle.heads.proofs.twins.entry_apart.Reads as reads
-use Rattle.heads.proofs.twins.entry_apart.Lts as lts
-use Rattle.heads.proofs.twins.fresh.Reads as fresh-reads
-use Rattle.tree.proofs.entry.entry_used.Reads as entry-used-reads
 
--- src/twins.rt:50:9
 entry-used-requires : tie.Need-entry-used-requires
 entry-used-requires c κs = let s = c .before in omega (arith, s .pre .0 .at, reach-page _ _ (s .pre .0 .reach) (s .args .y / 32))
 
--- src/twins.rt:51:9
 returns : tie.Need-returns
 returns c =
     let s = c .before .before .before in let a = s .args in
     fresh-unused _ _ _ _ (λ u. fails (c .before .entry-used .result) _ (c .before .entry-used .ensures) (c .if1 .taken) (omega (arith, u, used-on (vol (a .img .now)) (rootBy (a .flags) (a .top) 0) (a .q) (a .y) (s .pre .0 .at))))
 
--- src/twins.rt:53:5
 fresh-requires : tie.Need-fresh-requires
 fresh-requires c κs =
     let s = c .before .before .before in let a = s .args in
     let u = holds (c .before .entry-used .result) _ (c .before .entry-used .ensures) (c .if1 .left) in
     (s .pre .0, omega (arith, u, used-on (vol (a .img .now)) (rootBy (a .flags) (a .top) 0) (a .q) (a .y) (s .pre .0 .at)), s .pre .1, s .pre .2)
 
--- src/twins.rt:46:1
 returns-2 : tie.Need-returns-2
 returns-2 c = search needs
 

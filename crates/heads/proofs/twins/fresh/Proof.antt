@@ -10,9 +10,6 @@ use Rattle.heads.specs.Twins.{Twins}
 use Rattle.heads.proofs.Heads.{told, untold}
 use Rattle.heads.proofs.twins.fresh.Statement.{statement}
 use Rattle.heads.proofs.twins.fresh.Tie as tie
-use Rattle.heads.proofs.twins.fresh.Reads as reads
-use Rattle.heads.proofs.twins.fresh.Lts as lts
-use Rattle.heads.proofs.twins.twin.Reads as twin-reads
 
 abbrev Inv-loop : tie.InvT-loop
 Inv-loop img flags top n base q y x₀ x = (base ≤ x) × (x ≤ y) × Span (λ z. Twins (entry (vol img) (rootBy flags top 0)) n z y → ⊥) base x
@@ -20,31 +17,24 @@ Inv-loop img flags top n base q y x₀ x = (base ≤ x) × (x ≤ y) × Span (λ
 abbrev μ-loop : tie.MeasureT-loop
 μ-loop img flags top n base q y x₀ x = y - x
 
--- src/twins.rt:36:5
 loop-holds : tie.Need-loop-holds Inv-loop μ-loop
 loop-holds c = (omega arith, omega arith, span-none _ _)
 
--- src/twins.rt:37:12
 twin-requires : tie.Need-twin-requires Inv-loop μ-loop
 twin-requires c κs = search needs
 
--- src/twins.rt:38:13
 returns : tie.Need-returns Inv-loop μ-loop
 returns c = λ s. span-at _ _ _ s (c .before .before .before .loop .x) (c .before .before .before .loop .inv .0) (omega arith) (told (c .before .twin .result) _ (c .before .twin .ensures) (c .if1 .taken))
 
--- src/twins.rt:40:9
 add-x : tie.Need-add-x Inv-loop μ-loop
 add-x c = omega arith
 
--- src/twins.rt:36:5
 loop-less : tie.Need-loop-less Inv-loop μ-loop
 loop-less c = omega arith
 
--- src/twins.rt:36:5
 loop-again : tie.Need-loop-again Inv-loop μ-loop
 loop-again c = (omega arith, omega arith, span-more _ _ _ (c .before .before .before .loop .inv .2) (untold (c .before .twin .result) _ (c .before .twin .ensures) (c .if1 .left)))
 
--- src/twins.rt:31:1
 returns-2 : tie.Need-returns-2 Inv-loop μ-loop
 returns-2 c =
     let a = c .before .before .before .args in let l = c .before .loop in let e : l .x ≡ a .y = omega arith in

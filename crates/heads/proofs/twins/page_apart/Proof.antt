@@ -1,7 +1,6 @@
 use mathlib.Core.Path.{_≡_, subst}
 use Prim.Native.Nat.{ℕ, _+_, _≤_, _-_}
 use native.Mathlib.Omega.{arith}
-use borrow.Author.Needs.{needs}
 use Rattle.book.specs.Words.{vol}
 use Rattle.book.specs.Trees.{rootBy}
 use Rattle.book.specs.Entries.{entry}
@@ -12,10 +11,6 @@ use Rattle.heads.proofs.Pages.{on-page}
 use Rattle.heads.proofs.Alike.{page-fresh}
 use Rattle.heads.proofs.twins.page_apart.Statement.{statement}
 use Rattle.heads.proofs.twins.page_apart.Tie as tie
-use Rattle.heads.proofs.twins.page_apart.Reads as reads
-use Rattle.heads.proofs.twins.page_apart.Lts as lts
-use Rattle.heads.proofs.twins.entry_apart.Reads as entry-apart-reads
-use Rattle.tree.proofs.root.root_page.Reads as root-page-reads
 
 abbrev Inv-loop : tie.InvT-loop
 Inv-loop img flags top n base first q end y₀ y = (first ≤ y) × (y ≤ first + 32) × Span (Fresh (entry (vol img) (rootBy flags top 0)) n base) first y
@@ -23,25 +18,20 @@ Inv-loop img flags top n base first q end y₀ y = (first ≤ y) × (y ≤ first
 abbrev μ-loop : tie.MeasureT-loop
 μ-loop img flags top n base first q end y₀ y = first + 32 - y
 
--- src/twins.rt:61:9
 root-page-requires : tie.Need-root-page-requires Inv-loop μ-loop
 root-page-requires c κs = c .before .pre .0
 
--- src/twins.rt:63:9
 returns : tie.Need-returns Inv-loop μ-loop
 returns c =
     let s = c .before .before .before in let a = s .args in
     page-fresh (vol (a .img .now)) (rootBy (a .flags) (a .top) 0) (a .n) (a .base) (c .before .root-page .result) (a .first) (s .pre .3) (c .before .root-page .ensures .0) (omega arith)
 
--- src/twins.rt:65:15
 add-end : tie.Need-add-end Inv-loop μ-loop
 add-end c = omega arith
 
--- src/twins.rt:67:5
 loop-holds : tie.Need-loop-holds Inv-loop μ-loop
 loop-holds c = (omega arith, omega arith, span-none _ _)
 
--- src/twins.rt:68:13
 entry-apart-requires : tie.Need-entry-apart-requires Inv-loop μ-loop
 entry-apart-requires c κs =
     let s = c .before .before .before .before .before in let a = s .args in let l = c .before .loop in (
@@ -50,23 +40,18 @@ entry-apart-requires c κs =
       omega arith,
     )
 
--- src/twins.rt:69:13
 returns-2 : tie.Need-returns-2 Inv-loop μ-loop
 returns-2 c = λ s. fails (c .before .entry-apart .result) _ (c .before .entry-apart .ensures) (c .if2 .taken) (span-at _ _ _ s (c .before .before .before .loop .y) (c .before .before .before .loop .inv .0) (omega arith))
 
--- src/twins.rt:71:9
 add-y : tie.Need-add-y Inv-loop μ-loop
 add-y c = omega arith
 
--- src/twins.rt:67:5
 loop-less : tie.Need-loop-less Inv-loop μ-loop
 loop-less c = omega arith
 
--- src/twins.rt:67:5
 loop-again : tie.Need-loop-again Inv-loop μ-loop
 loop-again c = (omega arith, omega arith, span-more _ _ _ (c .before .before .before .loop .inv .2) (holds (c .before .entry-apart .result) _ (c .before .entry-apart .ensures) (c .if2 .left)))
 
--- src/twins.rt:57:1
 returns-3 : tie.Need-returns-3 Inv-loop μ-loop
 returns-3 c =
     let a = c .before .before .before .before .before .args in let l = c .before .loop in let e : l .y ≡ a .first + 32 = omega arith in

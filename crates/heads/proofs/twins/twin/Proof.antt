@@ -8,40 +8,29 @@ use Rattle.heads.proofs.Alike.{twin-absent, twin-unused, twin-by}
 use borrow.Author.Needs.{needs}
 use Rattle.heads.proofs.twins.twin.Statement.{statement}
 use Rattle.heads.proofs.twins.twin.Tie as tie
-use Rattle.heads.proofs.twins.twin.Reads as reads
-use Rattle.heads.proofs.twins.twin.Lts as lts
-use Rattle.heads.proofs.stored.entry_same.Reads as entry-same-reads
-use Rattle.tree.proofs.entry.entry_used.Reads as entry-used-reads
-use Rattle.tree.proofs.root.root_page.Reads as root-page-reads
 
--- src/twins.rt:20:9
 root-page-requires : tie.Need-root-page-requires
 root-page-requires c κs = search needs
 
--- src/twins.rt:22:9
 returns : tie.Need-returns
 returns c =
     let a = c .before .before .before .args in
     twin-absent (vol (a .img .now)) (rootBy (a .flags) (a .top) 0) (a .n) (a .x) (a .y) (c .before .root-page .result) (c .before .root-page .ensures .0) (omega arith)
 
--- src/twins.rt:24:9
 entry-used-requires : tie.Need-entry-used-requires
 entry-used-requires c κs = search needs
 
--- src/twins.rt:25:9
 returns-2 : tie.Need-returns-2
 returns-2 c =
     let a = c .before .before .before .before .before .args in
     twin-unused (vol (a .img .now)) (rootBy (a .flags) (a .top) 0) (a .n) (a .x) (a .y) (c .before .before .before .root-page .result) (c .before .before .before .root-page .ensures .0)
     (fails (c .before .entry-used .result) _ (c .before .entry-used .ensures) (c .if2 .taken))
 
--- src/twins.rt:27:5
 entry-same-requires : tie.Need-entry-same-requires
 entry-same-requires c κs =
     let s = c .before .before .before .before .before in let a = s .args in
     (omega arith, omega arith, s .pre .0 .there, omega (arith, s .pre .0 .at, reach-page _ _ (s .pre .0 .reach) (a .y / 32)), s .pre .2)
 
--- src/twins.rt:16:1
 returns-3 : tie.Need-returns-3
 returns-3 c =
     let s = c .before .before .before .before .before .before in let a = s .args in

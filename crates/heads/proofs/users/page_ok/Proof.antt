@@ -10,10 +10,6 @@ use Rattle.heads.specs.Fine.{UserFine}
 use Rattle.heads.proofs.Pages.{user-on, user-fine, users-absent}
 use Rattle.heads.proofs.users.page_ok.Statement.{statement}
 use Rattle.heads.proofs.users.page_ok.Tie as tie
-use Rattle.heads.proofs.users.page_ok.Reads as reads
-use Rattle.heads.proofs.users.page_ok.Lts as lts
-use Rattle.heads.proofs.users.user_ok.Reads as user-ok-reads
-use Rattle.tree.proofs.root.user_page.Reads as user-page-reads
 
 abbrev Inv-loop : tie.InvT-loop
 Inv-loop img first q end u₀ u = (first ≤ u) × (u ≤ first + 32) × Span (UserFine (user (vol img))) first u
@@ -21,44 +17,35 @@ Inv-loop img first q end u₀ u = (first ≤ u) × (u ≤ first + 32) × Span (U
 abbrev μ-loop : tie.MeasureT-loop
 μ-loop img first q end u₀ u = first + 32 - u
 
--- src/users.rt:45:9
 user-page-requires : tie.Need-user-page-requires Inv-loop μ-loop
 user-page-requires c κs = search needs
 
--- src/users.rt:47:9
 returns : tie.Need-returns Inv-loop μ-loop
-returns c = users-absent _ (c .before .user-page .result) (c .before .before .before .args .first) (c .before .before .before .pre .1) (c .before .user-page .ensures .0) (omega arith)
+returns c = users-absent _ (c .before .user-page .result) (c .before .before .before .args .first) (c .before .before .before .pre .1) (omega arith) (c .before .user-page .ensures .0)
 
--- src/users.rt:49:15
 add-end : tie.Need-add-end Inv-loop μ-loop
 add-end c = omega arith
 
--- src/users.rt:51:5
 loop-holds : tie.Need-loop-holds Inv-loop μ-loop
 loop-holds c = (omega arith, omega arith, span-none _ _)
 
--- src/users.rt:52:13
 user-ok-requires : tie.Need-user-ok-requires Inv-loop μ-loop
 user-ok-requires c κs = omega arith
 
--- src/users.rt:53:13
 returns-2 : tie.Need-returns-2 Inv-loop μ-loop
 returns-2 c =
     λ s.
-      let a = c .before .before .before .before .before .before .before .args in let l = c .before .before .before .loop in let v = vol (a .img .now) in
-      fails (c .before .user-ok .result) _ (c .before .user-ok .ensures) (c .if2 .taken)
-      (user-fine _ _ (l .u) (sym (user-on v (c .before .before .before .before .before .user-page .result) (a .first) (l .u) (c .before .before .before .before .before .before .before .pre .1) (l .inv .0) (omega arith) (c .before .before .before .before .before .user-page .ensures .0)))
-      (span-at _ _ _ s (l .u) (l .inv .0) (omega arith)))
+    let a = c .before .before .before .before .before .before .before .args in let l = c .before .before .before .loop in let v = vol (a .img .now) in
+    fails (c .before .user-ok .result) _ (c .before .user-ok .ensures) (c .if2 .taken)
+    (user-fine _ _ (l .u) (sym (user-on v (c .before .before .before .before .before .user-page .result) (a .first) (l .u) (c .before .before .before .before .before .before .before .pre .1) (l .inv .0) (omega arith) (c .before .before .before .before .before .user-page .ensures .0)))
+    (span-at _ _ _ s (l .u) (l .inv .0) (omega arith)))
 
--- src/users.rt:55:9
 add-u : tie.Need-add-u Inv-loop μ-loop
 add-u c = omega arith
 
--- src/users.rt:51:5
 loop-less : tie.Need-loop-less Inv-loop μ-loop
 loop-less c = omega arith
 
--- src/users.rt:51:5
 loop-again : tie.Need-loop-again Inv-loop μ-loop
 loop-again c =
     let a = c .before .before .before .before .before .before .before .args in let l = c .before .before .before .loop in let v = vol (a .img .now) in (
@@ -67,7 +54,6 @@ loop-again c =
       span-more _ _ _ (l .inv .2) (user-fine _ _ (l .u) (user-on v (c .before .before .before .before .before .user-page .result) (a .first) (l .u) (c .before .before .before .before .before .before .before .pre .1) (l .inv .0) (omega arith) (c .before .before .before .before .before .user-page .ensures .0)) (holds (c .before .user-ok .result) _ (c .before .user-ok .ensures) (c .if2 .left))),
     )
 
--- src/users.rt:41:1
 returns-3 : tie.Need-returns-3 Inv-loop μ-loop
 returns-3 c =
     let l = c .before .loop in let e : l .u ≡ c .before .before .before .before .before .args .first + 32 = omega arith in

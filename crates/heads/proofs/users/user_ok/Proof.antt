@@ -4,55 +4,38 @@ use Rattle.book.specs.Entries.{given, usedPages}
 use borrow.Author.Needs.{needs}
 use Rattle.heads.proofs.users.user_ok.Statement.{statement}
 use Rattle.heads.proofs.users.user_ok.Tie as tie
-use Rattle.heads.proofs.users.user_ok.Reads as reads
-use Rattle.heads.proofs.users.user_ok.Lts as lts
-use Rattle.heads.proofs.stored.entry_legal.Reads as entry-legal-reads
-use Rattle.tree.proofs.entry.entry_two.Reads as entry-two-reads
-use Rattle.tree.proofs.entry.entry_used.Reads as entry-used-reads
-use Rattle.tree.proofs.entry.entry_word.Reads as entry-word-reads
 
--- src/users.rt:25:9
 entry-used-requires : tie.Need-entry-used-requires
 entry-used-requires c κs = search needs
 
--- src/users.rt:26:9
 returns : tie.Need-returns
 returns c = λ h. absurd (fails (c .before .entry-used .result) _ (c .before .entry-used .ensures) (c .if1 .taken) h)
 
--- src/users.rt:28:8
 entry-word-requires : tie.Need-entry-word-requires
 entry-word-requires c κs = search needs
 
--- src/users.rt:28:8
 cast-if2 : tie.Need-cast-if2
 cast-if2 c = search needs
 
--- src/users.rt:29:9
 returns-2 : tie.Need-returns-2
 returns-2 c = λ f. let a = f (holds (c .before .before .before .entry-used .result) _ (c .before .before .before .entry-used .ensures) (c .before .before .if1 .left)) in omega (arith, a .own)
 
--- src/users.rt:31:9
 entry-legal-requires : tie.Need-entry-legal-requires
 entry-legal-requires c κs = search needs
 
--- src/users.rt:32:9
 returns-3 : tie.Need-returns-3
 returns-3 c = λ f. let a = f (holds (c .before .before .before .before .before .entry-used .result) _ (c .before .before .before .before .before .entry-used .ensures) (c .before .before .before .before .if1 .left)) in fails (c .before .entry-legal .result) _ (c .before .entry-legal .ensures) (c .if3 .taken) (a .name)
 
--- src/users.rt:34:8
 entry-two-requires : tie.Need-entry-two-requires
 entry-two-requires c κs = search needs
 
--- src/users.rt:34:35
 entry-two-requires-2 : tie.Need-entry-two-requires-2
 entry-two-requires-2 c κs = search needs
 
--- src/users.rt:35:9
 returns-4 : tie.Need-returns-4
 unfolding given usedPages
 returns-4 c = λ f. let a = f (holds (c .before .before .before .before .before .before .before .before .entry-used .result) _ (c .before .before .before .before .before .before .before .before .entry-used .ensures) (c .before .before .before .before .before .before .before .if1 .left)) in omega (arith, a .within)
 
--- src/users.rt:21:1
 returns-5 : tie.Need-returns-5
 unfolding given usedPages
 returns-5 c = λ h. record { own = omega arith; name = holds (c .before .before .before .before .entry-legal .result) _ (c .before .before .before .before .entry-legal .ensures) (c .before .before .before .if3 .left); within = omega arith }

@@ -9,9 +9,6 @@ use Rattle.heads.specs.Span.{Span, span-none, span-join, span-part}
 use Rattle.heads.specs.Fine.{UserFine}
 use Rattle.heads.proofs.users.users_ok.Statement.{statement}
 use Rattle.heads.proofs.users.users_ok.Tie as tie
-use Rattle.heads.proofs.users.users_ok.Reads as reads
-use Rattle.heads.proofs.users.users_ok.Lts as lts
-use Rattle.heads.proofs.users.page_ok.Reads as page-ok-reads
 
 abbrev Inv-loop : tie.InvT-loop
 Inv-loop img first₀ first = (first ≤ 256) × (first % 32 ≡ 0) × Span (UserFine (user (vol img))) 0 first
@@ -19,31 +16,24 @@ Inv-loop img first₀ first = (first ≤ 256) × (first % 32 ≡ 0) × Span (Use
 abbrev μ-loop : tie.MeasureT-loop
 μ-loop img first₀ first = 256 - first
 
--- src/users.rt:66:5
 loop-holds : tie.Need-loop-holds Inv-loop μ-loop
 loop-holds c = (omega arith, omega arith, span-none _ _)
 
--- src/users.rt:67:13
 page-ok-requires : tie.Need-page-ok-requires Inv-loop μ-loop
 page-ok-requires c κs = search needs
 
--- src/users.rt:68:13
 returns : tie.Need-returns Inv-loop μ-loop
 returns c = λ s. fails (c .before .page-ok .result) _ (c .before .page-ok .ensures) (c .if1 .taken) (span-part _ 0 _ _ 256 (omega arith) (omega arith) s)
 
--- src/users.rt:70:9
 add-first : tie.Need-add-first Inv-loop μ-loop
 add-first c = omega arith
 
--- src/users.rt:66:5
 loop-less : tie.Need-loop-less Inv-loop μ-loop
 loop-less c = omega arith
 
--- src/users.rt:66:5
 loop-again : tie.Need-loop-again Inv-loop μ-loop
 loop-again c = (omega arith, omega arith, span-join _ _ _ _ (c .before .before .before .loop .inv .2) (holds (c .before .page-ok .result) _ (c .before .page-ok .ensures) (c .if1 .left)))
 
--- src/users.rt:61:1
 returns-2 : tie.Need-returns-2 Inv-loop μ-loop
 returns-2 c =
     let l = c .before .loop in let e : l .first ≡ 256 = omega arith in
