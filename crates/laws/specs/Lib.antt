@@ -73,3 +73,4 @@ pub mod CasesSub
 pub mod ShrinkCasesSub
 pub mod FreeCount
 pub mod Regroup
+pub mod Moved
