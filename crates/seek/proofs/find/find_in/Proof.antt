@@ -1,61 +1,54 @@
+-- `seek::find::find_in` meets its contract. Assumes nothing.
+use mathlib.Core.Path.{subst}
+use Prim.Native.Nat.{ℕ, _+_, _-_, _*_, _≤_, _<_}
+use Rattle.book.specs.Words.{vol}
+use Rattle.book.specs.Trees.{rootBy}
+use Rattle.book.specs.Entries.{entry}
+use Rattle.seek.specs.Search.{Fits}
+use Rattle.seek.proofs.Search.{found-on, none-on}
+use native.Mathlib.Omega.{arith}
 use Rattle.seek.proofs.find.find_in.Statement.{statement}
 use Rattle.seek.proofs.find.find_in.Tie as tie
-use Rattle.seek.proofs.find.find_in.Reads as reads
-use Rattle.seek.proofs.find.find_in.Lts as lts
-use Rattle.seek.proofs.find.find_on.Reads as find-on-reads
-use Rattle.seek.proofs.find.index_at.Reads as index-at-reads
-use Rattle.tree.proofs.root.root_page.Reads as root-page-reads
 
 abbrev Inv-loop : tie.InvT-loop
-Inv-loop img flags top b name kind m i₀ i = ?
+Inv-loop img flags top b name kind m i₀ i = (i ≤ 8) × ((n : ℕ) → n < 32 * i → Fits m name kind (entry (vol img) (rootBy flags top 0) (32 * b + n)) → ⊥)
 
 abbrev μ-loop : tie.MeasureT-loop
-μ-loop img flags top b name kind m i₀ i = ?
+μ-loop img flags top b name kind m i₀ i = 8 - i
 
--- src/find.rt:72:5
 loop-holds : tie.Need-loop-holds Inv-loop μ-loop
-loop-holds c = ?
+loop-holds c = (omega arith, λ n h d. omega arith)
 
--- src/find.rt:73:47
 add-root-page : tie.Need-add-root-page Inv-loop μ-loop
-add-root-page c = ?
+add-root-page c = omega arith
 
--- src/find.rt:73:13
 root-page-requires : tie.Need-root-page-requires Inv-loop μ-loop
-root-page-requires c κs = ?
+root-page-requires c κs = c .before .before .before .before .before .pre .0
 
--- src/find.rt:74:13
 find-on-requires : tie.Need-find-on-requires Inv-loop μ-loop
-find-on-requires c κs = ?
+find-on-requires c κs = (c .root-page .ensures .1, c .before .before .before .before .before .before .pre .2)
 
--- src/find.rt:75:28
 enum-known-r : tie.Need-enum-known-r Inv-loop μ-loop
 enum-known-r c = ?
 
--- src/find.rt:77:24
 index-at-requires : tie.Need-index-at-requires Inv-loop μ-loop
 index-at-requires c κs = ?
 
--- src/find.rt:76:13
 returns : tie.Need-returns Inv-loop μ-loop
 returns c = ?
 
 enum-told : tie.Need-enum-told Inv-loop μ-loop
 enum-told c = ?
 
--- src/find.rt:80:9
 add-i : tie.Need-add-i Inv-loop μ-loop
-add-i c = ?
+add-i c = omega arith
 
--- src/find.rt:72:5
 loop-less : tie.Need-loop-less Inv-loop μ-loop
-loop-less c = ?
+loop-less c = omega arith
 
--- src/find.rt:72:5
 loop-again : tie.Need-loop-again Inv-loop μ-loop
 loop-again c = ?
 
--- src/find.rt:67:1
 returns-2 : tie.Need-returns-2 Inv-loop μ-loop
 returns-2 c = ?
 

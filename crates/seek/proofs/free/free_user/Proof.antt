@@ -12,10 +12,10 @@ use Rattle.seek.proofs.free.free_user.Statement.{statement}
 use Rattle.seek.proofs.free.free_user.Tie as tie
 
 abbrev Inv-loop : tie.InvT-loop
-Inv-loop img u₀ u = ?
+Inv-loop img u₀ u = (u ≤ 256) × ((j : ℕ) → j < u → 1 - used (user (vol img) j) ≡ 0)
 
 abbrev μ-loop : tie.MeasureT-loop
-μ-loop img u₀ u = ?
+μ-loop img u₀ u = 256 - u
 
 loop-holds : tie.Need-loop-holds Inv-loop μ-loop
 loop-holds c = (omega arith, below-none _)
