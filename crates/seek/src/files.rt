@@ -16,6 +16,7 @@ ghost use Rattle.book.specs.Calls.{HasFile, Grows, Shrinks};
 
 // Where a file's pages and its pointer stand in its entry.
 const PAGES: usize = 26;
+
 const POINTER: usize = 30;
 
 // The entry number of file f of user u.

@@ -19,6 +19,7 @@ ghost use Rattle.seek.specs.Search.{FoundBy, Fits};
 
 // The user pointer and the object pointer, in the master page.
 const USERS: usize = 1018;
+
 const OBJECTS: usize = 1016;
 
 // Entry k of page q is used, has this name, and in m words this type: 2 for a file, 0 for a user.
@@ -64,7 +65,15 @@ fn index_at(i: usize, k: u32) -> u32
 }
 
 // The lowest of the 256 entries from page b of a file of entries on that fits; the file by the flags and the page of its pointer.
-fn find_in(img: &[u16], flags: u16, top: usize, b: usize, name: &[u8], kind: &[u8], m: usize) -> Found
+fn find_in(
+    img: &[u16],
+    flags: u16,
+    top: usize,
+    b: usize,
+    name: &[u8],
+    kind: &[u8],
+    m: usize,
+) -> Found
     requires { ⌜ Reach (now img) (rootBy flags top 0) × (b < 2048) × (m ≤ 2) ⌝ }
     ensures { λ r. ⌜ FoundBy (λ (n : ℕ). (n < 256) × Fits m (now (name .entry)) (now (kind .entry)) (entry (vol (now (img .entry))) (rootBy flags top 0) (32 * b + n))) r ⌝ }
 {

@@ -14,6 +14,7 @@ ghost use Rattle.book.specs.Create.{raises as raisesFor, userNeed, objectIndex,
 
 // The user pointer and the object pointer, in the master page.
 const USERS: usize = 1018;
+
 const OBJECTS: usize = 1016;
 
 // What a file of n pages takes to grow by one.

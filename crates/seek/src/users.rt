@@ -13,7 +13,9 @@ ghost use Rattle.book.specs.Calls.{HasUser};
 
 // Where unreserved stands in the master page, and a user's given and used pages in his entry.
 const UNRESERVED: usize = 1022;
+
 const GIVEN: usize = 14;
+
 const USED: usize = 16;
 
 // User u is there.
