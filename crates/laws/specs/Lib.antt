@@ -50,3 +50,4 @@ pub mod Holder
 pub mod Visits
 pub mod Who
 pub mod Singles
+pub mod Granted
