@@ -74,3 +74,4 @@ pub mod ShrinkCasesSub
 pub mod FreeCount
 pub mod Regroup
 pub mod Moved
+pub mod Granted
