@@ -1,0 +1,2 @@
+-- Laws that proofs of this crate and of its users cite.
+pub mod Blocks

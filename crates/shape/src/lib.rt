@@ -1,0 +1,2 @@
+// Rule 7, the shapes of files, and rule 10, the counts.
+pub mod block;
