@@ -4,6 +4,9 @@ use mathlib.Core.List.{List}
 use Prim.Native.Nat.{ℕ, _-_, _*_, _≤_, _<_, min}
 use lib.ListN.{getD}
 use Rattle.book.specs.Words.{Words, Vol, two}
+use Rattle.book.specs.Entries.{pageCount, filePointer}
+use Rattle.book.specs.Files.{Shape, BytesRight}
+use Rattle.book.specs.Pointers.{flags, page}
 use Rattle.book.specs.Trees.{Fill, Below}
 
 -- the tree of level l at t has positions 0 to n - 1 and no others, and all its pages are below P
@@ -31,3 +34,8 @@ shareOf n k = min (n - k * 512) 512
 -- pointers 0 to m - 1 of a subindex block of n positions lead to index blocks of their shares
 abbrev pub Indexes : ℕ → Vol → List ℕ → ℕ → ℕ → Type 0
 Indexes P v block n m = (k : ℕ) → k < m → Filled P v 1 (pointerIn block k) (shareOf n k)
+
+-- ---- a file by the words of its entry
+
+abbrev pub Shaped : ℕ → Vol → Words → Type 0
+Shaped P v w = Shape P v (flags w filePointer) (page w filePointer) (pageCount w) × BytesRight w

@@ -1,2 +1,3 @@
 // Rule 7, the shapes of files, and rule 10, the counts.
 pub mod block;
+pub mod file;
