@@ -2,3 +2,4 @@
 pub mod Deciding
 pub mod Blocks
 pub mod Files
+pub mod Objects

@@ -4,8 +4,8 @@ use mathlib.Core.List.{List}
 use Prim.Native.Nat.{ℕ, _-_, _*_, _≤_, _<_, min}
 use lib.ListN.{getD}
 use Rattle.book.specs.Words.{Words, Vol, two}
-use Rattle.book.specs.Entries.{pageCount, filePointer}
-use Rattle.book.specs.Files.{Shape, BytesRight}
+use Rattle.book.specs.Entries.{object, used, pageCount, filePointer}
+use Rattle.book.specs.Files.{Shape, FileShape, BytesRight}
 use Rattle.book.specs.Pointers.{flags, page}
 use Rattle.book.specs.Trees.{Fill, Below}
 
@@ -39,3 +39,7 @@ Indexes P v block n m = (k : ℕ) → k < m → Filled P v 1 (pointerIn block k)
 
 abbrev pub Shaped : ℕ → Vol → Words → Type 0
 Shaped P v w = Shape P v (flags w filePointer) (page w filePointer) (pageCount w) × BytesRight w
+
+-- the files of entries a to z - 1 are right
+abbrev pub FilesRight : ℕ → Vol → ℕ → ℕ → Type 0
+FilesRight P v a z = (e : ℕ) → e < z → a ≤ e → 0 < used (object v e) → FileShape P v e
