@@ -22,3 +22,5 @@ pub mod Calls
 pub mod Yard
 pub mod Written
 pub mod Coincide
+pub mod Gate
+pub mod Return

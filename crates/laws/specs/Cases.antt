@@ -7,19 +7,23 @@ use native.Mathlib.Omega.{arith}
 use Rattle.sums.specs.Sum.{sum, is, is-other, is-sym, sum-at, sum-at₂, sum-none}
 use Rattle.book.specs.Bits.{bitFile}
 use Rattle.book.specs.Entries.{userFile, objectFile, user, object, used, given, usedPages}
-use Rattle.book.specs.Files.{fileAt, Shape, FileShape}
+use Rattle.book.specs.Files.{fileAt, Shape, FileShape, need}
 use Rattle.book.specs.Grow.{finish}
 use Rattle.book.specs.Holders.{hit, all}
 use Rattle.book.specs.Pointers.{slot, flags, page, pointer, setSlot}
 use Rattle.book.specs.Rules.{Rule7}
-use Rattle.book.specs.Trees.{Root, run, weigh, blocks, weighR, pageAt, upto, leaf, rootAt, rootBy, Fill, Below}
+use Rattle.book.specs.Trees.{Root, tree, run, weigh, blocks, weighR, pageAt, indexAt, subindexOf, upto, leaf, rootAt, rootBy, Fill, Below}
 use Rattle.book.specs.Words.{Vol, two}
 use Rattle.book.specs.Written.{word-ext}
 use Rattle.laws.specs.Count.{Good, bit-le}
-use Rattle.laws.specs.Finish.{Blocks, Regrown, finish-good, finish-page, file-used}
+use Rattle.laws.specs.Finish.{Blocks, Regrown, file-used}
+use Rattle.laws.specs.Finished.{Finished, finished}
 use Rattle.laws.specs.Frame.{upto-in}
 use Rattle.laws.specs.Grown.{slot-here, slot-other, setSlot-page, setSlot-agree, Grown, grown-page, grown-block, grown-up, raise-weight, raise-fill, raise-below, raise-old, raise-at, part-old}
+use Rattle.laws.specs.Levels.{last, last-mid, last-block, last-raise, need-mid, need-block, need-raise, index-1, index-2}
+use Rattle.laws.specs.Longer.{Longer}
 use Rattle.laws.specs.Part.{rest, all-rest, rest-add, file-le, weighR-add}
+use Rattle.laws.specs.Leave.{Beside}
 use Rattle.laws.specs.Tree.{Agree, hit-zero, hit-same, some-pos, weigh-none, slot-same, blocks-le}
 
 pub hit-sym : (p d : ℕ) → hit p d ≡ hit d p
@@ -40,11 +44,34 @@ pub Agree-mono : (C D : ℕ → ℕ) (u v : Vol) → ((q : ℕ) → D q ≡ 0 �
 unfolding Agree
 Agree-mono C D u v h a q z k = a q (h q z) k
 
--- the file at e grew: the volume is as good as before, its n pages are where they were, and page n is d
-pub record Grew (P : ℕ) (v v′ : Vol) (e n d : ℕ) : Type 0 where
+-- the file at e of user a grew by position n, which has page d: the volume is as good as before, and all beside is as it was
+pub record Grew (P : ℕ) (v v′ : Vol) (a e n d : ℕ) : Type 0 where
   pub good : Good P v′ (λ p. 0)
-  pub old : (m : ℕ) → m < n → pageAt v′ (fileAt v′ e) m ≡ pageAt v (fileAt v e) m
+  pub longer : Longer v v′ a e n
+  pub beside : Beside P v v′ a e
   pub at : pageAt v′ (fileAt v′ e) n ≡ d
+
+-- from what is known of its blocks
+grew : (P : ℕ) (v v₂ v₃ : Vol) (a e n d x t y c : ℕ) (new : (ℕ → ℕ) → ℕ) → Finished P v v₂ v₃ a e c x t y (λ g. 0) new (λ p. 0) → two (object v e) 26 ≡ n → c ≡ suc n
+    → y ≡ usedPages (user v) a + need n → ((m : ℕ) → m < n → pageAt v₂ (rootBy x t c) m ≡ pageAt v (fileAt v e) m) → pageAt v₂ (rootBy x t c) n ≡ d
+    → ((g : ℕ → ℕ) → last v₂ (rootBy x t c) n g ≡ new g) → Grew P v v₃ a e n d
+unfolding last
+grew P v v₂ v₃ a e n d x t y c new F i j k old at l = record {
+  good = F .good;
+  longer = record { count = i; count′ = F .count ∙ j; entry = F .entry; spent = F .spent ∙ k; old = λ m h. F .page m ∙ old m h; weight = weight };
+  beside = F .beside;
+  at = F .page n ∙ at;
+}
+  where
+    weight : (g : ℕ → ℕ) → g 0 ≡ 0 → weighR v₃ (fileAt v₃ e) g ≡ weighR v (fileAt v e) g + last v₃ (fileAt v₃ e) n g
+    weight g g0 = omega (
+      arith,
+      F .weight g g0,
+      l g,
+      ap g (F .page n),
+      ap (λ (z : ℕ). is (n % 512) 0 * g z) (F .index (n / 512)),
+      ap (λ (r : Root). is n 512 * g (subindexOf r)) (F .root),
+    )
 
 -- a page is put at position m of index block X, which has m
 pub grown-leaf : (P : ℕ) (v : Vol) (X m d : ℕ) → 0 < X → m < 512 → 0 < d → d < P → Fill v 1 X m → Below v P 1 X → Grown P v (setSlot v X m d) 1 X X m d (λ g. g d)
@@ -99,14 +126,12 @@ module _ (P : ℕ) (v : Vol) (hand : ℕ → ℕ) (G : Good P v hand) (pos : 0 <
   -- ---- within one index block: position n of page t
   module _ (d : ℕ) (hd : d < P) (pd : 0 < d) (hand-is : (p : ℕ) → hand p ≡ hit d p) (fl : flags (object v e) 30 ≡ 1) (lt : n < 512)
       (le : usedPages (user v) a + 1 ≤ given (user v) a) where
-    pub caseB : Grew P v (finish (setSlot v t n d) U O a e (suc n) (pointer 1 t) (usedPages (user v) a + 1)) e n d
+    pub caseB : Grew P v (finish (setSlot v t n d) U O a e (suc n) (pointer 1 t) (usedPages (user v) a + 1)) a e n d
     unfolding Shape rootBy weighR Fill Below weigh pageAt
-    caseB =
-        record {
-          good = finish-good P v hand G pos big a f ha hf uf (hit t) v₂ K (suc n) 1 t (usedPages (user v) a + 1) (λ g. 0) (λ g. g d) (λ p. 0) R;
-          old = λ m h. finish-page P v hand G pos big a f ha hf uf (hit t) v₂ K (suc n) 1 t (usedPages (user v) a + 1) (λ g. 0) (λ g. g d) (λ p. 0) R m ∙ ap (upto m 512) (W .old m h) ∙ sym (ap (λ (r : Root). pageAt v r m) (root-is 1 fl));
-          at = finish-page P v hand G pos big a f ha hf uf (hit t) v₂ K (suc n) 1 t (usedPages (user v) a + 1) (λ g. 0) (λ g. g d) (λ p. 0) R n ∙ upto-in n 512 (leaf v₂ 1 t n) lt ∙ W .at;
-        }
+    caseB = grew P v v₂ _ a e n d 1 t _ (suc n) (λ g. g d)
+        (finished P v hand G pos big a f ha hf uf (hit t) v₂ K (suc n) 1 t (usedPages (user v) a + 1) (λ g. 0) (λ g. g d) (λ p. 0) R)
+        refl refl (ap (λ (k : ℕ). usedPages (user v) a + k) (sym (need-mid n mid)))
+        (λ m h. ap (upto m 512) (W .old m h) ∙ sym (ap (λ (r : Root). pageAt v r m) (root-is 1 fl))) at (λ g. last-mid v₂ (tree 1 t) n g mid ∙ ap g at)
       where
         S : Shape P v 1 t n
         S = shape-is 1 fl
@@ -139,20 +164,24 @@ module _ (P : ℕ) (v : Vol) (hand : ℕ → ℕ) (G : Good P v hand) (pos : 0 <
           within = le;
         }
 
+        mid : 0 < n % 512
+        mid = omega (arith, S .0)
+
+        at : upto n 512 (leaf v₂ 1 t n) ≡ d
+        at = upto-in n 512 (leaf v₂ 1 t n) lt ∙ W .at
+
   -- ---- within an index block under the subindex: position n % 512 of block n / 512
   module _ (d : ℕ) (hd : d < P) (pd : 0 < d) (hand-is : (p : ℕ) → hand p ≡ hit d p) (fl : flags (object v e) 30 ≡ 2) (lt : n < 262144) (mid : 0 < n % 512)
       (le : usedPages (user v) a + 1 ≤ given (user v) a) where
     abbrev X : ℕ
     X = slot v t (n / 512)
 
-    pub caseD : Grew P v (finish (setSlot v X (n % 512) d) U O a e (suc n) (pointer 2 t) (usedPages (user v) a + 1)) e n d
+    pub caseD : Grew P v (finish (setSlot v X (n % 512) d) U O a e (suc n) (pointer 2 t) (usedPages (user v) a + 1)) a e n d
     unfolding Shape rootBy weighR Fill Below weigh blocks pageAt
-    caseD =
-        record {
-          good = finish-good P v hand G pos big a f ha hf uf (hit X) v₂ K (suc n) 2 t (usedPages (user v) a + 1) (λ g. 0) (λ g. g d) (λ p. 0) R;
-          old = λ m h. finish-page P v hand G pos big a f ha hf uf (hit X) v₂ K (suc n) 2 t (usedPages (user v) a + 1) (λ g. 0) (λ g. g d) (λ p. 0) R m ∙ ap (upto m 262144) (W .old m h) ∙ sym (ap (λ (r : Root). pageAt v r m) (root-is 2 fl));
-          at = finish-page P v hand G pos big a f ha hf uf (hit X) v₂ K (suc n) 2 t (usedPages (user v) a + 1) (λ g. 0) (λ g. g d) (λ p. 0) R n ∙ upto-in n 262144 (leaf v₂ 2 t n) lt ∙ W .at;
-        }
+    caseD = grew P v v₂ _ a e n d 2 t _ (suc n) (λ g. g d)
+        (finished P v hand G pos big a f ha hf uf (hit X) v₂ K (suc n) 2 t (usedPages (user v) a + 1) (λ g. 0) (λ g. g d) (λ p. 0) R)
+        refl refl (ap (λ (k : ℕ). usedPages (user v) a + k) (sym (need-mid n mid)))
+        (λ m h. ap (upto m 262144) (W .old m h) ∙ sym (ap (λ (r : Root). pageAt v r m) (root-is 2 fl))) pg (λ g. last-mid v₂ (tree 2 t) n g mid ∙ ap g pg)
       where
         S : Shape P v 2 t n
         S = shape-is 2 fl
@@ -212,17 +241,19 @@ module _ (P : ℕ) (v : Vol) (hand : ℕ → ℕ) (G : Good P v hand) (pos : 0 <
           within = le;
         }
 
+        pg : upto n 262144 (leaf v₂ 2 t n) ≡ d
+        pg = upto-in n 262144 (leaf v₂ 2 t n) lt ∙ W .at
+
   -- ---- an empty file: index block b with its first page
   module _ (d b : ℕ) (hd : d < P) (hb : b < P) (pd : 0 < d) (pb : 0 < b) (hand-is : (p : ℕ) → hand p ≡ hit d p + hit b p) (bare : (j : ℕ) → slot v b j ≡ 0)
       (fl : flags (object v e) 30 ≡ 0) (n0 : n ≡ 0) (le : usedPages (user v) a + 2 ≤ given (user v) a) where
-    pub caseA : Grew P v (finish (setSlot v b 0 d) U O a e 1 (pointer 1 b) (usedPages (user v) a + 2)) e n d
+    pub caseA : Grew P v (finish (setSlot v b 0 d) U O a e 1 (pointer 1 b) (usedPages (user v) a + 2)) a e n d
     unfolding Shape rootBy weighR sum Below pageAt
-    caseA =
-        record {
-          good = finish-good P v hand G pos big a f ha hf uf (hit b) v₂ K 1 1 b (usedPages (user v) a + 2) (λ g. 0) (λ g. g b + g d) (λ p. 0) R;
-          old = λ m h. finish-page P v hand G pos big a f ha hf uf (hit b) v₂ K 1 1 b (usedPages (user v) a + 2) (λ g. 0) (λ g. g b + g d) (λ p. 0) R m ∙ absurd (let r : ⊥ = omega (arith, n0) in r);
-          at = finish-page P v hand G pos big a f ha hf uf (hit b) v₂ K 1 1 b (usedPages (user v) a + 2) (λ g. 0) (λ g. g b + g d) (λ p. 0) R n ∙ upto-in n 512 (leaf v₂ 1 b n) (omega (arith, n0)) ∙ ap (leaf v₂ 1 b) n0 ∙ W .at;
-        }
+    caseA = grew P v v₂ _ a e n d 1 b _ 1 (λ g. g b + g d)
+        (finished P v hand G pos big a f ha hf uf (hit b) v₂ K 1 1 b (usedPages (user v) a + 2) (λ g. 0) (λ g. g b + g d) (λ p. 0) R)
+        refl (sym (ap suc n0)) (ap (λ (k : ℕ). usedPages (user v) a + k) (sym (need-block n (omega (arith, n0)) (omega (arith, n0)))))
+        (λ m h. absurd (let r : ⊥ = omega (arith, n0) in r)) pg
+        (λ g. omega (arith, last-block v₂ (tree 1 b) n g (omega (arith, n0)) (omega (arith, n0)), ap g pg, ap g (ap (indexAt v₂ (tree 1 b)) (let q : n / 512 ≡ 0 = omega (arith, n0) in q) ∙ index-1 v₂ b)))
       where
         v₂ : Vol
         v₂ = setSlot v b 0 d
@@ -247,17 +278,19 @@ module _ (P : ℕ) (v : Vol) (hand : ℕ → ℕ) (G : Good P v hand) (pos : 0 <
           within = le;
         }
 
+        pg : upto n 512 (leaf v₂ 1 b n) ≡ d
+        pg = upto-in n 512 (leaf v₂ 1 b n) (omega (arith, n0)) ∙ ap (leaf v₂ 1 b) n0 ∙ W .at
+
   -- ---- a new index block under the subindex
   module _ (d b : ℕ) (hd : d < P) (hb : b < P) (pd : 0 < d) (pb : 0 < b) (hand-is : (p : ℕ) → hand p ≡ hit d p + hit b p) (bare : (j : ℕ) → slot v b j ≡ 0)
       (fl : flags (object v e) 30 ≡ 2) (lt : n < 262144) (start : n % 512 ≡ 0) (le : usedPages (user v) a + 2 ≤ given (user v) a) where
-    pub caseE : Grew P v (finish (setSlot (setSlot v t (n / 512) b) b 0 d) U O a e (suc n) (pointer 2 t) (usedPages (user v) a + 2)) e n d
+    pub caseE : Grew P v (finish (setSlot (setSlot v t (n / 512) b) b 0 d) U O a e (suc n) (pointer 2 t) (usedPages (user v) a + 2)) a e n d
     unfolding Shape rootBy weighR Fill Below weigh blocks pageAt
-    caseE =
-        record {
-          good = finish-good P v hand G pos big a f ha hf uf D v₂ K (suc n) 2 t (usedPages (user v) a + 2) (λ g. 0) (λ g. g b + g d) (λ p. 0) R;
-          old = λ m h. finish-page P v hand G pos big a f ha hf uf D v₂ K (suc n) 2 t (usedPages (user v) a + 2) (λ g. 0) (λ g. g b + g d) (λ p. 0) R m ∙ ap (upto m 262144) (W .old m h) ∙ sym (ap (λ (r : Root). pageAt v r m) (root-is 2 fl));
-          at = finish-page P v hand G pos big a f ha hf uf D v₂ K (suc n) 2 t (usedPages (user v) a + 2) (λ g. 0) (λ g. g b + g d) (λ p. 0) R n ∙ upto-in n 262144 (leaf v₂ 2 t n) lt ∙ W .at;
-        }
+    caseE = grew P v v₂ _ a e n d 2 t _ (suc n) (λ g. g b + g d)
+        (finished P v hand G pos big a f ha hf uf D v₂ K (suc n) 2 t (usedPages (user v) a + 2) (λ g. 0) (λ g. g b + g d) (λ p. 0) R)
+        refl refl (ap (λ (k : ℕ). usedPages (user v) a + k) (sym (need-block n start (omega (arith, S .0)))))
+        (λ m h. ap (upto m 262144) (W .old m h) ∙ sym (ap (λ (r : Root). pageAt v r m) (root-is 2 fl))) pg
+        (λ g. omega (arith, last-block v₂ (tree 2 t) n g start (omega (arith, S .0)), ap g pg, ap g (index-2 v₂ t (n / 512) i ∙ now)))
       where
         S : Shape P v 2 t n
         S = shape-is 2 fl
@@ -333,18 +366,21 @@ module _ (P : ℕ) (v : Vol) (hand : ℕ → ℕ) (G : Good P v hand) (pos : 0 <
           within = le;
         }
 
+        pg : upto n 262144 (leaf v₂ 2 t n) ≡ d
+        pg = upto-in n 262144 (leaf v₂ 2 t n) lt ∙ W .at
+
   -- ---- the index block is full: a subindex block s over it and over a new one
   module _ (d b s : ℕ) (hd : d < P) (hb : b < P) (hs : s < P) (pd : 0 < d) (pb : 0 < b) (ps : 0 < s) (hand-is : (p : ℕ) → hand p ≡ hit d p + hit b p + hit s p)
       (bare : (j : ℕ) → slot v b j ≡ 0) (bare′ : (j : ℕ) → slot v s j ≡ 0)
       (fl : flags (object v e) 30 ≡ 1) (full : n ≡ 512) (le : usedPages (user v) a + 3 ≤ given (user v) a) where
-    pub caseC : Grew P v (finish (setSlot (setSlot (setSlot v s 0 t) s 1 b) b 0 d) U O a e 513 (pointer 2 s) (usedPages (user v) a + 3)) e n d
-    unfolding Shape rootBy weighR Fill Below weigh blocks pageAt
-    caseC =
-        record {
-          good = finish-good P v hand G pos big a f ha hf uf D v₃ K 513 2 s (usedPages (user v) a + 3) (λ g. 0) (λ g. g s + (g b + g d)) (λ p. 0) R;
-          old = λ m h. finish-page P v hand G pos big a f ha hf uf D v₃ K 513 2 s (usedPages (user v) a + 3) (λ g. 0) (λ g. g s + (g b + g d)) (λ p. 0) R m ∙ upto-in m 262144 (leaf v₃ 2 s m) (omega (arith, full)) ∙ raise-old P v v₃ D agree 1 t s b d (λ g. g b + g d) pos ps hs s0 s1 so bz F B W m (omega (arith, full)) ∙ sym (upto-in m 512 (leaf v 1 t m) (omega (arith, full))) ∙ sym (ap (λ (r : Root). pageAt v r m) (root-is 1 fl));
-          at = finish-page P v hand G pos big a f ha hf uf D v₃ K 513 2 s (usedPages (user v) a + 3) (λ g. 0) (λ g. g s + (g b + g d)) (λ p. 0) R n ∙ upto-in n 262144 (leaf v₃ 2 s n) (omega (arith, full)) ∙ ap (leaf v₃ 2 s) full ∙ raise-at P v v₃ D agree 1 t s b d (λ g. g b + g d) pos ps hs s0 s1 so bz F B W;
-        }
+    pub caseC : Grew P v (finish (setSlot (setSlot (setSlot v s 0 t) s 1 b) b 0 d) U O a e 513 (pointer 2 s) (usedPages (user v) a + 3)) a e n d
+    unfolding Shape rootBy weighR Fill Below weigh blocks pageAt subindexOf
+    caseC = grew P v v₃ _ a e n d 2 s _ 513 (λ g. g s + (g b + g d))
+        (finished P v hand G pos big a f ha hf uf D v₃ K 513 2 s (usedPages (user v) a + 3) (λ g. 0) (λ g. g s + (g b + g d)) (λ p. 0) R)
+        refl (sym (ap suc full)) (ap (λ (k : ℕ). usedPages (user v) a + k) (sym (need-raise n full)))
+        (λ m h. upto-in m 262144 (leaf v₃ 2 s m) (omega (arith, full)) ∙ raise-old P v v₃ D agree 1 t s b d (λ g. g b + g d) pos ps hs s0 s1 so bz F B W m (omega (arith, full))
+        ∙ sym (upto-in m 512 (leaf v 1 t m) (omega (arith, full))) ∙ sym (ap (λ (r : Root). pageAt v r m) (root-is 1 fl))) pg
+        (λ g. omega (arith, last-raise v₃ (tree 2 s) n g full, ap g pg, ap g (ap (indexAt v₃ (tree 2 s)) (let q : n / 512 ≡ 1 = omega (arith, full) in q) ∙ index-2 v₃ s 1 (omega arith) ∙ s1)))
       where
         S : Shape P v 1 t n
         S = shape-is 1 fl
@@ -425,3 +461,6 @@ module _ (P : ℕ) (v : Vol) (hand : ℕ → ℕ) (G : Good P v hand) (pos : 0 <
           count = omega (arith, some-pos d pd, some-pos b pb, some-pos s ps);
           within = le;
         }
+
+        pg : upto n 262144 (leaf v₃ 2 s n) ≡ d
+        pg = upto-in n 262144 (leaf v₃ 2 s n) (omega (arith, full)) ∙ ap (leaf v₃ 2 s) full ∙ raise-at P v v₃ D agree 1 t s b d (λ g. g b + g d) pos ps hs s0 s1 so bz F B W

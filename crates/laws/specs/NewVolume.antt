@@ -1,10 +1,10 @@
 -- A freshly formatted volume is sound: for every number of pages, every name and every bit page. Assumes nothing.
 use mathlib.Core.Path.{_≡_, refl, sym, ap, _∙_, subst}
-use mathlib.Core.Logic.{_⊎_, inl, inr}
+use mathlib.Core.Logic.{_≢_, _⊎_, inl, inr}
 use mathlib.Core.List.{List}
 use Prim.Native.Nat.{ℕ, zero, suc, _+_, _-_, _/_, _%_, _≤_, _<_}
 use native.Mathlib.Nat.{not-suc-le-zero}
-use native.Mathlib.Decide.{ℕ-discrete}
+use native.Mathlib.Decide.{ℕ-discrete, decLt}
 use native.Mathlib.Omega.{arith}
 use Rattle.sums.specs.Sum.{sum, is, is-same, is-other, sum-suc, sum-zero, sum-ext, sum-const}
 use Rattle.book.specs.Words.{Vol, two, put2, putWords, wipe}
@@ -19,7 +19,8 @@ use Rattle.book.specs.Format.{wipeRun, markRun, directory, format}
 use Rattle.book.specs.Written.{word-pos, put2-hi, put2-lo, put2-two, put2-word, putWords-here, wipe-here, wipe-page}
 use Rattle.laws.specs.Tree.{hit-same, hit-other, some-pos, two-ext}
 use Rattle.laws.specs.Claim.{bitPage-is, bitPage-pos}
-use Rattle.laws.specs.Release.{mark-master, mark-bit, mark-other}
+use Rattle.laws.specs.Places.{Places, WordsOf, RunOf, Either, OnlyAt, only-wider, only-then, only-put2, only-putWords}
+use Rattle.laws.specs.Release.{mark-page, mark-master, mark-bit, mark-other}
 use Rattle.laws.specs.Format.{Formatted, format-sound}
 use Rattle.laws.specs.Packed.{packed-legal}
 
@@ -38,6 +39,19 @@ wipeRun-in v s (suc n) i k h = elim (ℕ-discrete i n) [
   | yes e ↦ ap (λ (x : ℕ). wipe (wipeRun v s n) (s + n) (s + x) k) e ∙ wipe-here (wipeRun v s n) (s + n) k
   | no ne ↦ wipe-page (wipeRun v s n) (s + n) (s + i) k (omega arith) ∙ wipeRun-in v s n i k (omega arith)
 ]
+
+markRun-none : (P : ℕ) (v : Vol) (s p k : ℕ) → markRun P v s 0 p k ≡ v p k
+unfolding markRun
+markRun-none P v s p k = refl
+
+markRun-more : (P : ℕ) (v : Vol) (s m p k : ℕ) → markRun P v s (suc m) p k ≡ mark P (markRun P v s m) (s + m) 1 p k
+unfolding markRun
+markRun-more P v s m p k = refl
+
+-- the bit page of a page below P is one of the bit file's
+bits-few : (P d : ℕ) → d < P → d / 16384 < bitPages P
+unfolding bitPages
+bits-few P d h = omega arith
 
 digit-none : (j : ℕ) → digit j 0 ≡ 0
 unfolding digit
@@ -185,3 +199,52 @@ module _ (P : ℕ) (v : Vol) (name : List ℕ) (b : ℕ) (T : NameText name) (A 
 
       pub formatted-sound : Sound P (format P v name b)
       formatted-sound = format-sound P (format P v name b) pos formatted
+
+      -- ---- every other word stays
+
+      -- the words written: the directory entry and the bit file
+      pub format-only : OnlyAt (Either (WordsOf 0 1008 16) (RunOf b n)) v (format P v name b)
+      unfolding format directory
+      format-only p k a = run n (omega arith) ∙ marked 0 pos w₁ same₁ ∙ wiped ∙ master
+        where
+          off : (p < b) ⊎ (b + n ≤ p)
+          off = elim (decLt p b) [
+            | yes h ↦ inl h
+            | no h ↦ elim (decLt p (b + n)) [
+              | yes i ↦ absurd (a (inr (omega arith, i)))
+              | no i ↦ inr (omega arith)
+            ]
+          ]
+
+          master : w₀ p k ≡ v p k
+          master = only-wider _ (WordsOf 0 1008 16) v w₀ (λ q j h. wide q j h)
+              (only-then _ _ v _ _ (only-then _ _ v _ _ (only-then _ _ v _ _ (only-then _ _ v _ _ (only-putWords v 0 1008 8 (packed name)) (only-put2 _ 0 1016 0)) (only-put2 _ 0 1018 0)) (only-put2 _ 0 1020 (pointer 0 b))) (only-put2 _ 0 1022 (P - 1 - n)))
+              p k (λ h. a (inl h))
+            where
+              wide : (q j : ℕ) → Either (Either (Either (Either (WordsOf 0 1008 8) (WordsOf 0 1016 2)) (WordsOf 0 1018 2)) (WordsOf 0 1020 2)) (WordsOf 0 1022 2) q j → WordsOf 0 1008 16 q j
+              wide q j (inl (inl (inl (inl h)))) = (h .0, omega (arith, h .1), omega (arith, h .2))
+              wide q j (inl (inl (inl (inr h)))) = (h .0, omega (arith, h .1), omega (arith, h .2))
+              wide q j (inl (inl (inr h))) = (h .0, omega (arith, h .1), omega (arith, h .2))
+              wide q j (inl (inr h)) = (h .0, omega (arith, h .1), omega (arith, h .2))
+              wide q j (inr h) = (h .0, omega (arith, h .1), omega (arith, h .2))
+
+          wiped : w₁ p k ≡ w₀ p k
+          wiped = wipeRun-out w₀ b n p k off
+
+          -- a bit is in the bit file
+          inside : (d : ℕ) → d < P → (w : Vol) → ((k : ℕ) → w 0 k ≡ w₀ 0 k) → p ≢ bitPage P w d
+          inside d h w same e = out off (omega (arith, e, bitPage-is P w (rule-1 w same) d h, bits-page w same)) (omega (arith, e, bitPage-is P w (rule-1 w same) d h, bits-page w same, few d h))
+            where
+              few : (d : ℕ) → d < P → d / 16384 < n
+              few d h = bits-few P d h
+
+              out : (p < b) ⊎ (b + n ≤ p) → b ≤ p → p < b + n → ⊥
+              out (inl x) y z = omega arith
+              out (inr x) y z = omega arith
+
+          marked : (d : ℕ) → d < P → (w : Vol) → ((k : ℕ) → w 0 k ≡ w₀ 0 k) → mark P w d 1 p k ≡ w p k
+          marked d h w same = mark-page P w (rule-1 w same) d 1 h (omega arith) p k (inside d h w same)
+
+          run : (m : ℕ) → m ≤ n → markRun P w₂ b m p k ≡ w₂ p k
+          run zero h = markRun-none P w₂ b p k
+          run (suc m) h = markRun-more P w₂ b m p k ∙ marked (b + m) (omega (arith, A .1)) (markRun P w₂ b m) (same₃ m (omega arith)) ∙ run m (omega arith)

@@ -1,6 +1,5 @@
 -- Parts of an image that are written and come back. Assumes nothing.
-use mathlib.Core.Path.{_≡_, refl, sym, ap, ap₂, _∙_, fun-ext}
-use mathlib.Core.Logic.{_≢_}
+use mathlib.Core.Path.{_≡_, sym, ap, ap₂, _∙_, fun-ext}
 use mathlib.Core.List.{List, _++_}
 use Prim.Native.Nat.{ℕ, _+_, _-_, _*_, _≤_, _<_}
 use native.Mathlib.Nat.{add-sub-cancel-left}
@@ -9,7 +8,7 @@ use native.Mathlib.Omega.{arith}
 use lib.ListN.{length, getD, take, drop, set, List·getD-append}
 use lib.Seq.{length-take-le, getD-take, getD-drop, getD-append-add, getD-set-same, getD-set-other}
 use borrow.Rule.Slice.PartMut.{midOf, postOf, putMid, mid-len}
-use Rattle.book.specs.Words.{Words, Vol, vol, putWords, wipe, zeros}
+use Rattle.book.specs.Words.{Words, vol, putWords, wipe, zeros}
 use Rattle.book.specs.Written.{vol-in, vol-out, putWords-here, putWords-page, putWords-low, putWords-high, wipe-here, wipe-page}
 use Rattle.page.specs.Parts.{Begins}
 

@@ -1,51 +1,39 @@
+-- `page::entry::clear_entry` meets its contract. Assumes nothing.
 use Prim.Native.Nat.{_+_, _*_}
 use native.Mathlib.Omega.{arith}
+use borrow.Author.Needs.{needs}
 use Rattle.book.specs.Words.{zeros}
 use Rattle.page.proofs.Parts.{vol-part}
-use borrow.Author.Needs.{needs}
 use Rattle.page.proofs.entry.clear_entry.Statement.{statement}
 use Rattle.page.proofs.entry.clear_entry.Tie as tie
-use Rattle.page.proofs.entry.clear_entry.Reads as reads
-use Rattle.page.proofs.entry.clear_entry.Lts as lts
-use Rattle.page.proofs.write.zero_words.Reads as zero-words-reads
 
--- src/entry.rt:34:13
 mul-a : tie.Need-mul-a
 mul-a c = search needs
 
--- src/entry.rt:34:13
 add-a : tie.Need-add-a
 add-a c = search needs
 
--- src/entry.rt:35:13
 add-z : tie.Need-add-z
 add-z c = search needs
 
--- src/entry.rt:36:16
 mul-zero-words : tie.Need-mul-zero-words
 mul-zero-words c = search needs
 
--- src/entry.rt:36:16
 sub-zero-words : tie.Need-sub-zero-words
 sub-zero-words c = search needs
 
--- src/entry.rt:36:16
 part-zero-words-start : tie.Need-part-zero-words-start
 part-zero-words-start c = search needs
 
--- src/entry.rt:36:16
 part-zero-words-end : tie.Need-part-zero-words-end
 part-zero-words-end c = search needs
 
--- src/entry.rt:36:5
 zero-words-requires : tie.Need-zero-words-requires
 zero-words-requires c κs = search needs
 
--- src/entry.rt:30:1
 same-length : tie.Need-same-length
 same-length c = search needs
 
--- src/entry.rt:30:1
 returns : tie.Need-returns
 returns c =
     let a = c .before .before .before .before .before .args in

@@ -1,25 +1,20 @@
+-- `page::names::byte_or_zero` meets its contract. Assumes nothing.
 use mathlib.Core.Path.{refl, sym}
 use native.Mathlib.Omega.{arith}
 use lib.ListN.{List·getD-eq-default}
 use borrow.Author.Needs.{needs}
 use Rattle.page.proofs.names.byte_or_zero.Statement.{statement}
 use Rattle.page.proofs.names.byte_or_zero.Tie as tie
-use Rattle.page.proofs.names.byte_or_zero.Reads as reads
-use Rattle.page.proofs.names.byte_or_zero.Lts as lts
 
--- src/names.rt:137:9
 shared-slice-read-result : tie.Need-shared-slice-read-result
 shared-slice-read-result c = search needs
 
--- src/names.rt:137:9
 cast-result : tie.Need-cast-result
 cast-result c = omega (arith, c .shared-slice-known .given (c .before .before .args .i))
 
--- src/names.rt:133:1
 returns : tie.Need-returns
 returns c = (refl, c .shared-slice-known .given (c .before .before .args .i) .fits)
 
--- src/names.rt:133:1
 returns-2 : tie.Need-returns-2
 returns-2 c = (sym (List·getD-eq-default (c .before .args .s .now) 0 (c .if1 .left)), omega arith)
 

@@ -1,3 +1,4 @@
+-- `page::names::letter` meets its contract. Assumes nothing.
 use mathlib.Core.Path.{_≡_}
 use mathlib.Core.Logic.{inl, inr}
 use Prim.Native.Nat.{ℕ, _≤_}
@@ -5,8 +6,6 @@ use native.Mathlib.Omega.{arith}
 use Rattle.book.specs.Names.{Letter}
 use Rattle.page.proofs.names.letter.Statement.{statement}
 use Rattle.page.proofs.names.letter.Tie as tie
-use Rattle.page.proofs.names.letter.Reads as reads
-use Rattle.page.proofs.names.letter.Lts as lts
 
 other : (b : ℕ) → (65 ≤ b → b ≤ 90 → ⊥) → (48 ≤ b → b ≤ 57 → ⊥) → (b ≡ 45 → ⊥) → Letter b → ⊥
 unfolding Letter
@@ -14,29 +13,23 @@ other b l d h (inl e) = l (e .0) (e .1)
 other b l d h (inr (inl e)) = d (e .0) (e .1)
 other b l d h (inr (inr e)) = h e
 
--- src/names.rt:14:1
 returns : tie.Need-returns
 returns c = other _ (λ l h. omega arith) (λ l h. omega arith) (λ e. omega arith)
 
--- src/names.rt:14:1
 returns-2 : tie.Need-returns-2
 returns-2 c = other _ (λ l h. omega arith) (λ l h. omega arith) (λ e. omega arith)
 
--- src/names.rt:14:1
 returns-3 : tie.Need-returns-3
 returns-3 c = other _ (λ l h. omega arith) (λ l h. omega arith) (λ e. omega arith)
 
--- src/names.rt:14:1
 returns-4 : tie.Need-returns-4
 unfolding Letter
 returns-4 c = inr (inr (omega arith))
 
--- src/names.rt:14:1
 returns-5 : tie.Need-returns-5
 unfolding Letter
 returns-5 c = inr (inl (omega arith, omega arith))
 
--- src/names.rt:14:1
 returns-6 : tie.Need-returns-6
 unfolding Letter
 returns-6 c = inl (omega arith, omega arith)

@@ -1,7 +1,8 @@
-use borrow.Author.Count.{below-more}
-use mathlib.Core.Path.{_≡_, sym, subst}
+-- `page::names::letters_at` meets its contract. Assumes nothing.
+use mathlib.Core.Path.{_≡_, subst}
 use Prim.Native.Nat.{ℕ, _+_, _*_, _/_, _≤_, _<_, _-_}
 use native.Mathlib.Omega.{arith}
+use borrow.Author.Count.{below-more}
 use borrow.Author.Needs.{needs}
 use Rattle.book.specs.Words.{vol}
 use Rattle.book.specs.Names.{Letter, byteAt}
@@ -9,44 +10,32 @@ use Rattle.book.specs.Decides.{holds, fails}
 use Rattle.page.proofs.Stored.{byte-high, byte-low, word-more}
 use Rattle.page.proofs.names.letters_at.Statement.{statement}
 use Rattle.page.proofs.names.letters_at.Tie as tie
-use Rattle.page.proofs.names.letters_at.Reads as reads
-use Rattle.page.proofs.names.letters_at.Lts as lts
-use Rattle.page.proofs.names.high.Reads as high-reads
-use Rattle.page.proofs.names.letter.Reads as letter-reads
-use Rattle.page.proofs.names.low.Reads as low-reads
-use Rattle.page.proofs.read.word_at.Reads as word-at-reads
 
+-- both bytes of each word passed are letters
 abbrev Inv-loop : tie.InvT-loop
 Inv-loop img p k n i₀ i = (i ≤ n / 2) × ((j : ℕ) → j < 2 * i → Letter (byteAt (vol img p) k j))
 
 abbrev μ-loop : tie.MeasureT-loop
 μ-loop img p k n i₀ i = n / 2 - i
 
--- src/names.rt:61:5
 loop-holds : tie.Need-loop-holds Inv-loop μ-loop
 loop-holds c = (omega arith, λ j h. absurd (let r : ⊥ = omega arith in r))
 
--- src/names.rt:62:33
 add-word-at : tie.Need-add-word-at Inv-loop μ-loop
 add-word-at c = omega arith
 
--- src/names.rt:62:13
 word-at-requires : tie.Need-word-at-requires Inv-loop μ-loop
 word-at-requires c κs = omega arith
 
--- src/names.rt:63:20
 high-requires : tie.Need-high-requires Inv-loop μ-loop
 high-requires c κs = search needs
 
--- src/names.rt:63:13
 letter-requires : tie.Need-letter-requires Inv-loop μ-loop
 letter-requires c κs = search needs
 
--- src/names.rt:64:20
 mul-result : tie.Need-mul-result Inv-loop μ-loop
 mul-result c = omega arith
 
--- src/names.rt:64:13
 returns : tie.Need-returns Inv-loop μ-loop
 returns c =
     let a = c .before .before .before .before .before .before .before .args in
@@ -55,23 +44,18 @@ returns c =
     let e : byteAt (vol (a .img .now) (a .p)) (a .k) (2 * l .i) ≡ c .before .before .high .result = omega (arith, byte-high (vol (a .img .now) (a .p)) (a .k) (l .i)) in
     record { most = omega arith; before = l .inv .1; stops = λ h b. fails (t .result) _ (t .ensures) (c .if1 .taken) (subst Letter e b) }
 
--- src/names.rt:66:20
 low-requires : tie.Need-low-requires Inv-loop μ-loop
 low-requires c κs = search needs
 
--- src/names.rt:66:13
 letter-requires-2 : tie.Need-letter-requires-2 Inv-loop μ-loop
 letter-requires-2 c κs = search needs
 
--- src/names.rt:67:20
 mul-result-2 : tie.Need-mul-result-2 Inv-loop μ-loop
 mul-result-2 c = omega arith
 
--- src/names.rt:67:20
 add-result : tie.Need-add-result Inv-loop μ-loop
 add-result c = omega arith
 
--- src/names.rt:67:13
 returns-2 : tie.Need-returns-2 Inv-loop μ-loop
 returns-2 c =
     let a = c .before .before .before .before .before .before .before .before .before .before .args in
@@ -87,15 +71,12 @@ returns-2 c =
       stops = λ h b. fails (t .result) _ (t .ensures) (c .if2 .taken) (subst Letter e b);
     }
 
--- src/names.rt:69:9
 add-i : tie.Need-add-i Inv-loop μ-loop
 add-i c = omega arith
 
--- src/names.rt:61:5
 loop-less : tie.Need-loop-less Inv-loop μ-loop
 loop-less c = omega arith
 
--- src/names.rt:61:5
 loop-again : tie.Need-loop-again Inv-loop μ-loop
 loop-again c =
     let a = c .before .before .before .before .before .before .before .before .before .before .args in
@@ -111,7 +92,6 @@ loop-again c =
           (subst Letter e (holds (t .result) _ (t .ensures) (c .if2 .left))),
     )
 
--- src/names.rt:56:1
 returns-3 : tie.Need-returns-3 Inv-loop μ-loop
 returns-3 c =
     let l = c .before .loop in

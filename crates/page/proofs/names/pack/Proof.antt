@@ -1,3 +1,4 @@
+-- `page::names::pack` meets its contract. Assumes nothing.
 use mathlib.Core.Path.{_≡_, refl}
 use Prim.Native.Nat.{_≤_, _-_}
 use native.Mathlib.Omega.{arith}
@@ -8,51 +9,40 @@ use Rattle.page.specs.Parts.{Begins}
 use Rattle.page.proofs.Parts.{begins-more}
 use Rattle.page.proofs.names.pack.Statement.{statement}
 use Rattle.page.proofs.names.pack.Tie as tie
-use Rattle.page.proofs.names.pack.Reads as reads
-use Rattle.page.proofs.names.pack.Lts as lts
-use Rattle.page.proofs.names.packed_word.Reads as packed-word-reads
 
+-- the words passed are those of the stored form
 abbrev Inv-loop : tie.InvT-loop
 Inv-loop part₀ s i₀ part i = (i ≤ length part₀) × (length part ≡ length part₀) × Begins i part (packed s)
 
 abbrev μ-loop : tie.MeasureT-loop
 μ-loop part₀ s i₀ part i = length part₀ - i
 
--- src/names.rt:172:5
 loop-holds : tie.Need-loop-holds Inv-loop μ-loop
 loop-holds c = (omega arith, refl, below-none _)
 
--- src/names.rt:173:19
 packed-word-requires : tie.Need-packed-word-requires Inv-loop μ-loop
 packed-word-requires c κs = omega arith
 
--- src/names.rt:173:9
 mul-part : tie.Need-mul-part Inv-loop μ-loop
 mul-part c = omega arith
 
--- src/names.rt:173:9
 slice-write-part : tie.Need-slice-write-part Inv-loop μ-loop
 slice-write-part c = omega arith
 
--- src/names.rt:174:9
 add-i : tie.Need-add-i Inv-loop μ-loop
 add-i c = omega arith
 
--- src/names.rt:172:5
 loop-less : tie.Need-loop-less Inv-loop μ-loop
 loop-less c = omega arith
 
--- src/names.rt:172:5
 loop-again : tie.Need-loop-again Inv-loop μ-loop
 loop-again c =
     let l = c .before .before .loop in
     (omega arith, simp length-set (l .inv .1), begins-more (l .i) (l .part) _ _ (omega arith) (l .inv .2) (c .packed-word .ensures))
 
--- src/names.rt:167:1
 same-length : tie.Need-same-length Inv-loop μ-loop
 same-length c = c .before .loop .inv .1
 
--- src/names.rt:167:1
 returns : tie.Need-returns Inv-loop μ-loop
 returns c k h = c .before .loop .inv .2 k (omega arith)
 

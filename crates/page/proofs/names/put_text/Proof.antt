@@ -1,51 +1,39 @@
+-- `page::names::put_text` meets its contract. Assumes nothing.
 use Prim.Native.Nat.{_+_, _*_}
 use native.Mathlib.Omega.{arith}
+use borrow.Author.Needs.{needs}
 use Rattle.book.specs.Names.{packed}
 use Rattle.page.proofs.Parts.{vol-part}
-use borrow.Author.Needs.{needs}
 use Rattle.page.proofs.names.put_text.Statement.{statement}
 use Rattle.page.proofs.names.put_text.Tie as tie
-use Rattle.page.proofs.names.put_text.Reads as reads
-use Rattle.page.proofs.names.put_text.Lts as lts
-use Rattle.page.proofs.names.pack.Reads as pack-reads
 
--- src/names.rt:183:13
 mul-a : tie.Need-mul-a
 mul-a c = search needs
 
--- src/names.rt:183:13
 add-a : tie.Need-add-a
 add-a c = search needs
 
--- src/names.rt:184:13
 add-z : tie.Need-add-z
 add-z c = search needs
 
--- src/names.rt:185:10
 mul-pack : tie.Need-mul-pack
 mul-pack c = search needs
 
--- src/names.rt:185:10
 sub-pack : tie.Need-sub-pack
 sub-pack c = search needs
 
--- src/names.rt:185:10
 part-pack-start : tie.Need-part-pack-start
 part-pack-start c = search needs
 
--- src/names.rt:185:10
 part-pack-end : tie.Need-part-pack-end
 part-pack-end c = search needs
 
--- src/names.rt:185:5
 pack-requires : tie.Need-pack-requires
 pack-requires c κs = search needs
 
--- src/names.rt:179:1
 same-length : tie.Need-same-length
 same-length c = search needs
 
--- src/names.rt:179:1
 returns : tie.Need-returns
 returns c =
     let a = c .before .before .before .before .before .before .args in

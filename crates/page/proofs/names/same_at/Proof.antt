@@ -1,3 +1,4 @@
+-- `page::names::same_at` meets its contract. Assumes nothing.
 use mathlib.Core.Path.{_≡_, sym, _∙_}
 use Prim.Native.Nat.{ℕ, _+_, _≤_, _<_, _-_}
 use native.Mathlib.Omega.{arith}
@@ -6,56 +7,44 @@ use Rattle.book.specs.Words.{vol}
 use Rattle.book.specs.Names.{Same}
 use Rattle.page.proofs.names.same_at.Statement.{statement}
 use Rattle.page.proofs.names.same_at.Tie as tie
-use Rattle.page.proofs.names.same_at.Reads as reads
-use Rattle.page.proofs.names.same_at.Lts as lts
-use Rattle.page.proofs.read.word_at.Reads as word-at-reads
 
+-- the words passed are equal
 abbrev Inv-loop : tie.InvT-loop
 Inv-loop img p j q k n i₀ i = (i ≤ n) × ((x : ℕ) → x < i → vol img p (j + x) ≡ vol img q (k + x))
 
 abbrev μ-loop : tie.MeasureT-loop
 μ-loop img p j q k n i₀ i = n - i
 
--- src/names.rt:123:5
 loop-holds : tie.Need-loop-holds Inv-loop μ-loop
 loop-holds c = (omega arith, below-none _)
 
--- src/names.rt:124:28
 add-word-at : tie.Need-add-word-at Inv-loop μ-loop
 add-word-at c = omega arith
 
--- src/names.rt:124:12
 word-at-requires : tie.Need-word-at-requires Inv-loop μ-loop
 word-at-requires c κs = omega arith
 
--- src/names.rt:124:54
 add-word-at-2 : tie.Need-add-word-at-2 Inv-loop μ-loop
 add-word-at-2 c = omega arith
 
--- src/names.rt:124:38
 word-at-requires-2 : tie.Need-word-at-requires-2 Inv-loop μ-loop
 word-at-requires-2 c κs = omega arith
 
--- src/names.rt:125:13
 returns : tie.Need-returns Inv-loop μ-loop
 unfolding Same
 returns c = λ s. c .if1 .taken (c .before .before .word-at .ensures ∙ s (c .before .before .before .before .loop .i) (omega arith) ∙ sym (c .before .word-at2 .ensures))
 
--- src/names.rt:127:9
 add-i : tie.Need-add-i Inv-loop μ-loop
 add-i c = omega arith
 
--- src/names.rt:123:5
 loop-less : tie.Need-loop-less Inv-loop μ-loop
 loop-less c = omega arith
 
--- src/names.rt:123:5
 loop-again : tie.Need-loop-again Inv-loop μ-loop
 loop-again c =
     let l = c .before .before .before .before .loop in
     (omega arith, below-more _ (l .i) (l .inv .1) (sym (c .before .before .word-at .ensures) ∙ c .if1 .left ∙ c .before .word-at2 .ensures))
 
--- src/names.rt:118:1
 returns-2 : tie.Need-returns-2 Inv-loop μ-loop
 unfolding Same
 returns-2 c = λ i h. c .before .loop .inv .1 i (omega arith)

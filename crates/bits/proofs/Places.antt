@@ -1,0 +1,146 @@
+-- The bit file as one page: where each page's bit stands. Assumes nothing.
+use mathlib.Core.Path.{_≡_, refl, sym, ap, ap₂, _∙_, subst}
+use mathlib.Core.Logic.{inl, inr}
+use Prim.Native.Nat.{ℕ, zero, suc, _+_, _-_, _*_, _/_, _%_, _^_, _≤_, _<_}
+use native.Mathlib.Nat.{add-zero, add-suc, mod-eq-of-lt, eq-zero-or-pos}
+use native.Mathlib.Numerals.{add-one}
+use native.Mathlib.Decide.{decLt}
+use native.Mathlib.Omega.{arith}
+use lib.Count.{ones}
+use Rattle.sums.specs.Sum.{sum, sum-suc, sum-le, sum-const}
+use Rattle.sums.specs.Search.{every-yes, every-at}
+use Rattle.book.specs.Words.{Vol, word, put, wipe}
+use Rattle.book.specs.Pointers.{page, bitPointer}
+use Rattle.book.specs.Trees.{pageAt, upto}
+use Rattle.book.specs.Bits.{digit, toDigit, bitPages, bitFile, bitPage, bit, mark, claim, claimRun, freeRun}
+use Rattle.book.specs.Rules.{Rule1}
+use Rattle.book.specs.Written.{digit-le, word-pos, put-page, wipe-page}
+use Rattle.bits.specs.File.{BitsAt}
+use Rattle.bits.proofs.Digits.{ones-more, ones-none}
+
+-- ---- where a bit stands
+
+module _ (P : ℕ) (v : Vol) (b : ℕ) (f : BitsAt P v b) where
+  pub bit-page : (p : ℕ) → p < P → bitPage P v p ≡ b
+  unfolding bitPage bitFile bitPages pageAt upto
+  bit-page p h =
+      let e : 1 - (suc (p / 16384) - (P + 16383) / 16384) ≡ 1 = omega (arith, f .most) in
+      ap (λ (x : ℕ). x * (page (v 0) bitPointer + p / 16384)) e ∙ omega (arith, f .at, f .most)
+
+  pub bit-at : (p : ℕ) → p < P → bit P v p ≡ digit (p % 16) (v b (p / 16))
+  unfolding bit
+  bit-at p h =
+      ap (digit (p % 16)) (ap₂ (word v) (bit-page p h) (let e : p % 16384 / 16 ≡ p / 16 = omega (arith, f .most) in e) ∙ word-pos v b (p / 16) (f .some))
+
+  pub mark-at : (p x : ℕ) → p < P → mark P v p x ≡ put v b (p / 16) (toDigit (p % 16) (v b (p / 16)) x)
+  unfolding mark
+  mark-at p x h =
+      ap₂ (λ (q k : ℕ). put v q k (toDigit (p % 16) (word v q k) x)) (bit-page p h) (let e : p % 16384 / 16 ≡ p / 16 = omega (arith, f .most) in e)
+      ∙ ap (λ (w : ℕ). put v b (p / 16) (toDigit (p % 16) w x)) (word-pos v b (p / 16) (f .some))
+
+  -- bit n of word i
+  pub bit-in : (i n : ℕ) → n < 16 → i * 16 + n < P → bit P v (i * 16 + n) ≡ digit n (v b i)
+  bit-in i n l h =
+      bit-at (i * 16 + n) h
+      ∙ ap₂ (λ (x y : ℕ). digit x (v b y)) (let e : (i * 16 + n) % 16 ≡ n = omega arith in e) (let e : (i * 16 + n) / 16 ≡ i = omega arith in e)
+
+  -- ---- counting, word by word
+
+  -- n bits of word i more
+  pub sum-word : (i n : ℕ) → n ≤ 16 → i * 16 + n ≤ P → sum (i * 16 + n) (bit P v) ≡ sum (i * 16) (bit P v) + ones (v b i % 2 ^ n)
+  sum-word i zero l h = ap (λ (k : ℕ). sum k (bit P v)) (add-zero (i * 16)) ∙ omega (arith, ones-none (v b i))
+  sum-word i (suc n) l h =
+      ap (λ (k : ℕ). sum k (bit P v)) (add-suc (i * 16) n)
+      ∙ omega (arith, sum-suc (i * 16 + n) (bit P v), sum-word i n (omega arith) (omega arith), bit-in i n (omega arith) (omega arith), ones-more (v b i) n)
+
+  -- all of word i, and the last word of the count
+  pub sum-full : (i : ℕ) → v b i < 65536 → (i + 1) * 16 ≤ P → sum ((i + 1) * 16) (bit P v) ≡ sum (i * 16) (bit P v) + ones (v b i)
+  sum-full i l h =
+      ap (λ (k : ℕ). sum k (bit P v)) (let e : (i + 1) * 16 ≡ i * 16 + 16 = omega arith in e)
+      ∙ sum-word i 16 (omega arith) (omega arith) ∙ ap (λ (w : ℕ). sum (i * 16) (bit P v) + ones w) (mod-eq-of-lt l)
+
+  pub sum-last : sum P (bit P v) ≡ sum (P / 16 * 16) (bit P v) + ones (v b (P / 16) % 2 ^ (P % 16))
+  sum-last =
+      ap (λ (k : ℕ). sum k (bit P v)) (let e : P ≡ P / 16 * 16 + P % 16 = omega arith in e)
+      ∙ sum-word (P / 16) (P % 16) (omega arith) (omega arith)
+
+  -- ---- searching, word by word
+
+  -- pages before word i are reserved, and r more
+  pub full-more : (i r : ℕ) → r ≤ 16 → ((j : ℕ) → j < r → digit j (v b i) ≡ 1) → ((k : ℕ) → k < i * 16 → k < P → bit P v k ≡ 1)
+      → (k : ℕ) → k < i * 16 + r → k < P → bit P v k ≡ 1
+  full-more i r m w h k l q = elim (decLt k (i * 16)) [
+    | yes a ↦ h k a q
+    | no a ↦
+        let e : k ≡ i * 16 + (k - i * 16) = omega arith in
+        ap (bit P v) e ∙ bit-in i (k - i * 16) (omega arith) (omega arith) ∙ w (k - i * 16) (omega arith)
+  ]
+
+-- ---- bits of any bit file
+
+module _ (P : ℕ) (v : Vol) where
+  pub bit-le : (p : ℕ) → bit P v p ≤ 1
+  unfolding bit
+  bit-le p = digit-le (p % 16) _
+
+  pub sum-bits-le : (n : ℕ) → sum n (bit P v) ≤ n
+  sum-bits-le n = omega (arith, sum-le n (bit P v) (λ i. 1) (λ i l. bit-le i), sum-const n 1)
+
+  pub run-free : (n s : ℕ) → ((i : ℕ) → i < n → bit P v (s + i) ≡ 0) → 0 < freeRun P v n s
+  unfolding freeRun
+  run-free n s h = omega (arith, every-yes (λ i. 1 - bit P v (s + i)) n (λ i l. omega (arith, h i l)))
+
+  pub run-broken : (n s i : ℕ) → i < n → bit P v (s + i) ≡ 1 → freeRun P v n s ≡ 0
+  unfolding freeRun
+  run-broken n s i l e = elim (eq-zero-or-pos (freeRun P v n s)) [
+    | inl z ↦ z
+    | inr p ↦ absurd (let r : ⊥ = omega (arith, every-at (λ i. 1 - bit P v (s + i)) n p i l) in r)
+  ]
+
+-- ---- the bit file stays where it is
+
+-- after any change that leaves the bit pointer
+pub bits-kept : (P : ℕ) (v v′ : Vol) (b : ℕ) → v′ 0 1020 ≡ v 0 1020 → v′ 0 1021 ≡ v 0 1021 → BitsAt P v b → BitsAt P v′ b
+unfolding page
+bits-kept P v v′ b h l f = record {
+  most = f .most;
+  at = ap₂ (λ (x y : ℕ). x % 16384 * 65536 + y) h l ∙ f .at;
+  some = f .some;
+  below = f .below;
+}
+
+pub bits-mark : (P : ℕ) (v : Vol) (b p x : ℕ) → p < P → BitsAt P v b → BitsAt P (mark P v p x) b
+bits-mark P v b p x h f =
+    let put-it : Vol = put v b (p / 16) (toDigit (p % 16) (v b (p / 16)) x) in
+    let n : 0 ≡ b → ⊥ = λ e. omega (arith, f .some) in
+    subst (λ (w : Vol). BitsAt P w b) (sym (mark-at P v b f p x h))
+    (bits-kept P v put-it b (put-page v b _ _ 0 1020 n) (put-page v b _ _ 0 1021 n) f)
+
+pub bits-wipe : (P : ℕ) (v : Vol) (b d : ℕ) → 0 < d → BitsAt P v b → BitsAt P (wipe v d) b
+bits-wipe P v b d h f =
+    let n : 0 ≡ d → ⊥ = λ e. omega arith in
+    bits-kept P v (wipe v d) b (wipe-page v d 0 1020 n) (wipe-page v d 0 1021 n) f
+
+pub bits-claim : (P : ℕ) (v : Vol) (b d : ℕ) → 0 < d → d < P → BitsAt P v b → BitsAt P (claim P v d) b
+unfolding claim
+bits-claim P v b d h l f = bits-wipe P (mark P v d 1) b d h (bits-mark P v b d 1 l f)
+
+pub bits-run : (P : ℕ) (v : Vol) (b s n : ℕ) → 0 < s → s + n ≤ P → BitsAt P v b → BitsAt P (claimRun P v s n) b
+unfolding claimRun
+bits-run P v b s zero h l f = f
+bits-run P v b s (suc n) h l f = bits-claim P (claimRun P v s n) b (s + n) (omega arith) (omega arith) (bits-run P v b s n h (omega arith) f)
+
+-- of a volume that keeps rule 1
+pub bits-at : (P : ℕ) (v : Vol) → P ≤ 16384 → Rule1 P v → BitsAt P v (page (v 0) bitPointer)
+unfolding bitPages
+bits-at P v m r = record { most = m; at = refl; some = r .start; below = omega (arith, r .start, r .fits) }
+
+-- ---- a run, page by page
+
+pub run-none : (P : ℕ) (v : Vol) (s : ℕ) → v ≡ claimRun P v s 0
+unfolding claimRun
+run-none P v s = refl
+
+pub run-more : (P : ℕ) (v : Vol) (s i : ℕ) → claimRun P v s (i + 1) ≡ claim P (claimRun P v s i) (s + i)
+unfolding claimRun
+run-more P v s i = rw (add-one i)

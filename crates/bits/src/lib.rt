@@ -1,0 +1,125 @@
+// The bit file, one page b: page p is bit p % 16, from the right, of word p / 16; 1 is reserved.
+mod word;
+
+use page::read::word_at;
+use page::write::put_word;
+use page::write::zero_page;
+use word::digit_in;
+use word::first_clear;
+use word::ones_in;
+use word::ones_low;
+use word::with_one;
+use word::with_zero;
+ghost use mathlib.Core.Path.{_≡_};
+ghost use Prim.Native.Nat.{ℕ, _+_, _*_, _≤_, _<_};
+ghost use lib.ListN.{length};
+ghost use Rattle.book.specs.Words.{vol};
+ghost use Rattle.book.specs.Bits.{bit, mark, reserved as reservedOf, lowestFree, highestRun, claim as claimOf, claimRun};
+ghost use Rattle.bits.specs.File.{BitsAt};
+
+// Page p's bit.
+pub fn test(img: &[u16], b: usize, p: usize) -> u16
+    requires { ⌜ (1024 * b + 1024 ≤ length (now img)) × (p < 16384) ⌝ }
+    ensures { λ r. ⌜ ((P : ℕ) → BitsAt P (vol (now (img .entry))) b → p < P → r ≡ bit P (vol (now (img .entry))) p) × (r < 2) ⌝ }
+{
+    digit_in(word_at(img, b, p / 16), p % 16)
+}
+
+// Page p is reserved.
+pub fn set(img: &mut [u16], b: usize, p: usize)
+    requires { ⌜ (1024 * b + 1024 ≤ length (now img)) × (p < 16384) ⌝ }
+    ensures { λ _. ⌜ ((P : ℕ) → BitsAt P (vol (now (img .entry))) b → p < P → vol (now (img .exit)) ≡ mark P (vol (now (img .entry))) p 1) ⌝ }
+{
+    let w = word_at(img, b, p / 16);
+    put_word(img, b, p / 16, with_one(w, p % 16));
+}
+
+// Page p is freed.
+pub fn clear(img: &mut [u16], b: usize, p: usize)
+    requires { ⌜ (1024 * b + 1024 ≤ length (now img)) × (p < 16384) ⌝ }
+    ensures { λ _. ⌜ ((P : ℕ) → BitsAt P (vol (now (img .entry))) b → p < P → vol (now (img .exit)) ≡ mark P (vol (now (img .entry))) p 0) ⌝ }
+{
+    let w = word_at(img, b, p / 16);
+    put_word(img, b, p / 16, with_zero(w, p % 16));
+}
+
+// Page p is taken: reserved, and made zeros.
+pub fn claim(img: &mut [u16], b: usize, p: usize)
+    requires { ⌜ (1024 * b + 1024 ≤ length (now img)) × (1024 * p + 1024 ≤ length (now img)) × (p < 16384) ⌝ }
+    ensures { λ _. ⌜ ((P : ℕ) → BitsAt P (vol (now (img .entry))) b → p < P → vol (now (img .exit)) ≡ claimOf P (vol (now (img .entry))) p) ⌝ }
+{
+    set(img, b, p);
+    zero_page(img, p);
+}
+
+// The n pages from s on are taken.
+pub fn claim_run(img: &mut [u16], b: usize, s: usize, n: usize)
+    requires { ⌜ (1024 * b + 1024 ≤ length (now img)) × (1024 * (s + n) ≤ length (now img)) × (s + n ≤ 16384) × (0 < s) ⌝ }
+    ensures { λ _. ⌜ ((P : ℕ) → BitsAt P (vol (now (img .entry))) b → s + n ≤ P → vol (now (img .exit)) ≡ claimRun P (vol (now (img .entry))) s n) ⌝ }
+{
+    let mut i: usize = 0;
+    while i < n {
+        claim(img, b, s + i);
+        i += 1;
+    }
+}
+
+// The reserved count: the ones of each word, the last masked.
+pub fn reserved(img: &[u16], b: usize, pages: usize) -> usize
+    requires { ⌜ (1024 * b + 1024 ≤ length (now img)) × BitsAt pages (vol (now img)) b ⌝ }
+    ensures { λ r. ⌜ r ≡ reservedOf pages (vol (now (img .entry))) ⌝ }
+{
+    let full = pages / 16;
+    let rest = pages % 16;
+    let mut n: usize = 0;
+    let mut i: usize = 0;
+    while i < full {
+        n += ones_in(word_at(img, b, i));
+        i += 1;
+    }
+    if rest == 0 {
+        return n;
+    }
+    n + ones_low(word_at(img, b, full), rest)
+}
+
+// The lowest free page, and `pages` if there is none: full words are skipped.
+pub fn lowest_free(img: &[u16], b: usize, pages: usize) -> usize
+    requires { ⌜ (1024 * b + 1024 ≤ length (now img)) × BitsAt pages (vol (now img)) b ⌝ }
+    ensures { λ r. ⌜ r ≡ lowestFree pages (vol (now (img .entry))) ⌝ }
+{
+    let mut i: usize = 0;
+    while i * 16 < pages {
+        let t = first_clear(word_at(img, b, i));
+        if t < 16 {
+            let p = i * 16 + t;
+            if p < pages {
+                return p;
+            }
+            return pages;
+        }
+        i += 1;
+    }
+    pages
+}
+
+// The highest start of n free pages in a row, and 0 if there is none: one walk downwards, with the length of the free run at hand.
+pub fn highest_run(img: &[u16], b: usize, pages: usize, n: usize) -> usize
+    requires { ⌜ (1024 * b + 1024 ≤ length (now img)) × BitsAt pages (vol (now img)) b × (0 < n) ⌝ }
+    ensures { λ r. ⌜ r ≡ highestRun pages (vol (now (img .entry))) n ⌝ }
+{
+    let mut p = pages;
+    let mut run: usize = 0;
+    while 0 < p {
+        p -= 1;
+        if test(img, b, p) == 1 {
+            run = 0;
+        } else {
+            run += 1;
+            if run == n {
+                return p;
+            }
+        }
+    }
+    0
+}

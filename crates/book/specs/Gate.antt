@@ -1,0 +1,40 @@
+-- What check says, and numbers 1 to 3, which every call but format asks alike. Assumes nothing.
+use mathlib.Core.Path.{_≡_}
+use mathlib.Core.Bool.{Bool, true, false}
+use mathlib.Core.List.{List}
+use Prim.Native.Nat.{ℕ}
+use Rattle.book.specs.Words.{Vol, vol}
+use Rattle.book.specs.Holders.{visits}
+use Rattle.book.specs.Rows.{Lowest}
+use Rattle.book.specs.Rules.{Sound, rules}
+use Rattle.book.specs.Image.{pages, Whole, Ready}
+use Rattle.book.specs.declared.Verdict.{Verdict}
+use Rattle.book.specs.declared.Verdict.the-variants.{Sound as Right, Broken}
+use Rattle.book.specs.declared.Refusal.{Refusal}
+use Rattle.book.specs.declared.Refusal.the-variants.{Size, Argument, Unsound, Missing, Taken, Kind, HasFiles, Full, Allowance, Unreserved, NoRun}
+use Rattle.book.specs.declared.Gate.{Gate}
+use Rattle.book.specs.declared.Gate.the-variants.{Shut, Open}
+
+-- sound, with the pages visited; or the lowest broken rule
+abbrev pub Judged : ℕ → Vol → Verdict → Type 0
+Judged P v (Right n) = Sound P v × (n ≡ visits P v)
+Judged P v (Broken r) = Lowest (rules P v) r
+
+-- the gate is shut by 1, 2 or 3, and by no other number; `ok` tells whether the arguments are right
+abbrev pub Shuts : List ℕ → Bool → Refusal → Type 0
+Shuts img ok Size = Whole img → ⊥
+Shuts img ok Argument = Whole img × (ok ≡ false)
+Shuts img ok (Unsound r) = Whole img × (ok ≡ true) × Lowest (rules (pages img) (vol img)) r
+Shuts img ok Missing = ⊥
+Shuts img ok Taken = ⊥
+Shuts img ok Kind = ⊥
+Shuts img ok HasFiles = ⊥
+Shuts img ok Full = ⊥
+Shuts img ok Allowance = ⊥
+Shuts img ok Unreserved = ⊥
+Shuts img ok NoRun = ⊥
+
+-- open: the arguments are right, and the image is whole and sound
+abbrev pub Gated : List ℕ → Bool → Gate → Type 0
+Gated img ok (Shut w) = Shuts img ok w
+Gated img ok (Open n) = Ready img × (ok ≡ true) × (n ≡ visits (pages img) (vol img))

@@ -1,0 +1,68 @@
+-- Each of the eighteen calls gives one value, so that any two of its outcomes coincide (Coincide.one-outcome). Assumes nothing.
+use mathlib.Core.Path.{_≡_, sym, _∙_}
+use mathlib.Core.List.{List}
+use Prim.Native.Nat.{ℕ}
+use Rattle.book.specs.Outcome.{Single, asking}
+use Rattle.book.specs.Coincide.{single-call}
+use Rattle.book.specs.Calls.{checkCall, addressCall, readCall, createUserCall, deleteUserCall, giveCall, takeCall, createIndexedCall, createContiguousCall, growCall, shrinkCall, deleteFileCall, writeCall, openCall}
+
+-- find user, find file, who holds and format: Find.single-find-user, Find.single-find-file, Who.single-who, FormatCall.single-format
+
+module _ (img : List ℕ) where
+  pub single-check : Single (checkCall img)
+  unfolding checkCall
+  single-check = single-call img _ _ _ _
+
+  pub single-create-user : (name : List ℕ) → Single (createUserCall img name)
+  unfolding createUserCall
+  single-create-user name = single-call img _ _ _ _
+
+  module _ (u : ℕ) where
+    pub single-delete-user : Single (deleteUserCall img u)
+    unfolding deleteUserCall
+    single-delete-user = single-call img _ _ _ _
+
+    pub single-give : (n : ℕ) → Single (giveCall img u n)
+    unfolding giveCall
+    single-give n = single-call img _ _ _ _
+
+    pub single-take : (n : ℕ) → Single (takeCall img u n)
+    unfolding takeCall
+    single-take n = single-call img _ _ _ _
+
+    pub single-create-indexed : (name type : List ℕ) (created : ℕ) → Single (createIndexedCall img u name type created)
+    unfolding createIndexedCall
+    single-create-indexed name type created = single-call img _ _ _ _
+
+    pub single-create-contiguous : (name type : List ℕ) (created n : ℕ) → Single (createContiguousCall img u name type created n)
+    unfolding createContiguousCall
+    single-create-contiguous name type created n = single-call img _ _ _ _
+
+    module _ (f : ℕ) where
+      pub single-address : (n : ℕ) → Single (addressCall img u f n)
+      unfolding addressCall
+      single-address n = single-call img _ _ _ _
+
+      pub single-read : (n : ℕ) → Single (readCall img u f n)
+      unfolding Single readCall asking
+      single-read n c x y p q = p ∙ sym q
+
+      pub single-grow : Single (growCall img u f)
+      unfolding growCall
+      single-grow = single-call img _ _ _ _
+
+      pub single-shrink : Single (shrinkCall img u f)
+      unfolding shrinkCall
+      single-shrink = single-call img _ _ _ _
+
+      pub single-delete-file : Single (deleteFileCall img u f)
+      unfolding deleteFileCall
+      single-delete-file = single-call img _ _ _ _
+
+      pub single-write : (n : ℕ) (d : List ℕ) → Single (writeCall img u f n d)
+      unfolding writeCall
+      single-write n d = single-call img _ _ _ _
+
+      pub single-open : Single (openCall img u f)
+      unfolding openCall
+      single-open = single-call img _ _ _ _
