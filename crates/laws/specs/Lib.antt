@@ -92,3 +92,9 @@ pub mod Numbered
 pub mod CreateFileCall
 pub mod Enough
 pub mod Tally
+pub mod CasesSub
+pub mod ShrinkCasesSub
+pub mod FreeCount
+pub mod Regroup
+pub mod Moved
+pub mod Granted
