@@ -72,6 +72,5 @@ pub mod Around
 pub mod CasesSub
 pub mod ShrinkCasesSub
 pub mod FreeCount
-pub mod Regroup
 pub mod Moved
 pub mod Granted
