@@ -95,6 +95,5 @@ pub mod Tally
 pub mod CasesSub
 pub mod ShrinkCasesSub
 pub mod FreeCount
-pub mod Regroup
 pub mod Moved
 pub mod Granted

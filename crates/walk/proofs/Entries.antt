@@ -10,13 +10,13 @@ use Rattle.book.specs.Entries.{objectFile, objectPage, used}
 use Rattle.book.specs.Files.{fileAt}
 use Rattle.book.specs.Holders.{hit, some, mine}
 use Rattle.book.specs.Image.{pages}
-use Rattle.laws.specs.Regroup.{sum-regroup}
+use Rattle.laws.specs.Several.{sum-rows}
 use Rattle.tree.specs.Reach.{entryIn}
 use Rattle.tree.proofs.Entries.{absent-word, file-in-none}
 use Rattle.walk.specs.declared.Walk.{Walk}
 use Rattle.walk.specs.declared.Walk.the-variants.{On}
 use Rattle.walk.specs.Files.{FilesBelow}
-use Rattle.walk.specs.Walked.{Weigher, Walking, Marked, Walked}
+use Rattle.walk.specs.Walked.{Weigher, Walking, WalkedOn, Walked}
 use Rattle.walk.proofs.Walks.{Counts, rowOf, row-counts, walking-on, walked-none, walked-same}
 use Rattle.walk.proofs.Runs.{root-counts}
 
@@ -63,17 +63,17 @@ module _ (img : List ℕ) (F : FilesBelow img) where
   files-counts n i h l =
       row-counts (pages img) (filesOf img n) i (λ j lt. root-counts (vol img) (pages img) (fileAt (vol img) (32 * n + j)) (F .each (32 * n + j) (omega arith)))
 
-  pub files-walking : (n i : ℕ) → n < 2048 → i ≤ 32 → (m : List ℕ) (v : ℕ) (m′ : List ℕ) (x : ℕ) → Walking img m v → Marked (pages img) m v (rowOf (filesOf img n) i) m′ x → Walking img m′ x
+  pub files-walking : (n i : ℕ) → n < 2048 → i ≤ 32 → (m : List ℕ) (v : ℕ) (m′ : List ℕ) (x : ℕ) → Walking img m v → WalkedOn (pages img) m v (rowOf (filesOf img n) i) m′ x → Walking img m′ x
   files-walking n i h l m v m′ x w k = walking-on img m v (rowOf (filesOf img n) i) m′ x w (files-counts n i h l) k
 
-  pub positions-walking : (n : ℕ) → n ≤ 2048 → (m : List ℕ) (v : ℕ) (m′ : List ℕ) (x : ℕ) → Walking img m v → Marked (pages img) m v (rowOf (positionsOf img) n) m′ x → Walking img m′ x
+  pub positions-walking : (n : ℕ) → n ≤ 2048 → (m : List ℕ) (v : ℕ) (m′ : List ℕ) (x : ℕ) → Walking img m v → WalkedOn (pages img) m v (rowOf (positionsOf img) n) m′ x → Walking img m′ x
   positions-walking n h m v m′ x w k =
       walking-on img m v (rowOf (positionsOf img) n) m′ x w (row-counts (pages img) (positionsOf img) n (λ i lt. files-counts i 32 (omega arith) (omega arith))) k
 
 -- 2,048 positions of 32 files are 256 users of 256 files
 pub regroup : (img : List ℕ) (g : ℕ → ℕ) → rowOf (positionsOf img) 2048 g ≡ sum 256 (λ u. mine (vol img) u g)
 unfolding mine
-regroup img g = let f : ℕ → ℕ = λ e. weighR (vol img) (fileAt (vol img) e) g in sym (sum-regroup 2048 32 f) ∙ sum-regroup 256 256 f
+regroup img g = let f : ℕ → ℕ = λ e. weighR (vol img) (fileAt (vol img) e) g in sum-rows 32 2048 f ∙ sym (sum-rows 256 256 f)
 
 pub walked-files : (P : ℕ) (m : List ℕ) (v : ℕ) (img : List ℕ) (m′ : List ℕ) (r : Walk) → Walked P m v (rowOf (positionsOf img) 2048) m′ r → Walked P m v (λ g. sum 256 (λ u. mine (vol img) u g)) m′ r
 walked-files P m v img m′ r k = walked-same P m v (rowOf (positionsOf img) 2048) (λ g. sum 256 (λ u. mine (vol img) u g)) (regroup img) m′ r k

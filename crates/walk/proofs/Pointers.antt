@@ -18,7 +18,7 @@ use Rattle.laws.specs.Tree.{weigh-none, weigh-count, hit-zero, hit-same, some-z
 use Rattle.walk.specs.declared.Walk.{Walk}
 use Rattle.walk.specs.declared.Walk.the-variants.{On, Met}
 use Rattle.walk.specs.Marks.{marked, Newly}
-use Rattle.walk.specs.Walked.{Weigher, Walking, Marked, Walked, slotOf}
+use Rattle.walk.specs.Walked.{Weigher, Walking, WalkedOn, Walked, slotOf}
 use Rattle.walk.proofs.Marked.{marks-more, marks-room}
 use Rattle.walk.proofs.Walks.{Counts, rowOf, row-counts, walking-on, walked-none, walked-same, walked-then}
 
@@ -89,7 +89,7 @@ module _ (img : List ℕ) (P : ℕ) (m : List ℕ) (v l t : ℕ) where
 
     module _ (m′ : List ℕ) (d : Newly m t m′) where
       -- its page alone
-      first : Marked P m v (λ g. g t) m′ (v + 1)
+      first : WalkedOn P m v (λ g. g t) m′ (v + 1)
       first = record { more = λ p i. d .more p ∙ ap (λ (x : ℕ). marked m p + x) (sym (hit-is t p h)); count = omega (arith, some-pos t h); kept = d .kept }
 
       pub pointer-page : l ≡ 0 → Walked P m v (weigh (vol img) l t) m′ (On (v + 1))
@@ -116,7 +116,7 @@ abbrev pub slotsOf : List ℕ → ℕ → List ℕ → ℕ → Weigher
 slotsOf img l b = λ k. weigh (vol img) l (slotOf b k)
 
 module _ (img b : List ℕ) (l : ℕ) (within : (k : ℕ) → k < 512 → Below (vol img) (pages img) l (slotOf b k)) (i : ℕ) where
-  pub block-walking : i ≤ 512 → (m : List ℕ) (v : ℕ) (m′ : List ℕ) (x : ℕ) → Walking img m v → Marked (pages img) m v (rowOf (slotsOf img l b) i) m′ x → Walking img m′ x
+  pub block-walking : i ≤ 512 → (m : List ℕ) (v : ℕ) (m′ : List ℕ) (x : ℕ) → Walking img m v → WalkedOn (pages img) m v (rowOf (slotsOf img l b) i) m′ x → Walking img m′ x
   block-walking h m v m′ x w k =
       walking-on img m v (rowOf (slotsOf img l b) i) m′ x w
       (row-counts (pages img) (slotsOf img l b) i (λ j lt. tree-counts (vol img) (pages img) l (slotOf b j) (within j (omega arith)))) k

@@ -12,7 +12,7 @@ use Rattle.laws.specs.Count.{BelowR, root-count}
 use Rattle.laws.specs.Tree.{sum-hit}
 use Rattle.walk.specs.declared.Walk.{Walk}
 use Rattle.walk.specs.declared.Walk.the-variants.{On}
-use Rattle.walk.specs.Walked.{Weigher, Walking, Marked, Walked}
+use Rattle.walk.specs.Walked.{Weigher, Walking, WalkedOn, Walked}
 use Rattle.walk.proofs.Walks.{Counts, rowOf, row-counts, walking-on, walked-none, walked-same}
 
 -- ---- a run: the row of its pages
@@ -21,7 +21,7 @@ abbrev pub runOf : ℕ → ℕ → Weigher
 runOf s = λ i g. g (s + i)
 
 pub run-walking : (img : List ℕ) (s n : ℕ) → s + n ≤ pages img → (m : List ℕ) (v i : ℕ) (m′ : List ℕ) (x : ℕ) → i ≤ n
-    → Walking img m v → Marked (pages img) m v (rowOf (runOf s) i) m′ x → Walking img m′ x
+    → Walking img m v → WalkedOn (pages img) m v (rowOf (runOf s) i) m′ x → Walking img m′ x
 unfolding Counts
 run-walking img s n h m v i m′ x l w k =
     walking-on img m v (rowOf (runOf s) i) m′ x w (row-counts (pages img) (runOf s) i (λ j lt. sum-hit (pages img) (s + j) (omega arith))) k

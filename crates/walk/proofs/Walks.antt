@@ -12,7 +12,7 @@ use Rattle.book.specs.Image.{pages}
 use Rattle.walk.specs.declared.Walk.{Walk}
 use Rattle.walk.specs.declared.Walk.the-variants.{On, Met}
 use Rattle.walk.specs.Marks.{marked}
-use Rattle.walk.specs.Walked.{Weigher, Walking, Marked, Walked}
+use Rattle.walk.specs.Walked.{Weigher, Walking, WalkedOn, Walked}
 
 -- W counts each page below P as often as it weighs it
 unfoldable pub Counts : ℕ → Weigher → Type 0
@@ -20,7 +20,7 @@ Counts P W = sum P (λ p. W (hit p)) ≡ W some
 
 -- what the next walk is given
 pub walking-on : (img m : List ℕ) (v : ℕ) (W : Weigher) (m′ : List ℕ) (x : ℕ)
-    → Walking img m v → Counts (pages img) W → Marked (pages img) m v W m′ x → Walking img m′ x
+    → Walking img m v → Counts (pages img) W → WalkedOn (pages img) m v W m′ x → Walking img m′ x
 unfolding Counts
 walking-on img m v W m′ x d c k =
     let s : sum (pages img) (marked m′) ≡ sum (pages img) (marked m) + sum (pages img) (λ p. W (hit p)) =
@@ -42,13 +42,13 @@ module _ (P : ℕ) (m : List ℕ) (v : ℕ) where
   walked-met W X l m′ m″ k = (k .0, k .1, omega (arith, k .2, l (k .0)))
 
   -- one walk, and then another
-  pub walked-then : (W : Weigher) (m′ : List ℕ) (x : ℕ) → Marked P m v W m′ x → (X : Weigher) (m″ : List ℕ) (r : Walk) → Walked P m′ x X m″ r → Walked P m v (λ g. W g + X g) m″ r
+  pub walked-then : (W : Weigher) (m′ : List ℕ) (x : ℕ) → WalkedOn P m v W m′ x → (X : Weigher) (m″ : List ℕ) (r : Walk) → Walked P m′ x X m″ r → Walked P m v (λ g. W g + X g) m″ r
   walked-then W m′ x k X m″ (On y) j = record { more = λ p h. omega (arith, k .more p h, j .more p h); count = omega (arith, k .count, j .count); kept = j .kept ∙ k .kept }
   walked-then W m′ x k X m″ Met j = (j .0, j .1, omega (arith, j .2, k .more (j .0) (j .1)))
 
 -- one walk whose answer was looked at, and then another
 module _ (P : ℕ) (m : List ℕ) (v : ℕ) (W : Weigher) (m′ : List ℕ) (r : Walk) (k : Walked P m v W m′ r) where
-  pub marked-on : (x : ℕ) → r ≡ On x → Marked P m v W m′ x
+  pub marked-on : (x : ℕ) → r ≡ On x → WalkedOn P m v W m′ x
   marked-on x e = subst (λ (w : Walk). Walked P m v W m′ w) e k
 
   pub then-on : (x : ℕ) → r ≡ On x → (X : Weigher) (m″ : List ℕ) (s : Walk) → Walked P m′ x X m″ s → Walked P m v (λ g. W g + X g) m″ s
@@ -74,12 +74,12 @@ unfolding Counts
 row-counts P F n h = sum-swap P n (λ p i. F i (hit p)) ∙ sum-ext n (λ i. sum P (λ p. F i (hit p))) (λ i. F i some) h
 
 module _ (P : ℕ) (m : List ℕ) (v : ℕ) (F : ℕ → Weigher) where
-  pub row-start : Marked P m v (rowOf F 0) m v
+  pub row-start : WalkedOn P m v (rowOf F 0) m v
   row-start = walked-none P m v (rowOf F 0) (λ p. sum-zero (λ i. F i (hit p))) (sum-zero (λ i. F i some))
 
   -- a turn of a loop over the row, whose walk X is the i-th
-  module _ (i : ℕ) (m′ : List ℕ) (x : ℕ) (k : Marked P m v (rowOf F i) m′ x) (X : Weigher) (e : (g : ℕ → ℕ) → X g ≡ F i g) (m″ : List ℕ) (r : Walk) (turn : Walked P m′ x X m″ r) where
-    pub row-on : (y : ℕ) → r ≡ On y → Marked P m v (rowOf F (i + 1)) m″ y
+  module _ (i : ℕ) (m′ : List ℕ) (x : ℕ) (k : WalkedOn P m v (rowOf F i) m′ x) (X : Weigher) (e : (g : ℕ → ℕ) → X g ≡ F i g) (m″ : List ℕ) (r : Walk) (turn : Walked P m′ x X m″ r) where
+    pub row-on : (y : ℕ) → r ≡ On y → WalkedOn P m v (rowOf F (i + 1)) m″ y
     row-on y q =
         walked-same P m v (λ g. rowOf F i g + X g) (rowOf F (i + 1))
         (λ g. ap (λ (n : ℕ). rowOf F i g + n) (e g) ∙ sym (ap (λ (n : ℕ). rowOf F n g) (add-one i) ∙ sum-suc i (λ j. F j g)))
@@ -90,5 +90,5 @@ module _ (P : ℕ) (m : List ℕ) (v : ℕ) (F : ℕ → Weigher) where
         walked-met P m v (λ g. rowOf F i g + X g) (rowOf F n) (λ p. omega (arith, e (hit p), row-le (λ j. F j (hit p)) i n l)) m″ m‴
         (walked-then P m v (rowOf F i) m′ x k X m″ Met (subst (λ (w : Walk). Walked P m′ x X m″ w) q turn))
 
-  pub row-end : (i n : ℕ) (m′ : List ℕ) (x : ℕ) → i ≡ n → Marked P m v (rowOf F i) m′ x → Marked P m v (rowOf F n) m′ x
-  row-end i n m′ x e k = subst (λ (j : ℕ). Marked P m v (rowOf F j) m′ x) e k
+  pub row-end : (i n : ℕ) (m′ : List ℕ) (x : ℕ) → i ≡ n → WalkedOn P m v (rowOf F i) m′ x → WalkedOn P m v (rowOf F n) m′ x
+  row-end i n m′ x e k = subst (λ (j : ℕ). WalkedOn P m v (rowOf F j) m′ x) e k

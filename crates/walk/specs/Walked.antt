@@ -22,14 +22,14 @@ pub record Walking (img m : List ℕ) (visited : ℕ) : Type 0 where
   pub counted : visited ≤ sum (pages img) (marked m)
 
 -- none of them was marked or is there twice: now all are marked, and counted
-pub record Marked (P : ℕ) (m : List ℕ) (v : ℕ) (W : Weigher) (m′ : List ℕ) (x : ℕ) : Type 0 where
+pub record WalkedOn (P : ℕ) (m : List ℕ) (v : ℕ) (W : Weigher) (m′ : List ℕ) (x : ℕ) : Type 0 where
   pub more : (p : ℕ) → p < P → marked m′ p ≡ marked m p + W (hit p)
   pub count : x ≡ v + W some
   pub kept : length m′ ≡ length m
 
 -- that, or one of them was marked already or is there twice
 abbrev pub Walked : ℕ → List ℕ → ℕ → Weigher → List ℕ → Walk → Type 0
-Walked P m v W m′ (On x) = Marked P m v W m′ x
+Walked P m v W m′ (On x) = WalkedOn P m v W m′ x
 Walked P m v W m′ Met = (p : ℕ) × (p < P) × (2 ≤ marked m p + W (hit p))
 
 -- pointer n of a block that was handed over as a part

@@ -4,14 +4,14 @@ use native.Mathlib.Omega.{arith}
 use borrow.Author.Needs.{needs}
 use Rattle.book.specs.Image.{pages}
 use Rattle.book.specs.Words.{vol}
-use Rattle.walk.specs.Walked.{Marked}
+use Rattle.walk.specs.Walked.{WalkedOn}
 use Rattle.walk.proofs.Walks.{rowOf, row-start, row-on, row-met, row-end}
 use Rattle.walk.proofs.Entries.{filesOf, files-walking, place}
 use Rattle.walk.proofs.files.mark_entries.Statement.{statement}
 use Rattle.walk.proofs.files.mark_entries.Tie as tie
 
 abbrev Inv-loop : tie.InvT-loop
-Inv-loop img marks₀ q n visited v₀ i₀ marks v i = (i ≤ 32) × Marked (pages img) marks₀ visited (rowOf (filesOf img n) i) marks v
+Inv-loop img marks₀ q n visited v₀ i₀ marks v i = (i ≤ 32) × WalkedOn (pages img) marks₀ visited (rowOf (filesOf img n) i) marks v
 
 abbrev μ-loop : tie.MeasureT-loop
 μ-loop img marks₀ q n visited v₀ i₀ marks v i = 32 - i

@@ -6,7 +6,7 @@ use borrow.Author.Needs.{needs}
 use Rattle.book.specs.Image.{pages}
 use Rattle.book.specs.Words.{vol}
 use Rattle.tree.proofs.Reach.{reach-same}
-use Rattle.walk.specs.Walked.{Marked}
+use Rattle.walk.specs.Walked.{WalkedOn}
 use Rattle.walk.proofs.Walks.{rowOf, row-start, row-on, row-met, row-end}
 use Rattle.walk.proofs.Entries.{positionsOf, positions-walking, walked-files}
 use Rattle.walk.proofs.Holding.{objects-read}
@@ -14,7 +14,7 @@ use Rattle.walk.proofs.files.mark_files.Statement.{statement}
 use Rattle.walk.proofs.files.mark_files.Tie as tie
 
 abbrev Inv-loop : tie.InvT-loop
-Inv-loop img marks₀ visited flags top v₀ n₀ marks v n = (n ≤ 2048) × Marked (pages img) marks₀ visited (rowOf (positionsOf img) n) marks v
+Inv-loop img marks₀ visited flags top v₀ n₀ marks v n = (n ≤ 2048) × WalkedOn (pages img) marks₀ visited (rowOf (positionsOf img) n) marks v
 
 abbrev μ-loop : tie.MeasureT-loop
 μ-loop img marks₀ visited flags top v₀ n₀ marks v n = 2048 - n

@@ -5,7 +5,7 @@ use borrow.Author.Needs.{needs}
 use borrow.Fn.Kinds.{In}
 use borrow.Fn.PlainCycle.{Measures, is, falls, and}
 use Rattle.book.specs.Image.{pages}
-use Rattle.walk.specs.Walked.{Marked}
+use Rattle.walk.specs.Walked.{WalkedOn}
 use Rattle.walk.proofs.Marked.{marking-new, marking-old}
 use Rattle.walk.proofs.Walks.{rowOf, row-start, row-on, row-met, row-end}
 use Rattle.walk.proofs.Pointers.{below-top, slotsOf, slot-read, slot-below, slot-weigh, block-walking, block-below, pointer-none, pointer-met, pointer-page, pointer-block, mark-fits, mark-walking}
@@ -56,7 +56,7 @@ pointer-calls t = (mark-reads.Asked, mark-reads.Learnt, mark-block-below t, mark
 
 abbrev mark-block-Inv-loop : mark-block-lts.InvT-loop
 mark-block-Inv-loop img marks₀ block level visited v₀ i₀ marks v i =
-    (i ≤ 512) × Marked (pages img) marks₀ visited (rowOf (slotsOf img level block) i) marks v
+    (i ≤ 512) × WalkedOn (pages img) marks₀ visited (rowOf (slotsOf img level block) i) marks v
 
 abbrev mark-block-μ-loop : mark-block-lts.MeasureT-loop
 mark-block-μ-loop img marks₀ block level visited v₀ i₀ marks v i = 512 - i

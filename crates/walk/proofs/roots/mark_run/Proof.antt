@@ -4,14 +4,14 @@ use native.Mathlib.Omega.{arith}
 use borrow.Author.Needs.{needs}
 use Rattle.book.specs.Image.{pages}
 use Rattle.book.specs.Words.{vol}
-use Rattle.walk.specs.Walked.{Marked}
+use Rattle.walk.specs.Walked.{WalkedOn}
 use Rattle.walk.proofs.Walks.{rowOf, row-start, row-on, row-met, row-end}
 use Rattle.walk.proofs.Runs.{runOf, run-walking, page-below, page-weigh}
 use Rattle.walk.proofs.roots.mark_run.Statement.{statement}
 use Rattle.walk.proofs.roots.mark_run.Tie as tie
 
 abbrev Inv-loop : tie.InvT-loop
-Inv-loop img marks₀ start count visited v₀ i₀ marks v i = (i ≤ count) × Marked (pages img) marks₀ visited (rowOf (runOf start) i) marks v
+Inv-loop img marks₀ start count visited v₀ i₀ marks v i = (i ≤ count) × WalkedOn (pages img) marks₀ visited (rowOf (runOf start) i) marks v
 
 abbrev μ-loop : tie.MeasureT-loop
 μ-loop img marks₀ start count visited v₀ i₀ marks v i = count - i
