@@ -69,3 +69,4 @@ pub mod Return
 pub mod Counts
 pub mod Space
 pub mod Around
+pub mod Charge

@@ -3,3 +3,4 @@ pub mod Deciding
 pub mod Blocks
 pub mod Files
 pub mod Objects
+pub mod Sums
