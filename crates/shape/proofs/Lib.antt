@@ -4,3 +4,4 @@ pub mod Blocks
 pub mod Files
 pub mod Objects
 pub mod Sums
+pub mod Users

@@ -2,4 +2,5 @@
 pub mod block;
 pub mod counts;
 pub mod file;
+pub mod rule10;
 pub mod rule7;
