@@ -97,3 +97,4 @@ pub mod ShrinkCasesSub
 pub mod FreeCount
 pub mod Moved
 pub mod Granted
+pub mod Charge
