@@ -41,3 +41,4 @@ pub mod Quiet
 pub mod Open
 pub mod Write
 pub mod Find
+pub mod Indexes
