@@ -98,3 +98,4 @@ pub mod FreeCount
 pub mod Moved
 pub mod Granted
 pub mod Charge
+pub mod Indexes
