@@ -71,42 +71,43 @@ module _ (P : ℕ) (v : Vol) (hand : ℕ → ℕ) (G : Good P v hand) (d : ℕ) 
   abbrev C : ℕ → ℕ
   C x = hit (B d) x + hit d x
 
-  at-page : (p k : ℕ) → p ≢ B d → p ≢ d → claim P v d p k ≡ v p k
+  -- only the page and the bits' page change
+  pub claim-else : (p k : ℕ) → p ≢ B d → p ≢ d → claim P v d p k ≡ v p k
   unfolding claim mark
-  at-page p k a b = wipe-page (mark P v d 1) d p k b ∙ put-page v (bitPage P v d) (d % 16384 / 16) _ p k a
+  claim-else p k a b = wipe-page (mark P v d 1) d p k b ∙ put-page v (bitPage P v d) (d % 16384 / 16) _ p k a
 
-  claim-agree : Agree C v (claim P v d)
+  pub claim-agree : Agree C v (claim P v d)
   unfolding Agree
-  claim-agree q e k = word-ext v (claim P v d) q k (λ h. at-page q k (pair-zero (B d) d q h e .0) (pair-zero (B d) d q h e .1))
+  claim-agree q e k = word-ext v (claim P v d) q k (λ h. claim-else q k (pair-zero (B d) d q h e .0) (pair-zero (B d) d q h e .1))
 
   pub claim-master : (k : ℕ) → claim P v d 0 k ≡ v 0 k
-  claim-master k = at-page 0 k (λ e. omega (arith, e, bitPage-pos P v (G .most .r1) d hd)) (λ e. omega (arith, e, free-pos P v hand G d hd fd))
+  claim-master k = claim-else 0 k (λ e. omega (arith, e, bitPage-pos P v (G .most .r1) d hd)) (λ e. omega (arith, e, free-pos P v hand G d hd fd))
 
-  roots : Roots v (claim P v d)
+  pub claim-roots : Roots v (claim P v d)
   unfolding Roots
-  roots k i j = claim-master k
+  claim-roots k i j = claim-master k
 
-  quiet : rest v C ≡ 0
-  quiet = omega (arith, rest-add v (hit (bitPage P v d)) (hit d), bitPage-rest P v hand G d hd .0, free-none P v hand G d hd fd .0, all-rest P v (hit d))
+  pub claim-quiet : rest v C ≡ 0
+  claim-quiet = omega (arith, rest-add v (hit (bitPage P v d)) (hit d), bitPage-rest P v hand G d hd .0, free-none P v hand G d hd fd .0, all-rest P v (hit d))
 
-  c0 : C 0 ≡ 0
-  c0 = omega (arith, hit-zero (B d), hit-zero d)
+  pub claim-none : C 0 ≡ 0
+  claim-none = omega (arith, hit-zero (B d), hit-zero d)
 
   pub claim-zero : (k : ℕ) → word (claim P v d) d k ≡ 0
   unfolding claim
   claim-zero k = word-pos (wipe (mark P v d 1) d) d k (free-pos P v hand G d hd fd) ∙ wipe-here (mark P v d 1) d k
 
   pub claim-all : (g : ℕ → ℕ) → all P (claim P v d) g ≡ all P v g
-  claim-all g = all-calm v (claim P v d) roots C c0 claim-agree quiet P g
+  claim-all g = all-calm v (claim P v d) claim-roots C claim-none claim-agree claim-quiet P g
 
   pub claim-user : user (claim P v d) ≡ user v
-  claim-user = user-calm v (claim P v d) roots C c0 claim-agree quiet
+  claim-user = user-calm v (claim P v d) claim-roots C claim-none claim-agree claim-quiet
 
   pub claim-obj : object (claim P v d) ≡ object v
-  claim-obj = obj-calm v (claim P v d) roots C c0 claim-agree quiet
+  claim-obj = obj-calm v (claim P v d) claim-roots C claim-none claim-agree claim-quiet
 
   pub claim-page : (e : ℕ) → e < 65536 → (m : ℕ) → pageAt (claim P v d) (fileAt (claim P v d) e) m ≡ pageAt v (fileAt v e) m
-  claim-page e h m = page-calm v (claim P v d) roots C c0 claim-agree quiet e h m
+  claim-page e h m = page-calm v (claim P v d) claim-roots C claim-none claim-agree claim-quiet e h m
 
   -- a page in hand stays as it is
   pub claim-keeps : (q : ℕ) → 1 ≤ hand q → (k : ℕ) → word (claim P v d) q k ≡ word v q k
@@ -119,7 +120,7 @@ module _ (P : ℕ) (v : Vol) (hand : ℕ → ℕ) (G : Good P v hand) (d : ℕ) 
 
   bit-page : (p : ℕ) → bitPage P (claim P v d) p ≡ B p
   unfolding bitPage bitFile pageAt
-  bit-page p = ap (λ (r : Root). pageAt (claim P v d) r (p / 16384)) (bits-root v (claim P v d) roots P)
+  bit-page p = ap (λ (r : Root). pageAt (claim P v d) r (p / 16384)) (bits-root v (claim P v d) claim-roots P)
 
   abbrev wordOf : ℕ → ℕ
   wordOf p = p % 16384 / 16
@@ -153,7 +154,7 @@ module _ (P : ℕ) (v : Vol) (hand : ℕ → ℕ) (G : Good P v hand) (d : ℕ) 
   ]
 
   pub claim-good : Good P (claim P v d) (λ p. hand p + hit d p)
-  claim-good = record { most = most-calm v (claim P v d) roots C c0 claim-agree quiet P (λ k i. claim-master k) (G .most); held = held }
+  claim-good = record { most = most-calm v (claim P v d) claim-roots C claim-none claim-agree claim-quiet P (λ k i. claim-master k) (G .most); held = held }
     where
       held : (p : ℕ) → p < P → bit P (claim P v d) p ≡ is p 0 + all P (claim P v d) (hit p) + (hand p + hit d p)
       held p h = elim (ℕ-discrete p d) [

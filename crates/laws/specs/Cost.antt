@@ -6,16 +6,12 @@ use native.Mathlib.Nat.{eq-zero-or-pos}
 use native.Mathlib.Decide.{ℕ-discrete}
 use native.Mathlib.Omega.{arith}
 use Rattle.sums.specs.Sum.{sum, is, is-same, is-other, sum-ext, sum-add}
-use Rattle.book.specs.Files.{need}
+use Rattle.book.specs.Files.{cost, need}
 use Rattle.book.specs.Holders.{some}
 use Rattle.book.specs.Pointers.{slot}
 use Rattle.book.specs.Trees.{weigh, Fill}
 use Rattle.book.specs.Words.{Vol}
 use Rattle.laws.specs.Tree.{some-pos, some-zero}
-
--- data pages, index blocks and subindex block of an indexed file
-unfoldable pub cost : ℕ → ℕ
-cost n = n + (n + 511) / 512 + min 1 (n - 512)
 
 pub cost-suc : (n : ℕ) → cost (suc n) ≡ cost n + need n
 unfolding cost need

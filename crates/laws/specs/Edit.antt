@@ -174,7 +174,7 @@ module _ (P : ℕ) (v : Vol) (hand : ℕ → ℕ) (G : Good P v hand) (pos : 0 <
     c-bits : weighR v (bitFile P v) C ≡ 0
     c-bits = omega (arith, parts (bitFile P v), D-else, file-le v D a f ha hf, obj-page P v hand G pos (e / 32) .0, user-page P v hand G pos (a / 32) .0)
 
-    c-users : blocksR v (userFile v) C ≡ 0
+    pub c-users : blocksR v (userFile v) C ≡ 0
     c-users = omega (
       arith,
       partsB (userFile v),
@@ -186,7 +186,7 @@ module _ (P : ℕ) (v : Vol) (hand : ℕ → ℕ) (G : Good P v hand) (pos : 0 <
       user-page P v hand G pos (a / 32) .2,
     )
 
-    c-objs : blocksR v (objectFile v) C ≡ 0
+    pub c-objs : blocksR v (objectFile v) C ≡ 0
     c-objs = omega (
       arith,
       partsB (objectFile v),
@@ -198,7 +198,7 @@ module _ (P : ℕ) (v : Vol) (hand : ℕ → ℕ) (G : Good P v hand) (pos : 0 <
       user-page P v hand G pos (a / 32) .1,
     )
 
-    c-file : (u h : ℕ) → u < 256 → h < 256 → 256 * u + h ≢ e → weighR v (fileAt v (256 * u + h)) C ≡ 0
+    pub c-file : (u h : ℕ) → u < 256 → h < 256 → 256 * u + h ≢ e → weighR v (fileAt v (256 * u + h)) C ≡ 0
     c-file u h hu hh ne = omega (
       arith,
       parts (fileAt v (256 * u + h)),
@@ -275,10 +275,10 @@ module _ (P : ℕ) (v : Vol) (hand : ℕ → ℕ) (G : Good P v hand) (pos : 0 <
         ∙ ap (digit (p % 16)) (E .agree (pageAt v (bitFile P v) (p / 16384)) (omega (arith, c-bits, pageAt-le v C c0 (bitFile P v) (p / 16384))) (p % 16384 / 16))
 
     -- the trees' weights
-    zeroB : (r : Root) → weighR v r C ≡ 0 → blocksR v r C ≡ 0
+    pub zeroB : (r : Root) → weighR v r C ≡ 0 → blocksR v r C ≡ 0
     zeroB r h = omega (arith, blocksR-le v r C)
 
-    file-root : (x : ℕ) → x ≢ e → fileAt v′ x ≡ fileAt v x
+    pub file-root : (x : ℕ) → x ≢ e → fileAt v′ x ≡ fileAt v x
     file-root x n = file-kept v v′ x (record {
       head = objs-words x n 0 (omega arith);
       pages = two-ext (object v′ x) (object v x) 26 (objs-words x n 26 (omega arith)) (objs-words x n 27 (omega arith));
@@ -286,7 +286,7 @@ module _ (P : ℕ) (v : Vol) (hand : ℕ → ℕ) (G : Good P v hand) (pos : 0 <
       ptr′ = objs-words x n 31 (omega arith);
     })
 
-    w-file : (g : ℕ → ℕ) (u h : ℕ) → u < 256 → h < 256 → 256 * u + h ≢ e → weighR v′ (fileAt v′ (256 * u + h)) g ≡ weighR v (fileAt v (256 * u + h)) g
+    pub w-file : (g : ℕ → ℕ) (u h : ℕ) → u < 256 → h < 256 → 256 * u + h ≢ e → weighR v′ (fileAt v′ (256 * u + h)) g ≡ weighR v (fileAt v (256 * u + h)) g
     w-file g u h hu hh n = ap (λ (r : Root). weighR v′ r g) (file-root (256 * u + h) n)
         ∙ weighR-frame v v′ C (E .agree) (fileAt v (256 * u + h)) (zeroB _ (c-file u h hu hh n)) g
 

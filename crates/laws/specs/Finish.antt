@@ -110,7 +110,7 @@ module _ (P : ℕ) (v : Vol) (hand : ℕ → ℕ) (G : Good P v hand) (pos : 0 <
   abbrev OO : ℕ
   OO = pageAt v (objectFile v) (ee / 32)
 
-  isO : 0 < OO
+  pub isO : 0 < OO
   unfolding object
   isO = used-page v (objectFile v) ee uf
 
@@ -118,11 +118,11 @@ module _ (P : ℕ) (v : Vol) (hand : ℕ → ℕ) (G : Good P v hand) (pos : 0 <
   unfolding Rule6
   owner-used = G .most .r6 .0 a f ha hf uf .owner
 
-  isU : 0 < UU
+  pub isU : 0 < UU
   unfolding user
   isU = used-page v (userFile v) a owner-used
 
-  UO : UU ≢ OO
+  pub UO : UU ≢ OO
   UO i = omega (arith, pageAt-le v (hit UU) (hit-zero UU) (objectFile v) (ee / 32), user-page P v hand G pos (a / 32) .1, subst (λ (y : ℕ). hit UU y ≡ 1) i (hit-same UU isU))
 
   -- the blocks have changed: v₂ differs from v only at D, where only this file and the hand hold pages
@@ -155,7 +155,7 @@ module _ (P : ℕ) (v : Vol) (hand : ℕ → ℕ) (G : Good P v hand) (pos : 0 <
     inU : (k : ℕ) → k ≢ 32 * (a % 32) + 16 → k ≢ 32 * (a % 32) + 17 → word v₃ UU k ≡ word v UU k
     inU k i j = word-pos v₃ UU k isU ∙ fin-U v₂ UU OO a ee n (pointer kind t) x UO k i j ∙ sym (word-pos v₂ UU k isU) ∙ sameU k
 
-    change : Change P v hand G pos a f ha hf D v₃
+    pub change : Change P v hand G pos a f ha hf D v₃
     unfolding Agree Outside
     change = record {
       none = K .none;
@@ -229,7 +229,7 @@ module _ (P : ℕ) (v : Vol) (hand : ℕ → ℕ) (G : Good P v hand) (pos : 0 <
       abbrev B : ℕ → ℕ
       B y = hit OO y + hit UU y
 
-      agreeB : Agree B v₂ v₃
+      pub agreeB : Agree B v₂ v₃
       unfolding Agree
       agreeB q h k = word-ext v₂ v₃ q k (λ i. fin-page v₂ UU OO a ee n (pointer kind t) x UO q k
           (λ j. omega (arith, h, subst (λ (y : ℕ). hit y q ≡ 1) j (hit-same q i))) (λ j. omega (arith, h, subst (λ (y : ℕ). hit y q ≡ 1) j (hit-same q i))))
@@ -257,7 +257,7 @@ module _ (P : ℕ) (v : Vol) (hand : ℕ → ℕ) (G : Good P v hand) (pos : 0 <
         hit-same UU isU,
       )
 
-      quiet : blocksR v₂ (rootBy kind t n) B ≡ 0
+      pub quiet : blocksR v₂ (rootBy kind t n) B ≡ 0
       quiet = omega (
         arith,
         blocksR-le v₂ (rootBy kind t n) B,
@@ -275,7 +275,7 @@ module _ (P : ℕ) (v : Vol) (hand : ℕ → ℕ) (G : Good P v hand) (pos : 0 <
       used-kept : used (object v₃ ee) ≡ used (object v ee)
       used-kept = used-ext (object v₃ ee) (object v ee) (obj-kept 0 (omega arith))
 
-      new-root : fileAt v₃ ee ≡ rootBy kind t n
+      pub new-root : fileAt v₃ ee ≡ rootBy kind t n
       unfolding rootAt
       new-root = file-used v₃ ee (omega (arith, used-kept)) ∙ root
         where
@@ -308,14 +308,14 @@ module _ (P : ℕ) (v : Vol) (hand : ℕ → ℕ) (G : Good P v hand) (pos : 0 <
         omega (arith, new-bytes, new-pages),
       )
 
-      weight : (g : ℕ → ℕ) → g 0 ≡ 0 → weighR v₃ (fileAt v₃ ee) g + gone g ≡ weighR v (fileAt v ee) g + new g
+      pub weight : (g : ℕ → ℕ) → g 0 ≡ 0 → weighR v₃ (fileAt v₃ ee) g + gone g ≡ weighR v (fileAt v ee) g + new g
       weight g g0 = omega (arith, ap (λ (r : Root). weighR v₃ r g) new-root ∙ weighR-frame v₂ v₃ B agreeB (rootBy kind t n) quiet g, R .weight g g0)
 
       high : flags (v 0) 1016 ≡ 1 → 63 < a → used (user v a) ≡ 0
       unfolding Rule5 Rule5By
       high q i = subst (λ (x : ℕ). Rule5By P v x (page (v 0) 1016)) q (G .most .r5) .1 a i ha
 
-      master : (k : ℕ) → v₃ 0 k ≡ v 0 k
+      pub master : (k : ℕ) → v₃ 0 k ≡ v 0 k
       master k = fin-page v₂ UU OO a ee n (pointer kind t) x UO 0 k (λ i. omega (arith, i, isO)) (λ i. omega (arith, i, isU)) ∙ K .master k
 
       fine : Fine P v hand G pos a f ha hf D v₃ change gone new hand′

@@ -10,6 +10,7 @@ use Rattle.bits.proofs.Places.{run-none, run-more, bits-run}
 use Rattle.bits.proofs.claim_run.Statement.{statement}
 use Rattle.bits.proofs.claim_run.Tie as tie
 
+-- the pages passed are taken
 abbrev Inv-loop : tie.InvT-loop
 Inv-loop img₀ b s n i₀ img i =
     (i ≤ n) × (length img ≡ length img₀) × ((P : ℕ) → BitsAt P (vol img₀) b → s + n ≤ P → vol img ≡ claimRun P (vol img₀) s i)

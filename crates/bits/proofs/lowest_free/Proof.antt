@@ -11,6 +11,7 @@ use Rattle.bits.proofs.Places.{bit-in, full-more}
 use Rattle.bits.proofs.lowest_free.Statement.{statement}
 use Rattle.bits.proofs.lowest_free.Tie as tie
 
+-- every page of the words passed is reserved
 abbrev Inv-loop : tie.InvT-loop
 Inv-loop img b pages i₀ i = (i * 16 < pages + 16) × ((k : ℕ) → k < i * 16 → k < pages → bit pages (vol img) k ≡ 1)
 

@@ -11,6 +11,7 @@ use Rattle.bits.proofs.Places.{sum-full, sum-last, sum-bits-le}
 use Rattle.bits.proofs.reserved.Statement.{statement}
 use Rattle.bits.proofs.reserved.Tie as tie
 
+-- n counts the bits of the words passed
 abbrev Inv-loop : tie.InvT-loop
 Inv-loop img b pages full rest n₀ i₀ n i = (i ≤ full) × (n ≡ sum (i * 16) (bit pages (vol img)))
 

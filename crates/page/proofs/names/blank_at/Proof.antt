@@ -8,6 +8,7 @@ use Rattle.page.specs.Parts.{Blank}
 use Rattle.page.proofs.names.blank_at.Statement.{statement}
 use Rattle.page.proofs.names.blank_at.Tie as tie
 
+-- the words passed are zeros
 abbrev Inv-loop : tie.InvT-loop
 Inv-loop img p k z i₀ i = (k ≤ i) × (i ≤ z) × Blank (vol img p) k i
 

@@ -11,6 +11,7 @@ use Rattle.page.proofs.Stored.{byte-high, byte-low, word-more}
 use Rattle.page.proofs.names.letters_at.Statement.{statement}
 use Rattle.page.proofs.names.letters_at.Tie as tie
 
+-- both bytes of each word passed are letters
 abbrev Inv-loop : tie.InvT-loop
 Inv-loop img p k n i₀ i = (i ≤ n / 2) × ((j : ℕ) → j < 2 * i → Letter (byteAt (vol img p) k j))
 

@@ -9,6 +9,7 @@ use Rattle.book.specs.Names.{Same, packed}
 use Rattle.page.proofs.names.named_at.Statement.{statement}
 use Rattle.page.proofs.names.named_at.Tie as tie
 
+-- the words passed are those of the stored form
 abbrev Inv-loop : tie.InvT-loop
 Inv-loop img p k n s i₀ i = (i ≤ n) × ((x : ℕ) → x < i → vol img p (k + x) ≡ packed s x)
 

@@ -10,6 +10,7 @@ use Rattle.page.proofs.Parts.{begins-more}
 use Rattle.page.proofs.names.pack.Statement.{statement}
 use Rattle.page.proofs.names.pack.Tie as tie
 
+-- the words passed are those of the stored form
 abbrev Inv-loop : tie.InvT-loop
 Inv-loop part₀ s i₀ part i = (i ≤ length part₀) × (length part ≡ length part₀) × Begins i part (packed s)
 

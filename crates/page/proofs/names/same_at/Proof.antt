@@ -8,6 +8,7 @@ use Rattle.book.specs.Names.{Same}
 use Rattle.page.proofs.names.same_at.Statement.{statement}
 use Rattle.page.proofs.names.same_at.Tie as tie
 
+-- the words passed are equal
 abbrev Inv-loop : tie.InvT-loop
 Inv-loop img p j q k n i₀ i = (i ≤ n) × ((x : ℕ) → x < i → vol img p (j + x) ≡ vol img q (k + x))
 

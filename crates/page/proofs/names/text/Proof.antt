@@ -9,6 +9,7 @@ use Rattle.book.specs.Decides.{holds, fails}
 use Rattle.page.proofs.names.text.Statement.{statement}
 use Rattle.page.proofs.names.text.Tie as tie
 
+-- the bytes passed are letters
 abbrev Inv-loop : tie.InvT-loop
 Inv-loop s m n i₀ i = (i ≤ length s) × ((k : ℕ) → k < i → Letter (getD s k 0))
 

@@ -9,6 +9,7 @@ use Rattle.page.proofs.Parts.{begins-more}
 use Rattle.page.proofs.write.copy_words.Statement.{statement}
 use Rattle.page.proofs.write.copy_words.Tie as tie
 
+-- the words passed are those of `from`
 abbrev Inv-loop : tie.InvT-loop
 Inv-loop part₀ from i₀ part i = (i ≤ length part₀) × (length part ≡ length part₀) × Begins i part (λ k. getD from k 0)
 

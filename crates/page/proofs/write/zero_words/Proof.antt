@@ -10,6 +10,7 @@ use Rattle.page.proofs.Parts.{begins-more}
 use Rattle.page.proofs.write.zero_words.Statement.{statement}
 use Rattle.page.proofs.write.zero_words.Tie as tie
 
+-- the words passed are zeros
 abbrev Inv-loop : tie.InvT-loop
 Inv-loop part₀ i₀ part i = (i ≤ length part₀) × (length part ≡ length part₀) × Begins i part zeros
 

@@ -1,0 +1,58 @@
+use mathlib.Core.Path.{_≡_, subst}
+use Prim.Native.Nat.{ℕ, _+_, _*_, _≤_, _-_}
+use native.Mathlib.Omega.{arith}
+use Rattle.book.specs.Words.{vol}
+use Rattle.book.specs.Trees.{rootBy}
+use Rattle.book.specs.Entries.{entry}
+use Rattle.book.specs.Decides.{holds, fails}
+use Rattle.heads.specs.Span.{Span, span-none, span-more, span-at}
+use Rattle.heads.specs.Twins.{Apart}
+use Rattle.heads.proofs.objects.all_apart.Statement.{statement}
+use Rattle.heads.proofs.objects.all_apart.Tie as tie
+
+abbrev Inv-loop : tie.InvT-loop
+Inv-loop img flags top u₀ u = (u ≤ 256) × Span (λ w. Apart (entry (vol img) (rootBy flags top 0)) 10 (256 * w) (256 * w + 256)) 0 u
+
+abbrev μ-loop : tie.MeasureT-loop
+μ-loop img flags top u₀ u = 256 - u
+
+loop-holds : tie.Need-loop-holds Inv-loop μ-loop
+loop-holds c = (omega arith, span-none _ _)
+
+mul-apart : tie.Need-mul-apart Inv-loop μ-loop
+mul-apart c = omega arith
+
+apart-requires : tie.Need-apart-requires Inv-loop μ-loop
+apart-requires c κs = (c .before .before .before .pre, omega arith, omega arith, omega arith)
+
+returns : tie.Need-returns Inv-loop μ-loop
+returns c = λ s. fails (c .before .apart .result) _ (c .before .apart .ensures) (c .if1 .taken) (span-at _ _ _ s (c .before .before .before .loop .u) (omega arith) (omega arith))
+
+add-u : tie.Need-add-u Inv-loop μ-loop
+add-u c = omega arith
+
+loop-less : tie.Need-loop-less Inv-loop μ-loop
+loop-less c = omega arith
+
+loop-again : tie.Need-loop-again Inv-loop μ-loop
+loop-again c = (omega arith, span-more _ _ _ (c .before .before .before .loop .inv .1) (holds (c .before .apart .result) _ (c .before .apart .ensures) (c .if1 .left)))
+
+returns-2 : tie.Need-returns-2 Inv-loop μ-loop
+returns-2 c =
+    let a = c .before .before .before .args in let l = c .before .loop in let e : l .u ≡ 256 = omega arith in
+    subst (λ (z : ℕ). Span (λ w. Apart (entry (vol (a .img .now)) (rootBy (a .flags) (a .top) 0)) 10 (256 * w) (256 * w + 256)) 0 z) e (l .inv .1)
+
+pub all-apart-spec : {M : Type 1} → statement M
+all-apart-spec =
+    tie.close
+    (tie.spec
+    Inv-loop
+    μ-loop
+    loop-holds
+    mul-apart
+    apart-requires
+    returns
+    add-u
+    loop-less
+    loop-again
+    returns-2)

@@ -1,0 +1,4 @@
+pub mod Slots
+pub mod Span
+pub mod Fine
+pub mod Twins

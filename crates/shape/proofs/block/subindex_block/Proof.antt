@@ -1,0 +1,24 @@
+use Rattle.book.specs.Decides.{holds, fails, decides-and}
+use borrow.Author.Needs.{needs}
+use Rattle.shape.proofs.block.subindex_block.Statement.{statement}
+use Rattle.shape.proofs.block.subindex_block.Tie as tie
+
+add-m : tie.Need-add-m
+add-m c = search needs
+
+indexes-ok-requires : tie.Need-indexes-ok-requires
+indexes-ok-requires c κs = search needs
+
+returns : tie.Need-returns
+returns c = λ h. fails (c .before .indexes-ok .result) _ (c .before .indexes-ok .ensures) (c .if1 .taken) (h .0)
+
+unlinked-requires : tie.Need-unlinked-requires
+unlinked-requires c κs = search needs
+
+returns-2 : tie.Need-returns-2
+returns-2 c =
+    decides-and (c .unlinked .result) _ _ (holds (c .before .before .indexes-ok .result) _ (c .before .before .indexes-ok .ensures) (c .before .if1 .left)) (c .unlinked .ensures)
+
+pub subindex-block-spec : {M : Type 1} → statement M
+subindex-block-spec =
+    tie.close (tie.spec add-m indexes-ok-requires returns unlinked-requires returns-2)

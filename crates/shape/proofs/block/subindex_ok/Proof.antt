@@ -1,0 +1,57 @@
+use mathlib.Core.Path.{subst}
+use Prim.Native.Nat.{ℕ}
+use Rattle.book.specs.Decides.{Decides}
+use Rattle.book.specs.Words.{vol}
+use Rattle.shape.specs.Shapes.{Filled}
+use Rattle.shape.proofs.Blocks.{filled-top, decides-subindex}
+use native.Mathlib.Omega.{arith}
+use borrow.Author.Needs.{needs}
+use Rattle.shape.proofs.block.subindex_ok.Statement.{statement}
+use Rattle.shape.proofs.block.subindex_ok.Tie as tie
+
+returns : tie.Need-returns
+returns c = λ f. let a = c .before .before .args in omega (arith, filled-top _ (vol (a .img .now)) (a .n) (omega arith) 2 (a .t) f .0)
+
+returns-2 : tie.Need-returns-2
+returns-2 c = λ f. let a = c .before .before .before .args in omega (arith, filled-top _ (vol (a .img .now)) (a .n) (omega arith) 2 (a .t) f .1)
+
+mul-a : tie.Need-mul-a
+mul-a c = search needs
+
+add-z : tie.Need-add-z
+add-z c = search needs
+
+mul-subindex-block : tie.Need-mul-subindex-block
+mul-subindex-block c = search needs
+
+sub-subindex-block : tie.Need-sub-subindex-block
+sub-subindex-block c = search needs
+
+part-subindex-block-start : tie.Need-part-subindex-block-start
+part-subindex-block-start c = search needs
+
+part-subindex-block-end : tie.Need-part-subindex-block-end
+part-subindex-block-end c = search needs
+
+subindex-block-requires : tie.Need-subindex-block-requires
+subindex-block-requires c κs = search needs
+
+returns-3 : tie.Need-returns-3
+returns-3 c =
+    let s = c .before .before .before .before .before in let a = s .args in
+    decides-subindex (a .img .now) _ (a .t) (a .n) (omega arith) (omega arith) (omega arith) (omega arith) (c .subindex-block .result) (c .subindex-block .ensures)
+
+pub subindex-ok-spec : {M : Type 1} → statement M
+subindex-ok-spec =
+    tie.close
+    (tie.spec
+    returns
+    returns-2
+    mul-a
+    add-z
+    mul-subindex-block
+    sub-subindex-block
+    part-subindex-block-start
+    part-subindex-block-end
+    subindex-block-requires
+    returns-3)

@@ -1,0 +1,54 @@
+use mathlib.Core.Path.{subst, sym}
+use mathlib.Core.Logic.{_⊎_}
+use Prim.Native.Nat.{ℕ}
+use Rattle.book.specs.Decides.{Decides}
+use Rattle.book.specs.Files.{Empty, Contiguous}
+use Rattle.book.specs.Image.{pages}
+use Rattle.book.specs.Words.{vol}
+use Rattle.shape.proofs.Files.{shape-0, shape-1, shape-2, shape-wrong}
+use native.Mathlib.Omega.{arith}
+use borrow.Author.Needs.{needs}
+use Rattle.shape.proofs.file.shape_ok.Statement.{statement}
+use Rattle.shape.proofs.file.shape_ok.Tie as tie
+
+run-ok-requires : tie.Need-run-ok-requires
+run-ok-requires c κs = search needs
+
+returns : tie.Need-returns
+returns c =
+    let s = c .before .before .before in let a = s .args in
+    shape-0 (pages (a .img .now)) (vol (a .img .now)) (a .flags) (a .t) (a .n) (c .run-ok .result) (c .before .if1 .taken)
+    (subst (λ (P : ℕ). Decides (c .run-ok .result) (Empty (a .t) (a .n) ⊎ Contiguous P (a .t) (a .n))) (s .pre .1) (c .run-ok .ensures))
+
+indexed-ok-requires : tie.Need-indexed-ok-requires
+indexed-ok-requires c κs = search needs
+
+returns-2 : tie.Need-returns-2
+returns-2 c =
+    let a = c .before .before .before .before .args in
+    shape-1 (pages (a .img .now)) (vol (a .img .now)) (a .flags) (a .t) (a .n) (c .indexed-ok .result) (c .before .if2 .taken) (c .indexed-ok .ensures)
+
+subindexed-ok-requires : tie.Need-subindexed-ok-requires
+subindexed-ok-requires c κs = search needs
+
+returns-3 : tie.Need-returns-3
+returns-3 c =
+    let a = c .before .before .before .before .before .args in
+    shape-2 (pages (a .img .now)) (vol (a .img .now)) (a .flags) (a .t) (a .n) (c .subindexed-ok .result) (c .before .if3 .taken) (c .subindexed-ok .ensures)
+
+returns-4 : tie.Need-returns-4
+returns-4 c =
+    let a = c .before .before .before .before .args in
+    shape-wrong (pages (a .img .now)) (vol (a .img .now)) (a .flags) (a .t) (a .n) (omega arith)
+
+pub shape-ok-spec : {M : Type 1} → statement M
+shape-ok-spec =
+    tie.close
+    (tie.spec
+    run-ok-requires
+    returns
+    indexed-ok-requires
+    returns-2
+    subindexed-ok-requires
+    returns-3
+    returns-4)

@@ -1,0 +1,136 @@
+// The blocks of a file: whether the tree under an index or subindex block has exactly the positions 0 to n - 1, all its pages in 1..P-1.
+use page::WORDS;
+use page::read::dword;
+ghost use mathlib.Core.Path.{_≡_};
+ghost use Prim.Native.Nat.{_+_, _*_, _/_, _≤_, _<_};
+ghost use lib.ListN.{length};
+ghost use Rattle.book.specs.Decides.{Decides};
+ghost use Rattle.book.specs.Image.{pages, Whole};
+ghost use Rattle.book.specs.Words.{vol};
+ghost use Rattle.shape.specs.Shapes.{Filled, Linked, Unlinked, Indexes, shareOf};
+
+// Whether a page number is in 1..total-1.
+fn inside(p: u32, total: usize) -> bool
+    ensures { λ r. ⌜ Decides r ((0 < p) × (p < total)) ⌝ }
+{
+    if p == 0 {
+        return false;
+    }
+    if total <= p as usize {
+        return false;
+    }
+    true
+}
+
+// Whether pointers 0 to n - 1 of a block are in 1..total-1.
+fn linked(block: &[u16], total: usize, n: usize) -> bool
+    requires { ⌜ (length (now block) ≡ 1024) × (n ≤ 512) ⌝ }
+    ensures { λ r. ⌜ Decides r (Linked total (now (block .entry)) n) ⌝ }
+{
+    let mut i: usize = 0;
+    while i < n {
+        if !inside(dword(block, 2 * i), total) {
+            return false;
+        }
+        i += 1;
+    }
+    true
+}
+
+// Whether pointers n to 511 of a block are zero.
+fn unlinked(block: &[u16], n: usize) -> bool
+    requires { ⌜ (length (now block) ≡ 1024) × (n ≤ 512) ⌝ }
+    ensures { λ r. ⌜ Decides r (Unlinked (now (block .entry)) n 512) ⌝ }
+{
+    let mut i = n;
+    while i < 512 {
+        if dword(block, 2 * i) != 0 {
+            return false;
+        }
+        i += 1;
+    }
+    true
+}
+
+// Whether pointers 0 to n - 1 of a block are in 1..total-1 and the others zero.
+fn index_block(block: &[u16], total: usize, n: usize) -> bool
+    requires { ⌜ (length (now block) ≡ 1024) × (n ≤ 512) ⌝ }
+    ensures { λ r. ⌜ Decides r (Linked total (now (block .entry)) n × Unlinked (now (block .entry)) n 512) ⌝ }
+{
+    if !linked(block, total, n) {
+        return false;
+    }
+    unlinked(block, n)
+}
+
+// Whether page b is an index block of n pages.
+pub fn index_ok(img: &[u16], total: usize, b: usize, n: usize) -> bool
+    requires { ⌜ Whole (now img) × (total ≡ pages (now img)) × (0 < n) × (n ≤ 512) ⌝ }
+    ensures { λ r. ⌜ Decides r (Filled (pages (now (img .entry))) (vol (now (img .entry))) 1 b n) ⌝ }
+{
+    if b == 0 {
+        return false;
+    }
+    if total <= b {
+        return false;
+    }
+    let a = WORDS * b;
+    let z = a + WORDS;
+    index_block(&img[a..z], total, n)
+}
+
+// Of n positions, those under slot k of a subindex block.
+fn share(n: usize, k: usize) -> usize
+    requires { ⌜ (k < 512) × (k * 512 < n) ⌝ }
+    ensures { λ r. ⌜ (r ≡ shareOf n k) × (0 < r) × (r ≤ 512) ⌝ }
+{
+    let rest = n - k * 512;
+    if rest < 512 {
+        return rest;
+    }
+    512
+}
+
+// Whether pointers 0 to m - 1 of a subindex block, the slots that n positions need, lead to index blocks of their shares.
+fn indexes_ok(img: &[u16], total: usize, block: &[u16], n: usize, m: usize) -> bool
+    requires { ⌜ Whole (now img) × (total ≡ pages (now img)) × (length (now block) ≡ 1024) × (n ≤ 262144) × (m ≡ (n + 511) / 512) ⌝ }
+    ensures { λ r. ⌜ Decides r (Indexes (pages (now (img .entry))) (vol (now (img .entry))) (now (block .entry)) n m) ⌝ }
+{
+    let mut k: usize = 0;
+    while k < m {
+        if !index_ok(img, total, dword(block, 2 * k) as usize, share(n, k)) {
+            return false;
+        }
+        k += 1;
+    }
+    true
+}
+
+// Whether a subindex block has n positions under it.
+fn subindex_block(img: &[u16], total: usize, block: &[u16], n: usize) -> bool
+    requires { ⌜ Whole (now img) × (total ≡ pages (now img)) × (length (now block) ≡ 1024) × (n ≤ 262144) ⌝ }
+    ensures { λ r. ⌜ Decides r (Indexes (pages (now (img .entry))) (vol (now (img .entry))) (now (block .entry)) n ((n + 511) / 512)
+        × Unlinked (now (block .entry)) ((n + 511) / 512) 512) ⌝ }
+{
+    let m = (n + 511) / 512;
+    if !indexes_ok(img, total, block, n, m) {
+        return false;
+    }
+    unlinked(block, m)
+}
+
+// Whether page t is a subindex block of n pages.
+pub fn subindex_ok(img: &[u16], total: usize, t: usize, n: usize) -> bool
+    requires { ⌜ Whole (now img) × (total ≡ pages (now img)) × (512 < n) × (n ≤ 262144) ⌝ }
+    ensures { λ r. ⌜ Decides r (Filled (pages (now (img .entry))) (vol (now (img .entry))) 2 t n) ⌝ }
+{
+    if t == 0 {
+        return false;
+    }
+    if total <= t {
+        return false;
+    }
+    let a = WORDS * t;
+    let z = a + WORDS;
+    subindex_block(img, total, &img[a..z], n)
+}

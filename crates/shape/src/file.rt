@@ -1,0 +1,108 @@
+// The shape of one file: by the flags of its pointer, and with its bytes, by its entry.
+use crate::block::index_ok;
+use crate::block::subindex_ok;
+use tree::entry::entry_flags;
+use tree::entry::entry_page;
+use tree::entry::entry_two;
+use tree::entry::entry_used;
+ghost use mathlib.Core.Path.{_≡_};
+ghost use mathlib.Core.Logic.{_⊎_};
+ghost use Prim.Native.Nat.{_<_};
+ghost use Rattle.book.specs.Decides.{Decides};
+ghost use Rattle.book.specs.Entries.{used};
+ghost use Rattle.book.specs.Files.{Shape, Empty, Contiguous, Indexed, Subindexed, bytesOf};
+ghost use Rattle.book.specs.Image.{pages, Whole};
+ghost use Rattle.book.specs.Words.{vol};
+ghost use Rattle.tree.specs.Reach.{entryIn};
+ghost use Rattle.shape.specs.Shapes.{Shaped};
+
+// Whether a pointer without flags to page t is that of a file of n pages: an empty or a contiguous one.
+fn run_ok(total: usize, t: usize, n: usize) -> bool
+    requires { ⌜ (t < 4294967296) × (n < 4294967296) ⌝ }
+    ensures { λ r. ⌜ Decides r (Empty t n ⊎ Contiguous total t n) ⌝ }
+{
+    if n == 0 {
+        return t == 0;
+    }
+    if t == 0 {
+        return false;
+    }
+    t + n <= total
+}
+
+// Whether page t is the index block of a file of n pages.
+fn indexed_ok(img: &[u16], total: usize, t: usize, n: usize) -> bool
+    requires { ⌜ Whole (now img) × (total ≡ pages (now img)) ⌝ }
+    ensures { λ r. ⌜ Decides r (Indexed (pages (now (img .entry))) (vol (now (img .entry))) t n) ⌝ }
+{
+    if n == 0 {
+        return false;
+    }
+    if 512 < n {
+        return false;
+    }
+    index_ok(img, total, t, n)
+}
+
+// Whether page t is the subindex block of a file of n pages.
+fn subindexed_ok(img: &[u16], total: usize, t: usize, n: usize) -> bool
+    requires { ⌜ Whole (now img) × (total ≡ pages (now img)) ⌝ }
+    ensures { λ r. ⌜ Decides r (Subindexed (pages (now (img .entry))) (vol (now (img .entry))) t n) ⌝ }
+{
+    if n <= 512 {
+        return false;
+    }
+    if 262144 < n {
+        return false;
+    }
+    subindex_ok(img, total, t, n)
+}
+
+// Whether a pointer with these flags to page t is that of a file of n pages.
+fn shape_ok(img: &[u16], total: usize, flags: u16, t: usize, n: usize) -> bool
+    requires { ⌜ Whole (now img) × (total ≡ pages (now img)) × (t < 4294967296) × (n < 4294967296) ⌝ }
+    ensures { λ r. ⌜ Decides r (Shape (pages (now (img .entry))) (vol (now (img .entry))) flags t n) ⌝ }
+{
+    if flags == 0 {
+        return run_ok(total, t, n);
+    }
+    if flags == 1 {
+        return indexed_ok(img, total, t, n);
+    }
+    if flags == 2 {
+        return subindexed_ok(img, total, t, n);
+    }
+    false
+}
+
+// Whether these are the bytes of n pages.
+fn bytes_ok(n: u32, bytes: u32) -> bool
+    ensures { λ r. ⌜ Decides r (bytes ≡ bytesOf n) ⌝ }
+{
+    bytes as u64 == 2048 * (n as u64)
+}
+
+// Whether the file in entry e on page q has one of the shapes, its bytes right, all its pages in 1..total-1.
+fn file_ok(img: &[u16], total: usize, q: usize, e: usize) -> bool
+    requires { ⌜ Whole (now img) × (total ≡ pages (now img)) × (q < pages (now img)) ⌝ }
+    ensures { λ r. ⌜ Decides r (Shaped (pages (now (img .entry))) (vol (now (img .entry))) (entryIn (vol (now (img .entry))) q e)) ⌝ }
+{
+    let n = entry_two(img, q, e, 26);
+    if !bytes_ok(n, entry_two(img, q, e, 28)) {
+        return false;
+    }
+    let flags = entry_flags(img, q, e, 30);
+    let t = entry_page(img, q, e, 30);
+    shape_ok(img, total, flags, t, n as usize)
+}
+
+// Whether entry e on page q is unused, or its file is right.
+pub fn entry_ok(img: &[u16], total: usize, q: usize, e: usize) -> bool
+    requires { ⌜ Whole (now img) × (total ≡ pages (now img)) × (q < pages (now img)) ⌝ }
+    ensures { λ r. ⌜ Decides r (0 < used (entryIn (vol (now (img .entry))) q e) → Shaped (pages (now (img .entry))) (vol (now (img .entry))) (entryIn (vol (now (img .entry))) q e)) ⌝ }
+{
+    if !entry_used(img, q, e) {
+        return true;
+    }
+    file_ok(img, total, q, e)
+}

@@ -1,0 +1,55 @@
+// Rule 7: each file has one of the shapes, its bytes right, all its pages in 1..P-1. It goes over the pages of the object file and skips absent ones.
+use crate::file::entry_ok;
+use tree::root::object_page;
+ghost use mathlib.Core.Path.{_≡_};
+ghost use Prim.Native.Nat.{_+_, _*_, _<_};
+ghost use Rattle.book.specs.Decides.{Decides};
+ghost use Rattle.book.specs.Entries.{objectFile, objectPage};
+ghost use Rattle.book.specs.Image.{pages, Whole};
+ghost use Rattle.book.specs.Rules.{Rule2, Rule5, Rule7};
+ghost use Rattle.book.specs.Words.{vol};
+ghost use Rattle.tree.specs.Reach.{Reach};
+ghost use Rattle.shape.specs.Shapes.{FilesRight};
+
+// Whether the files are right whose entries are on object page q, the one at position n.
+fn page_ok(img: &[u16], total: usize, q: usize, n: usize) -> bool
+    requires { ⌜ Whole (now img) × (total ≡ pages (now img)) × (q < pages (now img)) × (n < 2048) × (q ≡ objectPage (vol (now img)) (32 * n)) ⌝ }
+    ensures { λ r. ⌜ Decides r (FilesRight (pages (now (img .entry))) (vol (now (img .entry))) (32 * n) (32 * n + 32)) ⌝ }
+{
+    let e = 32 * n;
+    let mut k: usize = 0;
+    while k < 32 {
+        if !entry_ok(img, total, q, e + k) {
+            return false;
+        }
+        k += 1;
+    }
+    true
+}
+
+// Whether the files are right whose entries are at position n of the object file.
+fn position_ok(img: &[u16], total: usize, n: usize) -> bool
+    requires { ⌜ Whole (now img) × (total ≡ pages (now img)) × Reach (now img) (objectFile (vol (now img))) × (n < 2048) ⌝ }
+    ensures { λ r. ⌜ Decides r (FilesRight (pages (now (img .entry))) (vol (now (img .entry))) (32 * n) (32 * n + 32)) ⌝ }
+{
+    let q = object_page(img, 32 * n);
+    if q == 0 {
+        return true;
+    }
+    page_ok(img, total, q, n)
+}
+
+// Whether rule 7 holds.
+pub fn rule7(img: &[u16], total: usize) -> bool
+    requires { ⌜ Whole (now img) × (total ≡ pages (now img)) × Rule2 (pages (now img)) (vol (now img)) × Rule5 (pages (now img)) (vol (now img)) ⌝ }
+    ensures { λ r. ⌜ Decides r (Rule7 (pages (now (img .entry))) (vol (now (img .entry)))) ⌝ }
+{
+    let mut n: usize = 0;
+    while n < 2048 {
+        if !position_ok(img, total, n) {
+            return false;
+        }
+        n += 1;
+    }
+    true
+}
