@@ -97,5 +97,9 @@ module _ (m : List ℕ) (u : Unmarked m) (m′ : List ℕ) where
 
     pub held : (P : ℕ) (v : Vol) (m″ : List ℕ) (r : Walk) → Walked P m′ 1 (λ g. system P v g + sum 256 (λ u. mine v u g)) m″ r → Held P v m″ r
     unfolding holders all
-    held P v m″ (On x) k = ((λ p h. k .more p h ∙ ap (λ (y : ℕ). y + (system P v (hit p) + sum 256 (λ u. mine v u (hit p)))) (at-first p)), k .count)
+    held P v m″ (On x) k = record {
+      held = λ p h. k .more p h ∙ ap (λ (y : ℕ). y + (system P v (hit p) + sum 256 (λ u. mine v u (hit p)))) (at-first p);
+      count = k .count;
+      size = k .kept ∙ d .kept ∙ u .size;
+    }
     held P v m″ Met k = (k .0, k .1, omega (arith, k .2, at-first (k .0)))

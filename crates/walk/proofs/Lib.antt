@@ -6,3 +6,4 @@ pub mod Pointers
 pub mod Runs
 pub mod Entries
 pub mod Holding
+pub mod Judged

@@ -2,6 +2,7 @@
 use mathlib.Core.Path.{_≡_}
 use mathlib.Core.List.{List}
 use Prim.Native.Nat.{ℕ, _+_, _≤_, _<_}
+use lib.ListN.{length}
 use Rattle.book.specs.Words.{Vol, vol}
 use Rattle.book.specs.Holders.{holders, all, some}
 use Rattle.book.specs.Image.{Whole, pages}
@@ -15,7 +16,13 @@ pub record Volume (img : List ℕ) : Type 0 where
   pub whole : Whole img
   pub within : Within (pages img) (vol img)
 
--- each page is marked as often as it is held, and all are counted; or a page is held twice
+-- each page is marked as often as it is held, and all are counted
+pub record HeldOn (P : ℕ) (v : Vol) (m : List ℕ) (x : ℕ) : Type 0 where
+  pub held : (p : ℕ) → p < P → marked m p ≡ holders P v p
+  pub count : x ≡ 1 + all P v some
+  pub size : length m ≡ 1024
+
+-- that, or a page is held twice
 abbrev pub Held : ℕ → Vol → List ℕ → Walk → Type 0
-Held P v m (On x) = ((p : ℕ) → p < P → marked m p ≡ holders P v p) × (x ≡ 1 + all P v some)
+Held P v m (On x) = HeldOn P v m x
 Held P v m Met = (p : ℕ) × (p < P) × (2 ≤ holders P v p)
