@@ -20,7 +20,7 @@ rule1-requires c κs = search needs
 
 -- src/lib.rt:40:9
 returns : tie.Need-returns
-returns c = low-1 _ _  (fails (c .before .rule1 .result) _ (c .before .rule1 .ensures) (c .if1 .taken))
+returns c = low-1 _ _ (fails (c .before .rule1 .result) _ (c .before .rule1 .ensures) (c .if1 .taken))
 
 -- src/lib.rt:42:9
 rule2-requires : tie.Need-rule2-requires

@@ -1,3 +1,4 @@
+use mathlib.Core.List.{[]}
 use native.Mathlib.Omega.{arith}
 use Rattle.book.specs.Decides.{holds, fails}
 use Rattle.walk.proofs.Judged.{held-on, held-met, met-rule8, held-rule8, held-visits}
@@ -31,7 +32,7 @@ enum-told c = search needs
 
 -- src/lib.rt:21:9
 returns : tie.Need-returns
-returns c = late-8 _ _ (met-rule8 _ _ _ (held-met _ _ _ (c .before .before .mark-all .result) (c .before .before .mark-all .ensures) (c .enum-told .given .1)))
+returns c = late-8 _ _ (met-rule8 _ _ [] (held-met _ _ _ (c .before .before .mark-all .result) (c .before .before .mark-all .ensures) (c .enum-told .given .1)))
 
 -- src/lib.rt:23:13
 page-at-requires : tie.Need-page-at-requires
@@ -43,8 +44,8 @@ cast-b c = search needs
 
 -- src/lib.rt:24:9
 same-bits-requires : tie.Need-same-bits-requires
-same-bits-requires c κs = 
-    let s = c .before .before .before .before .before .before .before .before .before  in let e = c .before .page-at .ensures .0 in
+same-bits-requires c κs =
+    let s = c .before .before .before .before .before .before .before .before .before in let e = c .before .page-at .ensures .0 in
     let l = bit-below _ _ (omega arith) (s .pre .2 .r1) in
     (omega (arith, e, l), bits-here _ _ (s .args .total) _ (omega arith) (s .pre .1) (s .pre .2 .r1) e, (held-on _ _ _ (c .before .before .before .before .before .mark-all .result) (c .before .before .before .before .before .mark-all .ensures) _ (c .before .before .before .w .given .1)) .size)
 
