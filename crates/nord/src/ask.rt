@@ -6,6 +6,7 @@ use crate::args::file_args;
 use crate::args::name_args;
 use seek::Found;
 ghost use mathlib.Core.Path.{_≡_};
+ghost use Prim.Native.Nat.{_<_};
 ghost use Rattle.book.specs.Answers.{numbers};
 ghost use Rattle.book.specs.Outcome.{Outcome, Gives};
 ghost use Rattle.book.specs.Calls.{checkCall, findUserCall, findFileCall, addressCall, readCall};

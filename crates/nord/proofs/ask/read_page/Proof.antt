@@ -1,0 +1,75 @@
+use borrow.Author.Needs.{needs}
+use Rattle.nord.proofs.ask.read_page.Statement.{statement}
+use Rattle.nord.proofs.ask.read_page.Tie as tie
+use Rattle.nord.proofs.ask.read_page.Reads as reads
+use Rattle.nord.proofs.ask.read_page.Lts as lts
+use Rattle.nord.proofs.args.file_args.Reads as file-args-reads
+use Rattle.seek.proofs.part.empty.Reads as empty-reads
+use Rattle.seek.proofs.part.page_part.Reads as page-part-reads
+use Rattle.seek.proofs.positions.address.Reads as address-reads
+use Rattle.seek.proofs.positions.has_position.Reads as has-position-reads
+use Rattle.sound.proofs.gate.Reads as gate-reads
+
+-- src/ask.rt:94:9
+file-args-requires : tie.Need-file-args-requires
+file-args-requires c κs = search needs
+
+-- src/ask.rt:95:9
+gate-requires : tie.Need-gate-requires
+gate-requires c κs = search needs
+
+-- src/ask.rt:97:9
+enum-told : tie.Need-enum-told
+enum-told c = search needs
+
+-- src/ask.rt:97:9
+empty-requires : tie.Need-empty-requires
+empty-requires c κs = search needs
+
+-- src/ask.rt:97:9
+returns : tie.Need-returns
+returns c = ?
+
+enum-told-2 : tie.Need-enum-told-2
+enum-told-2 c = search needs
+
+-- src/ask.rt:99:9
+has-position-requires : tie.Need-has-position-requires
+has-position-requires c κs = ?
+
+-- src/ask.rt:100:9
+empty-requires-2 : tie.Need-empty-requires-2
+empty-requires-2 c κs = search needs
+
+-- src/ask.rt:100:9
+returns-2 : tie.Need-returns-2
+returns-2 c = ?
+
+-- src/ask.rt:102:32
+address-requires : tie.Need-address-requires
+address-requires c κs = ?
+
+-- src/ask.rt:102:5
+page-part-requires : tie.Need-page-part-requires
+page-part-requires c κs = search needs
+
+-- src/ask.rt:91:1
+returns-3 : tie.Need-returns-3
+returns-3 c = ?
+
+pub read-page-spec : {M : Type 1} → statement M
+read-page-spec =
+    tie.close
+    (tie.spec
+    file-args-requires
+    gate-requires
+    enum-told
+    empty-requires
+    returns
+    enum-told-2
+    has-position-requires
+    empty-requires-2
+    returns-2
+    address-requires
+    page-part-requires
+    returns-3)
