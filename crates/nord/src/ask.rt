@@ -1,9 +1,9 @@
 // The calls that change nothing.
+use crate::args::file_args;
+use crate::args::name_args;
 use book::Answer;
 use book::Gate;
 use book::Refusal;
-use crate::args::file_args;
-use crate::args::name_args;
 use seek::Found;
 ghost use mathlib.Core.Path.{_≡_};
 ghost use Prim.Native.Nat.{_<_};
