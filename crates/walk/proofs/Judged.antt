@@ -1,5 +1,5 @@
 -- What marking all that is held says of rules 8 and 9, and of the pages visited. Assumes nothing.
-use mathlib.Core.Path.{_≡_, sym, _∙_}
+use mathlib.Core.Path.{_≡_, sym, _∙_, subst}
 use mathlib.Core.Logic.{inl, inr}
 use mathlib.Core.List.{List}
 use Prim.Native.Nat.{ℕ, _<_}
@@ -11,10 +11,19 @@ use Rattle.book.specs.Holders.{holders, visits}
 use Rattle.book.specs.Rules.{Rule8, Rule9}
 use Rattle.laws.specs.Count.{Within, bit-le}
 use Rattle.laws.specs.Visits.{visits-all}
+use Rattle.walk.specs.declared.Walk.{Walk}
 use Rattle.walk.specs.declared.Walk.the-variants.{On, Met}
 use Rattle.walk.specs.Marks.{marked}
 use Rattle.walk.specs.Held.{HeldOn, Held}
 use Rattle.walk.proofs.Marked.{marked-le}
+
+-- after a look at the answer
+module _ (P : ℕ) (v : Vol) (m : List ℕ) (r : Walk) (k : Held P v m r) where
+  pub held-on : (x : ℕ) → r ≡ On x → HeldOn P v m x
+  held-on x e = subst (λ (w : Walk). Held P v m w) e k
+
+  pub held-met : r ≡ Met → Held P v m Met
+  held-met e = subst (λ (w : Walk). Held P v m w) e k
 
 -- a page that was met is held twice
 pub met-rule8 : (P : ℕ) (v : Vol) (m : List ℕ) → Held P v m Met → Rule8 P v → ⊥
