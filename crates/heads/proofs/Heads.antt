@@ -18,15 +18,6 @@ use Rattle.laws.specs.Reach.{below-users, below-objects}
 use Rattle.tree.specs.Reach.{Reach}
 use Rattle.tree.proofs.Reach.{reach-same, root-read}
 
--- within `if test { .. }`, and after it
-pub told : (b : Bool) (A : Type 0) → Decides b A → b ≡ true → A
-told true A d e = d
-told false A d e = let z : _≡_ {A = ℕ} 0 1 = cc in absurd (omega arith)
-
-pub untold : (b : Bool) (A : Type 0) → Decides b A → b ≡ false → A → ⊥
-untold false A d e = d
-untold true A d e = let z : _≡_ {A = ℕ} 0 1 = cc in absurd (omega arith)
-
 module _ (P : ℕ) (v : Vol) where
   -- a pointer that is all zero leads to no page
   zero-inside : (k x : ℕ) → Zero (v 0) k → Inside P (v 0) k x → ⊥

@@ -1,4 +1,5 @@
 -- Laws that proofs of this crate and of its users cite.
+pub mod Told
 pub mod Slots
 pub mod Heads
 pub mod Pages
@@ -6,3 +7,4 @@ pub mod Named
 pub mod Alike
 pub mod Judged
 pub mod Blocks
+pub mod Hashed

@@ -13,7 +13,7 @@ use Rattle.tree.specs.Reach.{entryIn}
 use Rattle.tree.proofs.Entries.{there-word}
 
 -- word k + i of entry e, which begins at word w of page q
-stored-word : (v : Vol) (q e w k : ℕ) → 0 < q → w ≡ entryWord e → (i : ℕ) → entryIn v q e (k + i) ≡ v q (w + k + i)
+pub stored-word : (v : Vol) (q e w k : ℕ) → 0 < q → w ≡ entryWord e → (i : ℕ) → entryIn v q e (k + i) ≡ v q (w + k + i)
 stored-word v q e w k h a i =
     let s : w + (k + i) ≡ w + k + i = omega arith in
     sym (there-word v q e w (k + i) h a) ∙ ap (v q) s

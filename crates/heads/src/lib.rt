@@ -2,6 +2,7 @@
 mod block;
 pub mod master;
 pub mod objects;
+mod stamps;
 mod stored;
 mod twins;
 pub mod users;

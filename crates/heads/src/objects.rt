@@ -1,5 +1,6 @@
 // Rules 5 and 6: the blocks of the object file, and the used objects.
 use crate::block::block_ok;
+use crate::stamps::room;
 use crate::stored::entry_legal;
 use crate::twins::apart;
 use page::read::flags_at;
@@ -11,6 +12,7 @@ use tree::root::object_page;
 use tree::root::user_page;
 ghost use mathlib.Core.Path.{_≡_};
 ghost use Prim.Native.Nat.{ℕ, _+_, _*_, _/_, _%_, _≤_, _<_};
+ghost use lib.ListN.{length};
 ghost use Rattle.book.specs.Words.{vol};
 ghost use Rattle.book.specs.Pointers.{slot};
 ghost use Rattle.book.specs.Trees.{Below, rootBy};
@@ -158,13 +160,13 @@ fn files_ok(img: &[u16]) -> bool
 }
 
 // Whether no two files of a user have the same name and type, words 1 to 10, for all users.
-fn all_apart(img: &[u16], flags: u16, top: usize) -> bool
-    requires { ⌜ Reach (now img) (rootBy flags top 0) ⌝ }
+fn all_apart(img: &[u16], table: &mut [u16; 4096], flags: u16, top: usize) -> bool
+    requires { ⌜ Reach (now img) (rootBy flags top 0) × (length (now table) ≡ 4096) ⌝ }
     ensures { λ r. ⌜ Decides r (Span (λ u. Apart (entry (vol (now (img .entry))) (rootBy flags top 0)) 10 (256 * u) (256 * u + 256)) 0 256) ⌝ }
 {
     let mut u: usize = 0;
     while u < 256 {
-        if !apart(img, flags, top, 10, 256 * u) {
+        if !apart(img, table, flags, top, 10, 256 * u) {
             return false;
         }
         u += 1;
@@ -182,5 +184,6 @@ pub fn rule6(img: &[u16]) -> bool
     }
     let flags = flags_at(img, 0, 1016);
     let top = page_at(img, 0, 1016) as usize;
-    all_apart(img, flags, top)
+    let mut table = room();
+    all_apart(img, &mut table, flags, top)
 }

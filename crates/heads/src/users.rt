@@ -1,4 +1,5 @@
 // Rule 4: the used users.
+use crate::stamps::room;
 use crate::stored::entry_legal;
 use crate::twins::apart;
 use page::read::flags_at;
@@ -83,5 +84,6 @@ pub fn rule4(img: &[u16]) -> bool
     }
     let flags = flags_at(img, 0, 1018);
     let top = page_at(img, 0, 1018) as usize;
-    apart(img, flags, top, 8, 0)
+    let mut table = room();
+    apart(img, &mut table, flags, top, 8, 0)
 }

@@ -20,7 +20,7 @@ use Rattle.laws.specs.Tree.{some-pos}
 
 -- ---- a file
 
-run-count : (v : Vol) (t n : ℕ) → 0 < t → weighR v (run t n) some ≡ n
+pub run-count : (v : Vol) (t n : ℕ) → 0 < t → weighR v (run t n) some ≡ n
 unfolding weighR
 run-count v t n h = sum-ext n (λ i. some (t + i)) (λ i. 1) (λ i l. some-pos (t + i) (omega arith)) ∙ sum-const n 1 ∙ omega arith
 

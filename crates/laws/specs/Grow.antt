@@ -39,7 +39,8 @@ full-count v (suc l) t h =
     full-count v l (slot v t k) (subst (λ (x : ℕ). Fill v l (slot v t k) x) (let q : min (512 ^ suc l - k * L) L ≡ L = omega (arith, s, mul-le-mul-right L i) in q) (h .2 k i)) in
     omega (arith, s, sum-le 512 (λ k. L) (λ k. weigh v l (slot v t k) some) each, sum-const 512 L)
 
-slot-bare : (v : Vol) (q : ℕ) → ((k : ℕ) → word v q k ≡ 0) → (j : ℕ) → slot v q j ≡ 0
+-- a block whose words are zero has only zero slots
+pub slot-bare : (v : Vol) (q : ℕ) → ((k : ℕ) → word v q k ≡ 0) → (j : ℕ) → slot v q j ≡ 0
 unfolding slot two
 slot-bare v q h j = omega (arith, h (2 * j), h (suc (2 * j)))
 

@@ -3,3 +3,5 @@ pub mod Deciding
 pub mod Blocks
 pub mod Files
 pub mod Objects
+pub mod Sums
+pub mod Users

@@ -1,4 +1,6 @@
 // Rule 7, the shapes of files, and rule 10, the counts.
 pub mod block;
+pub mod counts;
 pub mod file;
+pub mod rule10;
 pub mod rule7;

@@ -5,7 +5,7 @@ use Prim.Native.Nat.{ℕ, _+_, _-_}
 use lib.ListN.{getD}
 use Rattle.book.specs.Words.{Words, Vol, put, put2, putWords, zeros}
 use Rattle.book.specs.Trees.{pageAt}
-use Rattle.book.specs.Entries.{user, object, given, unreserved, userPage, objectPage, entryWord, opens, oneMore}
+use Rattle.book.specs.Entries.{user, object, given, unreserved, userPage, objectPage, entryWord, oneMore}
 use Rattle.book.specs.Files.{fileAt}
 use Rattle.book.specs.Steps.{moved, giveStep, takeStep, writeStep, openStep}
 use Rattle.book.specs.Delete.{deleteUser}

@@ -1,6 +1,8 @@
 use mathlib.Core.Path.{_≡_, subst}
 use Prim.Native.Nat.{ℕ, _+_, _*_, _≤_, _-_}
 use native.Mathlib.Omega.{arith}
+use lib.ListN.{length}
+use borrow.Author.Tests.{not-false}
 use Rattle.book.specs.Words.{vol}
 use Rattle.book.specs.Trees.{rootBy}
 use Rattle.book.specs.Entries.{entry}
@@ -11,22 +13,22 @@ use Rattle.heads.proofs.objects.all_apart.Statement.{statement}
 use Rattle.heads.proofs.objects.all_apart.Tie as tie
 
 abbrev Inv-loop : tie.InvT-loop
-Inv-loop img flags top u₀ u = (u ≤ 256) × Span (λ w. Apart (entry (vol img) (rootBy flags top 0)) 10 (256 * w) (256 * w + 256)) 0 u
+Inv-loop img table₀ flags top u₀ table u = (u ≤ 256) × (length table ≡ 4096) × Span (λ w. Apart (entry (vol img) (rootBy flags top 0)) 10 (256 * w) (256 * w + 256)) 0 u
 
 abbrev μ-loop : tie.MeasureT-loop
-μ-loop img flags top u₀ u = 256 - u
+μ-loop img table₀ flags top u₀ table u = 256 - u
 
 loop-holds : tie.Need-loop-holds Inv-loop μ-loop
-loop-holds c = (omega arith, span-none _ _)
+loop-holds c = (omega arith, c .before .pre .1, span-none _ _)
 
 mul-apart : tie.Need-mul-apart Inv-loop μ-loop
 mul-apart c = omega arith
 
 apart-requires : tie.Need-apart-requires Inv-loop μ-loop
-apart-requires c κs = (c .before .before .before .pre, omega arith, omega arith, omega arith)
+apart-requires c κs = (c .before .before .before .before .pre .0, omega arith, omega arith, omega arith, c .before .before .loop .inv .1)
 
 returns : tie.Need-returns Inv-loop μ-loop
-returns c = λ s. fails (c .before .apart .result) _ (c .before .apart .ensures) (c .if1 .taken) (span-at _ _ _ s (c .before .before .before .loop .u) (omega arith) (omega arith))
+returns c = λ s. fails (c .before .apart .result) _ (c .before .apart .ensures .0) (c .if1 .taken) (span-at _ _ _ s (c .before .before .before .before .loop .u) (omega arith) (omega arith))
 
 add-u : tie.Need-add-u Inv-loop μ-loop
 add-u c = omega arith
@@ -35,12 +37,12 @@ loop-less : tie.Need-loop-less Inv-loop μ-loop
 loop-less c = omega arith
 
 loop-again : tie.Need-loop-again Inv-loop μ-loop
-loop-again c = (omega arith, span-more _ _ _ (c .before .before .before .loop .inv .1) (holds (c .before .apart .result) _ (c .before .apart .ensures) (c .if1 .left)))
+loop-again c = (omega arith, c .before .apart .ensures .1 (not-false _ (c .if1 .left)), span-more _ _ _ (c .before .before .before .before .loop .inv .2) (holds (c .before .apart .result) _ (c .before .apart .ensures .0) (c .if1 .left)))
 
 returns-2 : tie.Need-returns-2 Inv-loop μ-loop
 returns-2 c =
     let a = c .before .before .before .args in let l = c .before .loop in let e : l .u ≡ 256 = omega arith in
-    subst (λ (z : ℕ). Span (λ w. Apart (entry (vol (a .img .now)) (rootBy (a .flags) (a .top) 0)) 10 (256 * w) (256 * w + 256)) 0 z) e (l .inv .1)
+    subst (λ (z : ℕ). Span (λ w. Apart (entry (vol (a .img .now)) (rootBy (a .flags) (a .top) 0)) 10 (256 * w) (256 * w + 256)) 0 z) e (l .inv .2)
 
 pub all-apart-spec : {M : Type 1} → statement M
 all-apart-spec =

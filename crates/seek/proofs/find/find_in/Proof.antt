@@ -3,7 +3,6 @@ use Prim.Native.Nat.{ℕ, _+_, _-_, _*_, _≤_, _<_}
 use Rattle.book.specs.Words.{vol}
 use Rattle.book.specs.Trees.{rootBy}
 use Rattle.book.specs.Entries.{entry}
-use Rattle.tree.specs.Reach.{entryIn}
 use Rattle.seek.specs.Search.{Fits}
 use Rattle.seek.proofs.Search.{found-at, found-none, found-on, none-on}
 use borrow.Author.Needs.{needs}

@@ -1,6 +1,5 @@
 -- `seek::free::free_user` meets its contract. Assumes nothing.
 use mathlib.Core.Path.{_≡_, sym}
-use mathlib.Core.Bool.{not}
 use Prim.Native.Nat.{ℕ, _-_, _≤_, _<_}
 use borrow.Author.Count.{below-none, below-more}
 use Rattle.sums.specs.Search.{lowest-at, lowest-none}

@@ -1,10 +1,10 @@
 -- `seek::needs::object_index` meets its contract. Assumes nothing.
-use mathlib.Core.Path.{_≡_, sym, ap, _∙_}
+use mathlib.Core.Path.{sym, ap, _∙_}
 use Prim.Native.Nat.{ℕ, _/_}
 use Rattle.book.specs.Words.{vol}
 use Rattle.book.specs.Pointers.{slot}
 use Rattle.book.specs.Image.{pages}
-use Rattle.seek.proofs.Pages.{index-read, index-none, index-one, index-two, object-top, index-below}
+use Rattle.laws.specs.Indexes.{index-read, index-none, index-one, index-two, object-top, index-below}
 use Rattle.seek.proofs.Ready.{ready-some}
 use borrow.Author.Needs.{needs}
 use native.Mathlib.Omega.{arith}

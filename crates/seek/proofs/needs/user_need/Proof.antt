@@ -1,7 +1,11 @@
 -- `seek::needs::user_need` meets its contract. Assumes nothing.
-use mathlib.Core.Path.{_≡_, sym, _∙_}
+use mathlib.Core.Path.{sym, _∙_}
+use Prim.Native.Nat.{_+_, _-_}
+use Rattle.sums.specs.Search.{pick-yes, pick-no}
 use Rattle.book.specs.Words.{vol}
-use Rattle.seek.proofs.Pages.{need-first, need-later}
+use Rattle.book.specs.Entries.{userPage}
+use Rattle.book.specs.Pointers.{page}
+use Rattle.book.specs.Create.{userNeed, raises}
 use Rattle.seek.proofs.Ready.{ready-users}
 use borrow.Author.Needs.{needs}
 use native.Mathlib.Omega.{arith}
@@ -12,7 +16,8 @@ page-at-requires : tie.Need-page-at-requires
 page-at-requires c κs = search needs
 
 returns : tie.Need-returns
-returns c = let a = c .before .before .before .args in (sym (need-first (vol (a .img .now)) (a .u) (omega (arith, c .before .page-at .ensures .0))), omega arith)
+unfolding userNeed
+returns c = (sym (pick-no _ _ 3 (sym (c .before .page-at .ensures .0) ∙ c .if1 .taken)), omega arith)
 
 user-page-requires : tie.Need-user-page-requires
 user-page-requires c κs = ready-users _ (c .before .before .before .pre)
@@ -27,9 +32,9 @@ add-result : tie.Need-add-result
 add-result c = search needs
 
 returns-2 : tie.Need-returns-2
-returns-2 c = let a = c .before .before .before .before .before .before .args in
-    let e = need-later (vol (a .img .now)) (a .u) (omega (arith, c .before .before .before .before .page-at .ensures .0)) in
-    omega (arith, e)
+unfolding userNeed
+returns-2 c = let a = c .before .before .before .before .before .before .args in let v = vol (a .img .now) in
+    omega (arith, pick-yes (page (v 0) 1018) (1 - userPage v (a .u) + raises v (a .u)) 3 (omega (arith, c .before .before .before .before .page-at .ensures .0)))
 
 pub user-need-spec : {M : Type 1} → statement M
 user-need-spec =

@@ -1,8 +1,8 @@
 -- `seek::positions::has_position` meets its contract. Assumes nothing.
-use mathlib.Core.Path.{_≡_, ap, _∙_}
+use mathlib.Core.Path.{ap}
 use Prim.Native.Nat.{ℕ}
 use Rattle.book.specs.Words.{vol}
-use Rattle.book.specs.Entries.{object, fileEntry, pageCount}
+use Rattle.book.specs.Entries.{object, pageCount}
 use Rattle.book.specs.Decides.{holds, fails}
 use borrow.Author.Needs.{needs}
 use native.Mathlib.Omega.{arith}

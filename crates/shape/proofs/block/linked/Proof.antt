@@ -4,7 +4,7 @@ use native.Mathlib.Omega.{arith}
 use borrow.Author.Needs.{needs}
 use borrow.Author.Count.{below-none, below-more}
 use Rattle.book.specs.Decides.{holds, fails}
-use Rattle.shape.specs.Shapes.{Linked, pointerIn}
+use Rattle.shape.specs.Shapes.{Linked}
 use Rattle.shape.proofs.Blocks.{pointer-read}
 use Rattle.shape.proofs.block.linked.Statement.{statement}
 use Rattle.shape.proofs.block.linked.Tie as tie

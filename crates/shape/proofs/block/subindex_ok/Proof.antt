@@ -1,8 +1,4 @@
-use mathlib.Core.Path.{subst}
-use Prim.Native.Nat.{ℕ}
-use Rattle.book.specs.Decides.{Decides}
 use Rattle.book.specs.Words.{vol}
-use Rattle.shape.specs.Shapes.{Filled}
 use Rattle.shape.proofs.Blocks.{filled-top, decides-subindex}
 use native.Mathlib.Omega.{arith}
 use borrow.Author.Needs.{needs}

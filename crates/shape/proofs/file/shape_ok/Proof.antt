@@ -1,4 +1,4 @@
-use mathlib.Core.Path.{subst, sym}
+use mathlib.Core.Path.{subst}
 use mathlib.Core.Logic.{_⊎_}
 use Prim.Native.Nat.{ℕ}
 use Rattle.book.specs.Decides.{Decides}

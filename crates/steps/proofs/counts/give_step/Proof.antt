@@ -1,3 +1,4 @@
+-- `steps::counts::give_step` meets its contract. Assumes nothing.
 use native.Mathlib.Omega.{arith}
 use Rattle.book.specs.Words.{vol}
 use Rattle.steps.proofs.Ready.{ready-room}
@@ -28,8 +29,8 @@ same-length c = search needs
 
 returns : tie.Need-returns
 returns c =
-    let s = c .before .before .before .before .before .before .before .before .before in
-    given-is (vol (s .args .img .now)) _ (s .args .u) (s .args .n) (c .before .before .before .before .before .before .given-to .result) (c .before .before .before .before .unreserved .result) (c .before .before .before .before .before .before .given-to .ensures) (c .before .before .before .before .unreserved .ensures) (c .before .before .move-counts .ensures)
+    let z = c .before .before in let s = z .before .before in let g = s .before .before in let a = g .before .before .before .args in
+    given-is (vol (a .img .now)) _ (a .u) (a .n) (g .given-to .result) (s .unreserved .result) (g .given-to .ensures) (s .unreserved .ensures) (z .move-counts .ensures)
 
 pub give-step-spec : {M : Type 1} → statement M
 give-step-spec =

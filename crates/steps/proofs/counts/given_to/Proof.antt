@@ -1,3 +1,4 @@
+-- `steps::counts::given_to` meets its contract. Assumes nothing.
 use mathlib.Core.Path.{ap, _∙_}
 use Rattle.book.specs.Words.{Words, vol, two}
 use Rattle.book.specs.Entries.{given}
@@ -16,8 +17,8 @@ entry-two-requires c κs = search needs
 returns : tie.Need-returns
 unfolding given
 returns c =
-    let s = c .before .before .before in
-    c .entry-two .ensures .0 ∙ ap (λ (w : Words). two w 14) (user-in (vol (s .args .img .now)) (s .args .u) (c .before .user-page .result) (c .before .user-page .ensures .0))
+    let q = c .before in let a = q .before .before .args in
+    c .entry-two .ensures .0 ∙ ap (λ (w : Words). two w 14) (user-in (vol (a .img .now)) (a .u) (q .user-page .result) (q .user-page .ensures .0))
 
 pub given-to-spec : {M : Type 1} → statement M
 given-to-spec = tie.close (tie.spec user-page-requires entry-two-requires returns)

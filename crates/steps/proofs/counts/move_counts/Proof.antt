@@ -1,3 +1,4 @@
+-- `steps::counts::move_counts` meets its contract. Assumes nothing.
 use Rattle.steps.proofs.Ready.{ready-users}
 use Rattle.steps.proofs.Written.{moved-is}
 use borrow.Author.Needs.{needs}
@@ -24,9 +25,8 @@ same-length c = search needs
 
 returns : tie.Need-returns
 returns c =
-    let s = c .before .before .before .before .before .before .before .before .before .before .before .before in
-    moved-is _ _ _ (s .args .u) (c .before .before .before .before .before .before .before .before .before .user-page .result) (c .before .before .before .before .before .before .before .before .of .result .word) (c .before .before .before .before .before .before .before .before .before .user-page .ensures .0) (c .before .before .before .before .before .before .before .before .of .ensures .1) (s .args .g) (s .args .s)
-    (c .before .before .before .before .before .before .put-two .ensures) (c .before .before .put-two2 .ensures)
+    let z = c .before .before in let y = z .before .before .before .before in let p = y .before .before in let q = p .before in let a = q .before .before .before .args in
+    moved-is _ _ _ (a .u) (q .user-page .result) (p .of .result .word) (q .user-page .ensures .0) (p .of .ensures .1) (a .g) (a .s) (y .put-two .ensures) (z .put-two2 .ensures)
 
 pub move-counts-spec : {M : Type 1} → statement M
 move-counts-spec =

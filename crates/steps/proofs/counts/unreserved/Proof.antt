@@ -1,3 +1,4 @@
+-- `steps::counts::unreserved` meets its contract. Assumes nothing.
 use Rattle.book.specs.Entries.{unreserved}
 use borrow.Author.Needs.{needs}
 use Rattle.steps.proofs.counts.unreserved.Statement.{statement}

@@ -1,3 +1,4 @@
+-- `steps::format::format_step` meets its contract. Assumes nothing.
 use native.Mathlib.Omega.{arith}
 use Rattle.book.specs.Words.{vol}
 use Rattle.book.specs.Image.{pages}
@@ -10,22 +11,28 @@ put-directory-requires : tie.Need-put-directory-requires
 put-directory-requires c κs = search needs
 
 zero-page-requires : tie.Need-zero-page-requires
-zero-page-requires c κs = let s = c .before .before .before .before .before .before .before in omega (arith, bit-below _ (s .pre .0 .most) (s .args .b) (s .pre .2))
+zero-page-requires c κs =
+    let s = c .before .before .before .before .before .before .before in
+    omega (arith, bit-below _ (s .pre .0 .most) (s .args .b) (s .pre .2))
 
 set-requires : tie.Need-set-requires
-set-requires c κs = let s = c .before .before .before .before .before .before .before .before .before .before .before in let h = bit-below _ (s .pre .0 .most) (s .args .b) (s .pre .2) in (omega arith, omega arith)
+set-requires c κs =
+    let s = c .before .before .before .before .before .before .before .before .before .before .before in let h = bit-below _ (s .pre .0 .most) (s .args .b) (s .pre .2) in
+    (omega arith, omega arith)
 
 set-requires-2 : tie.Need-set-requires-2
-set-requires-2 c κs = let s = c .before .before .before .before .before .before .before .before .before .before .before .before .before .before .before in let h = bit-below _ (s .pre .0 .most) (s .args .b) (s .pre .2) in (omega arith, omega arith)
+set-requires-2 c κs =
+    let s = c .before .before .before .before .before .before .before .before .before .before .before .before .before .before .before in let h = bit-below _ (s .pre .0 .most) (s .args .b) (s .pre .2) in
+    (omega arith, omega arith)
 
 same-length : tie.Need-same-length
 same-length c = search needs
 
 returns : tie.Need-returns
 returns c =
-    let s = c .before .before .before .before .before .before .before .before .before .before .before .before .before .before .before .before .before .before in let i = s .args .img .now in
+    let z = c .before .before in let y = z .before .before .before .before in let x = y .before .before .before .before in let w = x .before .before .before .before in let s = w .before .before .before .before in let i = s .args .img .now in
     format-is (pages i) (s .pre .0 .most) (s .args .b) (s .pre .2) (vol i) (s .args .name .now) _ _ _ _
-    (c .before .before .before .before .before .before .before .before .before .before .before .before .before .before .put-directory .ensures) (c .before .before .before .before .before .before .before .before .before .before .zero-page .ensures) (c .before .before .before .before .before .before .set .ensures (pages i)) (c .before .before .set2 .ensures (pages i))
+    (w .put-directory .ensures) (x .zero-page .ensures) (y .set .ensures (pages i)) (z .set2 .ensures (pages i))
 
 pub format-step-spec : {M : Type 1} → statement M
 format-step-spec =

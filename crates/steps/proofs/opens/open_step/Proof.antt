@@ -1,3 +1,4 @@
+-- `steps::opens::open_step` meets its contract. Assumes nothing.
 use Rattle.book.specs.Words.{vol}
 use Rattle.steps.proofs.Ready.{ready-objects}
 use Rattle.steps.proofs.Written.{opened-is}
@@ -28,9 +29,9 @@ same-length c = search needs
 
 returns : tie.Need-returns
 returns c =
-    let s = c .before .before .before .before .before .before .before .before .before .before .before in
-    opened-is (vol (s .args .img .now)) _ (s .args .e) (c .before .before .before .before .before .before .before .before .object-page .result) (c .before .before .before .before .of .result .word) (c .before .before .before .before .before .before .entry-word .result) (c .before .before .before .before .before .wrapping-add-u16 .result)
-    (c .before .before .before .before .before .before .before .before .object-page .ensures .0) (c .before .before .before .before .of .ensures .1) (c .before .before .before .before .before .before .entry-word .ensures) (c .before .before .before .before .before .wrapping-add-u16 .ensures) (c .before .before .put-word .ensures)
+    let z = c .before .before in let p = z .before .before in let m = p .before in let o = m .before in let q = o .before .before in let a = q .before .before .before .args in
+    opened-is (vol (a .img .now)) _ (a .e) (q .object-page .result) (p .of .result .word) (o .entry-word .result) (m .wrapping-add-u16 .result)
+    (q .object-page .ensures .0) (p .of .ensures .1) (o .entry-word .ensures) (m .wrapping-add-u16 .ensures) (z .put-word .ensures)
 
 pub open-step-spec : {M : Type 1} → statement M
 open-step-spec =

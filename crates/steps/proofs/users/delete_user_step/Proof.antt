@@ -1,3 +1,4 @@
+-- `steps::users::delete_user_step` meets its contract. Assumes nothing.
 use native.Mathlib.Omega.{arith}
 use Rattle.book.specs.Words.{vol}
 use Rattle.steps.proofs.Ready.{ready-users, ready-room}
@@ -23,8 +24,8 @@ clear-entry-requires c κs = search needs
 
 add-put-two : tie.Need-add-put-two
 add-put-two c =
-    let s = c .before .before .before .before .before .before .before .before .before .before .before .before .before in
-    record { fits = omega (arith, ready-room _ (s .pre .0) (s .args .u) (s .pre .1) (s .pre .2), c .before .before .before .before .before .before .before .before .unreserved .ensures, c .before .before .before .before .before .before .before .before .before .before .given-to .ensures) }
+    let s = c .before .before .before .before .before .before .before .before in let g = s .before .before in let t = g .before .before .before in
+    record { fits = omega (arith, ready-room _ (t .pre .0) (t .args .u) (t .pre .1) (t .pre .2), s .unreserved .ensures, g .given-to .ensures) }
 
 put-two-requires : tie.Need-put-two-requires
 put-two-requires c κs = search needs
@@ -34,9 +35,9 @@ same-length c = search needs
 
 returns : tie.Need-returns
 returns c =
-    let s = c .before .before .before .before .before .before .before .before .before .before .before .before .before .before .before .before in
-    deleted-is (vol (s .args .img .now)) _ _ (s .args .u) (c .before .before .before .before .before .before .before .before .before .user-page .result) (c .before .before .before .before .before .before .before .before .of .result .word) (c .before .before .before .before .before .before .before .before .before .user-page .ensures .0) (c .before .before .before .before .before .before .before .before .of .ensures .1)
-    (c .before .before .before .before .before .before .before .before .before .before .before .before .before .given-to .result) (c .before .before .before .before .before .before .before .before .before .before .before .unreserved .result) (c .before .before .before .before .before .before .before .before .before .before .before .before .before .given-to .ensures) (c .before .before .before .before .before .before .before .before .before .before .before .unreserved .ensures) (c .before .before .before .before .before .before .clear-entry .ensures) (c .before .before .put-two .ensures)
+    let z = c .before .before in let y = z .before .before .before .before in let p = y .before .before in let q = p .before in let s = q .before .before in let g = s .before .before in let a = g .before .before .before .args in
+    deleted-is (vol (a .img .now)) _ _ (a .u) (q .user-page .result) (p .of .result .word) (q .user-page .ensures .0) (p .of .ensures .1)
+    (g .given-to .result) (s .unreserved .result) (g .given-to .ensures) (s .unreserved .ensures) (y .clear-entry .ensures) (z .put-two .ensures)
 
 pub delete-user-step-spec : {M : Type 1} → statement M
 delete-user-step-spec =

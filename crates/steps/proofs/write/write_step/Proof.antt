@@ -1,3 +1,4 @@
+-- `steps::write::write_step` meets its contract. Assumes nothing.
 use Rattle.book.specs.Words.{vol}
 use Rattle.steps.proofs.Ready.{ready-objects, ready-file}
 use Rattle.steps.proofs.Written.{written-is}
@@ -16,8 +17,8 @@ same-length c = search needs
 
 returns : tie.Need-returns
 returns c =
-    let s = c .before .before .before .before .before .before .before .before in
-    written-is (vol (s .args .img .now)) _ (s .args .e) (s .args .n) (c .before .before .before .before .file-page .result) (s .args .«data» .now) (c .before .before .before .before .file-page .ensures .0) (c .before .before .copy-page .ensures)
+    let z = c .before .before in let q = z .before .before in let a = q .before .before .before .before .args in
+    written-is (vol (a .img .now)) _ (a .e) (a .n) (q .file-page .result) (a .«data» .now) (q .file-page .ensures .0) (z .copy-page .ensures)
 
 pub write-step-spec : {M : Type 1} → statement M
 write-step-spec = tie.close (tie.spec file-page-requires copy-page-requires same-length returns)
