@@ -7,6 +7,7 @@ use lib.ListN.{length, getD}
 use Rattle.sums.specs.Sum.{is}
 use Rattle.book.specs.Bits.{digit}
 
+-- 1 if page p is marked, else 0
 unfoldable pub marked : List ℕ → ℕ → ℕ
 marked m p = digit (p % 16) (getD m (p / 16) 0)
 

@@ -31,7 +31,7 @@ mark-entry-requires c κs =
       files-walking (a .img .now) (s .pre .1) (a .n) (l .i) (s .pre .2) (l .inv .0) _ _ _ _ (s .pre .0) (l .inv .1),
       s .pre .1,
       omega arith,
-      s .pre .3 ∙ place (vol (a .img .now)) (a .n) (l .i) (c .before .loop-test .taken),
+      s .pre .3 ∙ place (vol (a .img .now)) (a .n) (l .i) (omega arith),
       s .pre .4,
     )
 
@@ -44,7 +44,7 @@ enum-told c = c .match .keys2
 returns : tie.Need-returns Inv-loop μ-loop
 returns c =
     let s = c .before .before .before .before .before .before .before in let a = s .args in let l = c .before .before .before .before .before .loop in
-    row-met _ _ _ (filesOf (a .img .now) (a .n)) (l .i) _ _ (l .inv .1) _ (λ g. refl) _ _ (c .before .before .mark-entry .ensures) (c .enum-told .given .1) 32 (c .before .before .before .before .loop-test .taken) (a .marks .now)
+    row-met _ _ _ (filesOf (a .img .now) (a .n)) (l .i) _ _ (l .inv .1) _ (λ g. refl) _ _ (c .before .before .mark-entry .ensures) (c .enum-told .given .1) 32 (omega arith) (a .marks .now)
 
 add-i : tie.Need-add-i Inv-loop μ-loop
 add-i c = search needs

@@ -36,7 +36,7 @@ mark-position-requires c κs =
     let s = c .before .before .before .before .before .before in let a = s .args in let l = c .before .before .loop in (
       positions-walking (a .img .now) (s .pre .2) (l .n) (l .inv .0) _ _ _ _ (s .pre .0) (l .inv .1),
       s .pre .2,
-      c .before .loop-test .taken,
+      omega arith,
       objects-read (vol (a .img .now)) (c .before .before .before .before .flags-at .result) (c .before .before .before .page-at .result) (c .before .before .before .before .flags-at .ensures .0) (c .before .before .before .page-at .ensures .0),
       reach-same _ _ _ (objects-read (vol (a .img .now)) (c .before .before .before .before .flags-at .result) (c .before .before .before .page-at .result) (c .before .before .before .before .flags-at .ensures .0) (c .before .before .before .page-at .ensures .0)) (s .pre .1),
     )
@@ -50,7 +50,7 @@ enum-told c = c .match .keys2
 returns : tie.Need-returns Inv-loop μ-loop
 returns c =
     let s = c .before .before .before .before .before .before .before .before .before in let a = s .args in let l = c .before .before .before .before .before .loop in
-    walked-files (pages (a .img .now)) (a .marks .now) (a .visited) (a .img .now) (a .marks .now) Met (row-met (pages (a .img .now)) (a .marks .now) (a .visited) (positionsOf (a .img .now)) (l .n) _ _ (l .inv .1) _ (λ g. refl) _ _ (c .before .before .mark-position .ensures) (c .enum-told .given .1) 2048 (c .before .before .before .before .loop-test .taken) (a .marks .now))
+    walked-files (pages (a .img .now)) (a .marks .now) (a .visited) (a .img .now) (a .marks .now) Met (row-met (pages (a .img .now)) (a .marks .now) (a .visited) (positionsOf (a .img .now)) (l .n) _ _ (l .inv .1) _ (λ g. refl) _ _ (c .before .before .mark-position .ensures) (c .enum-told .given .1) 2048 (omega arith) (a .marks .now))
 
 add-n : tie.Need-add-n Inv-loop μ-loop
 add-n c = search needs

@@ -79,7 +79,7 @@ mark-block-mark-pointer-requires t c κs =
       omega (arith, s .pre .0),
       (
         block-walking img bk _ (s .pre .1 .2) (l .i) (l .inv .0) _ _ _ _ (s .pre .1 .0) (l .inv .1),
-        slot-below img bk _ (s .pre .1 .2) (l .i) (c .before .before .loop-test .taken) _ (slot-read bk (l .i) _ (c .before .dword .result) refl (c .before .dword .ensures .0)),
+        slot-below img bk _ (s .pre .1 .2) (l .i) (omega arith) _ (slot-read bk (l .i) _ (c .before .dword .result) refl (c .before .dword .ensures .0)),
       ),
     )
 
@@ -93,7 +93,7 @@ mark-block-returns : (t : ℕ) → mark-block-lts.Need-returns (block-calls t) (
 mark-block-returns t c =
     let s = c .before .before .before .before .before .before .before .before .before in let a = s .args in let img = a .img .now in let bk = a .block .now in let l = c .before .before .before .before .before .before .loop in
     row-met _ _ _ (slotsOf img (a .level) bk) (l .i) _ _ (l .inv .1) _ (slot-weigh img bk _ (s .pre .1 .2) (l .i) _ (slot-read bk (l .i) _ (c .before .before .before .before .dword .result) refl (c .before .before .before .before .dword .ensures .0))) _ _
-    (c .before .before .mark-pointer .ensures) (c .enum-told .given .1) 512 (c .before .before .before .before .before .loop-test .taken) (a .marks .now)
+    (c .before .before .mark-pointer .ensures) (c .enum-told .given .1) 512 (omega arith) (a .marks .now)
 
 mark-block-add-i : (t : ℕ) → mark-block-lts.Need-add-i (block-calls t) (mark-block-at t) mark-block.Post mark-block-Inv-loop mark-block-μ-loop
 mark-block-add-i t c = search needs

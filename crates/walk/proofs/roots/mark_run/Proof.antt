@@ -36,7 +36,7 @@ enum-told c = c .match .keys2
 returns : tie.Need-returns Inv-loop μ-loop
 returns c =
     let s = c .before .before .before .before .before .before .before in let a = s .args in let l = c .before .before .before .before .before .loop in
-    row-met _ _ _ (runOf (a .start)) (l .i) _ _ (l .inv .1) _ (page-weigh (vol (a .img .now)) _) _ _ (c .before .before .mark-pointer .ensures) (c .enum-told .given .1) (a .count) (c .before .before .before .before .loop-test .taken) (a .marks .now)
+    row-met _ _ _ (runOf (a .start)) (l .i) _ _ (l .inv .1) _ (page-weigh (vol (a .img .now)) _) _ _ (c .before .before .mark-pointer .ensures) (c .enum-told .given .1) (a .count) (omega arith) (a .marks .now)
 
 add-i : tie.Need-add-i Inv-loop μ-loop
 add-i c = search needs
