@@ -1,7 +1,7 @@
 -- Twins, as the code finds them on their pages. Assumes nothing.
-use mathlib.Core.Path.{_≡_, sym, ap, _∙_, subst}
-use mathlib.Core.Bool.{Bool, true, false}
-use Prim.Native.Nat.{ℕ, _+_, _/_, _%_, _≤_, _<_}
+use mathlib.Core.Path.{_≡_, sym, ap, subst}
+use mathlib.Core.Bool.{Bool}
+use Prim.Native.Nat.{ℕ, _+_, _/_, _%_, _<_}
 use native.Mathlib.Omega.{arith}
 use Rattle.book.specs.Words.{Words, Vol}
 use Rattle.book.specs.Trees.{Root, pageAt}
@@ -12,7 +12,7 @@ use Rattle.page.proofs.Deciding.{decides-iff}
 use Rattle.tree.specs.Reach.{entryIn}
 use Rattle.heads.specs.Span.{Span}
 use Rattle.heads.specs.Twins.{Twins, Fresh}
-use Rattle.heads.proofs.Pages.{entry-in, on-page, absent-unused}
+use Rattle.heads.proofs.Pages.{entry-in, entry-on, absent-unused}
 
 -- entry y on page q of the file at r is used where its page shows it so
 pub used-on : (v : Vol) (r : Root) (q y : ℕ) → q ≡ pageAt v r (y / 32) → used (entryIn v q y) ≡ used (entry v r y)
@@ -40,4 +40,4 @@ fresh-unused E n base y u x h l t = u (t .second)
 
 pub page-fresh : (v : Vol) (r : Root) (n base q first : ℕ) → first % 32 ≡ 0 → q ≡ pageAt v r (first / 32) → q ≡ 0 → Span (Fresh (entry v r) n base) first (first + 32)
 unfolding Span
-page-fresh v r n base q first f e z y h l = fresh-unused (entry v r) n base y (λ u. omega (arith, absent-unused v q y _ (entry-in v r q y (on-page v q first y f h l r e)) z))
+page-fresh v r n base q first f e z y h l = fresh-unused (entry v r) n base y (λ u. omega (arith, absent-unused v q y _ (entry-on v q first y f h l r e) z))

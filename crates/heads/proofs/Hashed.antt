@@ -1,7 +1,7 @@
 -- Stamped slots: what they say of words met before. Assumes nothing.
-use mathlib.Core.Path.{_≡_, refl, sym, ap, ap₂, _∙_, subst}
+use mathlib.Core.Path.{_≡_, refl, sym, ap, ap₂, _∙_}
 use mathlib.Core.List.{List}
-use Prim.Native.Nat.{ℕ, zero, suc, _+_, _*_, _/_, _%_, _≤_, _<_}
+use Prim.Native.Nat.{ℕ, zero, suc, _+_, _/_, _%_, _<_}
 use native.Mathlib.Decide.{ℕ-discrete}
 use native.Mathlib.Numerals.{add-one}
 use native.Mathlib.Omega.{arith}
@@ -14,8 +14,8 @@ use Rattle.book.specs.Names.{Same}
 use Rattle.tree.specs.Reach.{entryIn}
 use Rattle.heads.specs.Span.{Span, span-none, span-more, span-join}
 use Rattle.heads.specs.Stamps.{mix, hash, place, stampOf, Stamped}
-use Rattle.heads.specs.Twins.{Twins, Fresh}
-use Rattle.heads.proofs.Pages.{entry-in, on-page, absent-unused}
+use Rattle.heads.specs.Twins.{Fresh}
+use Rattle.heads.proofs.Pages.{entry-in, entry-on, absent-unused}
 use Rattle.heads.proofs.Named.{stored-word}
 use Rattle.heads.proofs.Alike.{used-on, fresh-unused}
 
@@ -98,7 +98,7 @@ pub stamped-page : (v : Vol) (r : Root) (n base q first : ℕ) (T : List ℕ) �
 unfolding Span
 stamped-page v r n base q first T f e z d = record {
   size = d .size;
-  met = span-join _ base first (first + 32) (d .met) (λ x h l u. absurd (let w : ⊥ = omega (arith, absent-unused v q x _ (entry-in v r q x (on-page v q first x f h l r e)) z) in w));
+  met = span-join _ base first (first + 32) (d .met) (λ x h l u. absurd (let w : ⊥ = omega (arith, absent-unused v q x _ (entry-on v q first x f h l r e) z) in w));
 }
 
 -- before the first entry

@@ -1,13 +1,12 @@
 -- The entries of one page of a file, and what holds of an entry read from its page. Assumes nothing.
-use mathlib.Core.Path.{_≡_, sym, ap, ap₂, _∙_, subst, fun-ext}
+use mathlib.Core.Path.{_≡_, sym, ap, _∙_, subst, fun-ext}
 use mathlib.Core.Bool.{Bool}
-use Prim.Native.Nat.{ℕ, _+_, _*_, _/_, _%_, _≤_, _<_}
+use Prim.Native.Nat.{ℕ, _+_, _/_, _%_, _≤_, _<_}
 use native.Mathlib.Omega.{arith}
 use Rattle.book.specs.Words.{Words, Vol, two, word}
 use Rattle.book.specs.Trees.{Root, pageAt}
 use Rattle.book.specs.Names.{LegalName, LegalType}
-use Rattle.book.specs.Entries.{Table, entryWord, entry, user, object, userPage, objectPage, used, given, usedPages}
-use Rattle.book.specs.Rules.{UserOk, FileOk}
+use Rattle.book.specs.Entries.{Table, entryWord, entry, user, userPage, used, given, usedPages}
 use Rattle.book.specs.Decides.{Decides}
 use Rattle.tree.specs.Reach.{entryIn}
 use Rattle.tree.proofs.Entries.{absent-word, user-in}
@@ -25,13 +24,12 @@ module _ (v : Vol) (q first x : ℕ) (f : first % 32 ≡ 0) (h : first ≤ x) (l
   pub on-page : (r : Root) → q ≡ pageAt v r (first / 32) → q ≡ pageAt v r (x / 32)
   on-page r e = let s : first / 32 ≡ x / 32 = omega arith in e ∙ ap (pageAt v r) s
 
+  pub entry-on : (r : Root) → q ≡ pageAt v r (first / 32) → entryIn v q x ≡ entry v r x
+  entry-on r e = entry-in v r q x (on-page r e)
+
   pub user-on : q ≡ userPage v first → entryIn v q x ≡ user v x
   unfolding user userPage
-  user-on e = entry-in v _ q x (on-page _ e)
-
-  pub object-on : q ≡ objectPage v first → entryIn v q x ≡ object v x
-  unfolding object objectPage
-  object-on e = entry-in v _ q x (on-page _ e)
+  user-on e = entry-on _ e
 
   -- the owner of x owns all objects of the page
   pub owner-on : (b : Bool) → q ≡ userPage v (first / 256) → Decides b (0 < used (entryIn v q (first / 256))) → Decides b (0 < used (user v (x / 256)))
@@ -79,6 +77,6 @@ module _ (v : Vol) (q first : ℕ) (f : first % 32 ≡ 0) (z : q ≡ 0) where
   unfolding Span
   users-absent e x h l u = absurd (let r : ⊥ = omega (arith, absent-unused v q x _ (user-on v q first x f h l e) z) in r)
 
-  pub objects-absent : (T : Table) → q ≡ objectPage v first → Span (FileFine T (object v)) first (first + 32)
+  pub files-absent : (T : Table) (r : Root) → q ≡ pageAt v r (first / 32) → Span (FileFine T (entry v r)) first (first + 32)
   unfolding Span
-  objects-absent T e x h l u = absurd (let r : ⊥ = omega (arith, absent-unused v q x _ (object-on v q first x f h l e) z) in r)
+  files-absent T r e x h l u = absurd (let w : ⊥ = omega (arith, absent-unused v q x _ (entry-on v q first x f h l r e) z) in w)

@@ -9,7 +9,7 @@ use Rattle.heads.specs.Span.{Span}
 
 -- one word more
 abbrev pub mix : ℕ → ℕ → ℕ
-mix h x = (h * 31421 + x) % 65521
+mix h x = (h * 31415 + x) % 65521
 
 -- a number of the n words from k on
 unfoldable pub hash : Words → ℕ → ℕ → ℕ

@@ -1,7 +1,7 @@
 -- Entries of one file that have the same words from word 1 on. Assumes nothing.
 use mathlib.Core.Path.{_≡_}
 use mathlib.Core.List.{List}
-use Prim.Native.Nat.{ℕ, _/_, _<_}
+use Prim.Native.Nat.{ℕ, _+_, _*_, _/_, _<_}
 use Rattle.book.specs.Words.{vol}
 use Rattle.book.specs.Trees.{Root, pageAt}
 use Rattle.book.specs.Entries.{Table, used}
@@ -22,6 +22,10 @@ Fresh E n base y = Span (λ x. Twins E n x y → ⊥) base y
 -- no two from `base` on below z are twins
 abbrev pub Apart : Table → ℕ → ℕ → ℕ → Type 0
 Apart E n base z = Span (Fresh E n base) base z
+
+-- no two files of user u have the same name and type, words 1 to 10
+abbrev pub FilesApart : Table → ℕ → Type 0
+FilesApart O u = Apart O 10 (256 * u) (256 * u + 256)
 
 -- entry y of the file at r lies on page q, which is there
 pub record On (img : List ℕ) (r : Root) (q y : ℕ) : Type 0 where

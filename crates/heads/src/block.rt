@@ -1,6 +1,5 @@
 // A block of pointers: which slots may be filled, and with what.
 use page::read::slot_at;
-ghost use mathlib.Core.Path.{_≡_};
 ghost use Prim.Native.Nat.{_<_};
 ghost use Rattle.book.specs.Words.{vol};
 ghost use Rattle.book.specs.Image.{pages};

@@ -8,23 +8,23 @@ use page::read::page_at;
 use page::read::slot_at;
 use tree::entry::entry_used;
 use tree::entry::entry_word;
-use tree::root::object_page;
+use tree::root::root_page;
 use tree::root::user_page;
 ghost use mathlib.Core.Path.{_≡_};
-ghost use Prim.Native.Nat.{ℕ, _+_, _*_, _/_, _%_, _≤_, _<_};
+ghost use Prim.Native.Nat.{_+_, _*_, _/_, _%_, _≤_, _<_};
 ghost use lib.ListN.{length};
 ghost use Rattle.book.specs.Words.{vol};
 ghost use Rattle.book.specs.Pointers.{slot};
-ghost use Rattle.book.specs.Trees.{Below, rootBy};
-ghost use Rattle.book.specs.Entries.{userFile, objectFile, user, object, entry, used};
+ghost use Rattle.book.specs.Trees.{rootBy};
+ghost use Rattle.book.specs.Entries.{userFile, user, object, entry, used};
 ghost use Rattle.book.specs.Image.{pages, Whole};
 ghost use Rattle.book.specs.Rules.{Rule2, Rule3, Rule5, Rule6};
 ghost use Rattle.book.specs.Decides.{Decides};
 ghost use Rattle.tree.specs.Reach.{Reach, entryIn};
 ghost use Rattle.heads.specs.Slots.{Slots, Block};
 ghost use Rattle.heads.specs.Span.{Span};
-ghost use Rattle.heads.specs.Fine.{FileFine, Unused};
-ghost use Rattle.heads.specs.Twins.{Apart};
+ghost use Rattle.heads.specs.Fine.{FileFine, Unused, Owners};
+ghost use Rattle.heads.specs.Twins.{FilesApart};
 
 // Whether the 32 users from `first` on, a page of them, are unused.
 fn page_unused(img: &[u16], first: usize) -> bool
@@ -123,11 +123,11 @@ fn file_ok(img: &[u16], q: usize, e: usize, owned: bool) -> bool
 }
 
 // Whether the 32 objects from `first` on, a page of them, are unused or right. An absent page has no used objects.
-fn page_ok(img: &[u16], first: usize) -> bool
-    requires { ⌜ Reach (now img) (userFile (vol (now img))) × Reach (now img) (objectFile (vol (now img))) × (first % 32 ≡ 0) × (first < 65536) ⌝ }
-    ensures { λ r. ⌜ Decides r (Span (FileFine (user (vol (now (img .entry)))) (object (vol (now (img .entry))))) first (first + 32)) ⌝ }
+fn page_ok(img: &[u16], flags: u16, top: usize, first: usize) -> bool
+    requires { ⌜ Reach (now img) (userFile (vol (now img))) × Reach (now img) (rootBy flags top 0) × (first % 32 ≡ 0) × (first < 65536) ⌝ }
+    ensures { λ r. ⌜ Decides r (Span (FileFine (user (vol (now (img .entry)))) (entry (vol (now (img .entry))) (rootBy flags top 0))) first (first + 32)) ⌝ }
 {
-    let q = object_page(img, first);
+    let q = root_page(img, flags, top, 0, first / 32);
     if q == 0 {
         return true;
     }
@@ -144,14 +144,15 @@ fn page_ok(img: &[u16], first: usize) -> bool
     true
 }
 
-// Whether all objects are unused or right.
-fn files_ok(img: &[u16]) -> bool
-    requires { ⌜ Reach (now img) (userFile (vol (now img))) × Reach (now img) (objectFile (vol (now img))) ⌝ }
-    ensures { λ r. ⌜ Decides r (Span (FileFine (user (vol (now (img .entry)))) (object (vol (now (img .entry))))) 0 65536) ⌝ }
+// Whether the objects of so many users are unused or right.
+fn files_ok(img: &[u16], flags: u16, top: usize, users: usize) -> bool
+    requires { ⌜ Reach (now img) (userFile (vol (now img))) × Reach (now img) (rootBy flags top 0) × (users ≤ 256) ⌝ }
+    ensures { λ r. ⌜ Decides r (Span (FileFine (user (vol (now (img .entry)))) (entry (vol (now (img .entry))) (rootBy flags top 0))) 0 (256 * users)) ⌝ }
 {
+    let end = 256 * users;
     let mut first: usize = 0;
-    while first < 65536 {
-        if !page_ok(img, first) {
+    while first < end {
+        if !page_ok(img, flags, top, first) {
             return false;
         }
         first += 32;
@@ -159,13 +160,13 @@ fn files_ok(img: &[u16]) -> bool
     true
 }
 
-// Whether no two files of a user have the same name and type, words 1 to 10, for all users.
-fn all_apart(img: &[u16], table: &mut [u16; 4096], flags: u16, top: usize) -> bool
-    requires { ⌜ Reach (now img) (rootBy flags top 0) × (length (now table) ≡ 4096) ⌝ }
-    ensures { λ r. ⌜ Decides r (Span (λ u. Apart (entry (vol (now (img .entry))) (rootBy flags top 0)) 10 (256 * u) (256 * u + 256)) 0 256) ⌝ }
+// Whether no two files of a user have the same name and type, words 1 to 10, for so many users.
+fn all_apart(img: &[u16], table: &mut [u16; 4096], flags: u16, top: usize, users: usize) -> bool
+    requires { ⌜ Reach (now img) (rootBy flags top 0) × (users ≤ 256) × (length (now table) ≡ 4096) ⌝ }
+    ensures { λ r. ⌜ Decides r (Span (FilesApart (entry (vol (now (img .entry))) (rootBy flags top 0))) 0 users) ⌝ }
 {
     let mut u: usize = 0;
-    while u < 256 {
+    while u < users {
         if !apart(img, table, flags, top, 10, 256 * u) {
             return false;
         }
@@ -174,16 +175,30 @@ fn all_apart(img: &[u16], table: &mut [u16; 4096], flags: u16, top: usize) -> bo
     true
 }
 
+// How many users an object file with these flags has pages for.
+fn owners(flags: u16) -> usize
+    ensures { λ r. ⌜ Owners flags r ⌝ }
+{
+    if flags == 0 {
+        return 0;
+    }
+    if flags == 1 {
+        return 64;
+    }
+    256
+}
+
 // Rule 6: used objects: owner is used, words 16 and 17 right, name and type legal, no two of a user equal.
 pub fn rule6(img: &[u16]) -> bool
     requires { ⌜ Whole (now img) × Rule2 (pages (now img)) (vol (now img)) × Rule3 (pages (now img)) (vol (now img)) × Rule5 (pages (now img)) (vol (now img)) ⌝ }
     ensures { λ r. ⌜ Decides r (Rule6 (user (vol (now (img .entry)))) (object (vol (now (img .entry))))) ⌝ }
 {
-    if !files_ok(img) {
-        return false;
-    }
     let flags = flags_at(img, 0, 1016);
     let top = page_at(img, 0, 1016) as usize;
+    let users = owners(flags);
+    if !files_ok(img, flags, top, users) {
+        return false;
+    }
     let mut table = room();
-    all_apart(img, &mut table, flags, top)
+    all_apart(img, &mut table, flags, top, users)
 }

@@ -24,7 +24,7 @@ fn mixed(h: usize, x: u16) -> usize
     requires { ⌜ h < 65521 ⌝ }
     ensures { λ r. ⌜ (r ≡ mix h x) × (r < 65521) ⌝ }
 {
-    (h * 31421 + x as usize) % 65521
+    (h * 31415 + x as usize) % 65521
 }
 
 // The number of the n words from word k of page p on.

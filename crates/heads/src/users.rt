@@ -9,7 +9,7 @@ use tree::entry::entry_used;
 use tree::entry::entry_word;
 use tree::root::user_page;
 ghost use mathlib.Core.Path.{_≡_};
-ghost use Prim.Native.Nat.{_+_, _%_, _≤_, _<_};
+ghost use Prim.Native.Nat.{_+_, _%_, _<_};
 ghost use Rattle.book.specs.Words.{vol};
 ghost use Rattle.book.specs.Entries.{userFile, user, used};
 ghost use Rattle.book.specs.Image.{pages, Whole};

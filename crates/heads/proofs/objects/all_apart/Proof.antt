@@ -1,5 +1,5 @@
 use mathlib.Core.Path.{_≡_, subst}
-use Prim.Native.Nat.{ℕ, _+_, _*_, _≤_, _-_}
+use Prim.Native.Nat.{ℕ, _≤_, _-_}
 use native.Mathlib.Omega.{arith}
 use lib.ListN.{length}
 use borrow.Author.Tests.{not-false}
@@ -8,18 +8,18 @@ use Rattle.book.specs.Trees.{rootBy}
 use Rattle.book.specs.Entries.{entry}
 use Rattle.book.specs.Decides.{holds, fails}
 use Rattle.heads.specs.Span.{Span, span-none, span-more, span-at}
-use Rattle.heads.specs.Twins.{Apart}
+use Rattle.heads.specs.Twins.{FilesApart}
 use Rattle.heads.proofs.objects.all_apart.Statement.{statement}
 use Rattle.heads.proofs.objects.all_apart.Tie as tie
 
 abbrev Inv-loop : tie.InvT-loop
-Inv-loop img table₀ flags top u₀ table u = (u ≤ 256) × (length table ≡ 4096) × Span (λ w. Apart (entry (vol img) (rootBy flags top 0)) 10 (256 * w) (256 * w + 256)) 0 u
+Inv-loop img table₀ flags top users u₀ table u = (u ≤ users) × (length table ≡ 4096) × Span (FilesApart (entry (vol img) (rootBy flags top 0))) 0 u
 
 abbrev μ-loop : tie.MeasureT-loop
-μ-loop img table₀ flags top u₀ table u = 256 - u
+μ-loop img table₀ flags top users u₀ table u = users - u
 
 loop-holds : tie.Need-loop-holds Inv-loop μ-loop
-loop-holds c = (omega arith, c .before .pre .1, span-none _ _)
+loop-holds c = (omega arith, c .before .pre .2, span-none _ _)
 
 mul-apart : tie.Need-mul-apart Inv-loop μ-loop
 mul-apart c = omega arith
@@ -41,8 +41,8 @@ loop-again c = (omega arith, c .before .apart .ensures .1 (not-false _ (c .if1 .
 
 returns-2 : tie.Need-returns-2 Inv-loop μ-loop
 returns-2 c =
-    let a = c .before .before .before .args in let l = c .before .loop in let e : l .u ≡ 256 = omega arith in
-    subst (λ (z : ℕ). Span (λ w. Apart (entry (vol (a .img .now)) (rootBy (a .flags) (a .top) 0)) 10 (256 * w) (256 * w + 256)) 0 z) e (l .inv .2)
+    let a = c .before .before .before .args in let l = c .before .loop in let e : l .u ≡ a .users = omega arith in
+    subst (λ (z : ℕ). Span (FilesApart (entry (vol (a .img .now)) (rootBy (a .flags) (a .top) 0))) 0 z) e (l .inv .2)
 
 pub all-apart-spec : {M : Type 1} → statement M
 all-apart-spec =

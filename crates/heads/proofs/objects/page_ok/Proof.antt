@@ -1,27 +1,30 @@
-use mathlib.Core.Path.{_≡_, sym, ap, subst}
-use Prim.Native.Nat.{ℕ, _+_, _/_, _≤_, _<_, _-_}
+use mathlib.Core.Path.{_≡_, sym, subst}
+use Prim.Native.Nat.{ℕ, _+_, _≤_, _-_}
 use native.Mathlib.Omega.{arith}
 use borrow.Author.Needs.{needs}
-use Rattle.book.specs.Words.{Words, vol}
-use Rattle.book.specs.Entries.{user, object, used}
-use Rattle.book.specs.Decides.{Decides, holds, fails}
+use Rattle.book.specs.Words.{vol}
+use Rattle.book.specs.Trees.{rootBy}
+use Rattle.book.specs.Entries.{entry, user}
+use Rattle.book.specs.Decides.{holds, fails}
 use Rattle.heads.specs.Span.{Span, span-none, span-more, span-at}
 use Rattle.heads.specs.Fine.{FileFine}
-use Rattle.heads.proofs.Pages.{object-on, file-fine, objects-absent, owner-on}
+use Rattle.heads.proofs.Pages.{entry-on, file-fine, files-absent, owner-on}
 use Rattle.heads.proofs.objects.page_ok.Statement.{statement}
 use Rattle.heads.proofs.objects.page_ok.Tie as tie
 
 abbrev Inv-loop : tie.InvT-loop
-Inv-loop img first q u owned end e₀ e = (first ≤ e) × (e ≤ first + 32) × Span (FileFine (user (vol img)) (object (vol img))) first e
+Inv-loop img flags top first q u owned end e₀ e = (first ≤ e) × (e ≤ first + 32) × Span (FileFine (user (vol img)) (entry (vol img) (rootBy flags top 0))) first e
 
 abbrev μ-loop : tie.MeasureT-loop
-μ-loop img first q u owned end e₀ e = first + 32 - e
+μ-loop img flags top first q u owned end e₀ e = first + 32 - e
 
-object-page-requires : tie.Need-object-page-requires Inv-loop μ-loop
-object-page-requires c κs = search needs
+root-page-requires : tie.Need-root-page-requires Inv-loop μ-loop
+root-page-requires c κs = c .before .pre .1
 
 returns : tie.Need-returns Inv-loop μ-loop
-returns c = objects-absent _ (c .before .object-page .result) (c .before .before .before .args .first) (c .before .before .before .pre .2) (omega arith) _ (c .before .object-page .ensures .0)
+returns c =
+    let a = c .before .before .before .args in
+    files-absent (vol (a .img .now)) (c .before .root-page .result) (a .first) (c .before .before .before .pre .2) (omega arith) _ (rootBy (a .flags) (a .top) 0) (c .before .root-page .ensures .0)
 
 user-page-requires : tie.Need-user-page-requires Inv-loop μ-loop
 user-page-requires c κs = search needs
@@ -48,7 +51,7 @@ returns-2 c =
     λ s.
     let a = c .before .before .before .before .before .before .before .before .before .args in let l = c .before .before .before .loop in let v = vol (a .img .now) in
     fails (c .before .file-ok .result) _ (c .before .file-ok .ensures) (c .if2 .taken)
-    (file-fine _ _ (l .e) (sym (object-on v (c .before .before .before .before .before .before .before .object-page .result) (a .first) (l .e) (c .before .before .before .before .before .before .before .before .before .pre .2) (l .inv .0) (omega arith) (c .before .before .before .before .before .before .before .object-page .ensures .0))) (user v)
+    (file-fine _ _ (l .e) (sym (entry-on v (c .before .before .before .before .before .before .before .root-page .result) (a .first) (l .e) (c .before .before .before .before .before .before .before .before .before .pre .2) (l .inv .0) (omega arith) (rootBy (a .flags) (a .top) 0) (c .before .before .before .before .before .before .before .root-page .ensures .0))) (user v)
     (span-at _ _ _ s (l .e) (l .inv .0) (omega arith)))
 
 add-e : tie.Need-add-e Inv-loop μ-loop
@@ -62,13 +65,13 @@ loop-again c =
     let a = c .before .before .before .before .before .before .before .before .before .args in let l = c .before .before .before .loop in let v = vol (a .img .now) in (
       omega arith,
       omega arith,
-      span-more _ _ _ (l .inv .2) (file-fine _ _ (l .e) (object-on v (c .before .before .before .before .before .before .before .object-page .result) (a .first) (l .e) (c .before .before .before .before .before .before .before .before .before .pre .2) (l .inv .0) (omega arith) (c .before .before .before .before .before .before .before .object-page .ensures .0)) (user v) (holds (c .before .file-ok .result) _ (c .before .file-ok .ensures) (c .if2 .left))),
+      span-more _ _ _ (l .inv .2) (file-fine _ _ (l .e) (entry-on v (c .before .before .before .before .before .before .before .root-page .result) (a .first) (l .e) (c .before .before .before .before .before .before .before .before .before .pre .2) (l .inv .0) (omega arith) (rootBy (a .flags) (a .top) 0) (c .before .before .before .before .before .before .before .root-page .ensures .0)) (user v) (holds (c .before .file-ok .result) _ (c .before .file-ok .ensures) (c .if2 .left))),
     )
 
 returns-3 : tie.Need-returns-3 Inv-loop μ-loop
 returns-3 c =
-    let v = vol (c .before .before .before .before .before .before .before .args .img .now) in let l = c .before .loop in let e : l .e ≡ c .before .before .before .before .before .before .before .args .first + 32 = omega arith in
-    subst (λ (z : ℕ). Span (FileFine (user v) (object v)) (c .before .before .before .before .before .before .before .args .first) z) e (l .inv .2)
+    let a = c .before .before .before .before .before .before .before .args in let v = vol (a .img .now) in let l = c .before .loop in let e : l .e ≡ a .first + 32 = omega arith in
+    subst (λ (z : ℕ). Span (FileFine (user v) (entry v (rootBy (a .flags) (a .top) 0))) (a .first) z) e (l .inv .2)
 
 pub page-ok-spec : {M : Type 1} → statement M
 page-ok-spec =
@@ -76,7 +79,7 @@ page-ok-spec =
     (tie.spec
     Inv-loop
     μ-loop
-    object-page-requires
+    root-page-requires
     returns
     user-page-requires
     entry-used-requires
