@@ -5,3 +5,4 @@ pub mod Files
 pub mod Objects
 pub mod Sums
 pub mod Users
+pub mod Memory

@@ -3,7 +3,7 @@ use mathlib.Core.Path.{_≡_, refl, sym, ap, ap₂, _∙_}
 use Prim.Native.Nat.{ℕ, zero, suc, _+_, _*_, _<_}
 use native.Mathlib.Numerals.{add-one}
 use native.Mathlib.Omega.{arith}
-use Rattle.sums.specs.Search.{pick, pick-yes, pick-no}
+use Rattle.sums.specs.Search.{pick-yes, pick-no}
 use Rattle.sums.specs.Sum.{sum, sum-suc, sum-none}
 use Rattle.book.specs.Entries.{object, objectPage, used}
 use Rattle.book.specs.Files.{cost}

@@ -1,4 +1,5 @@
 // The blocks of a file: whether the tree under an index or subindex block has exactly the positions 0 to n - 1, all its pages in 1..P-1.
+use crate::seen::note;
 use page::WORDS;
 use page::read::dword;
 ghost use mathlib.Core.Path.{_≡_};
@@ -7,6 +8,7 @@ ghost use lib.ListN.{length};
 ghost use Rattle.book.specs.Decides.{Decides};
 ghost use Rattle.book.specs.Image.{pages, Whole};
 ghost use Rattle.book.specs.Words.{vol};
+ghost use Rattle.shape.specs.Seen.{Judging, Judged};
 ghost use Rattle.shape.specs.Shapes.{Filled, Linked, Unlinked, Indexes, shareOf};
 
 // Whether a page number is in 1..total-1.
@@ -91,14 +93,38 @@ fn share(n: usize, k: usize) -> usize
     512
 }
 
+// Whether page b is an index block of n pages; a full one that was found right before is not read again.
+pub fn index_once(img: &[u16], total: usize, seen: &mut [u16; 1024], b: usize, n: usize) -> bool
+    requires { ⌜ Judging (now img) total (now seen) × (0 < n) × (n ≤ 512) ⌝ }
+    ensures { λ r. ⌜ Judged (now (img .entry)) (Filled (pages (now (img .entry))) (vol (now (img .entry))) 1 b n) (now (seen .exit)) r ⌝ }
+{
+    if n < 512 {
+        return index_ok(img, total, b, n);
+    }
+    if total <= b {
+        return false;
+    }
+    if !note(seen, b) {
+        return true;
+    }
+    index_ok(img, total, b, n)
+}
+
 // Whether pointers 0 to m - 1 of a subindex block, the slots that n positions need, lead to index blocks of their shares.
-fn indexes_ok(img: &[u16], total: usize, block: &[u16], n: usize, m: usize) -> bool
-    requires { ⌜ Whole (now img) × (total ≡ pages (now img)) × (length (now block) ≡ 1024) × (n ≤ 262144) × (m ≡ (n + 511) / 512) ⌝ }
-    ensures { λ r. ⌜ Decides r (Indexes (pages (now (img .entry))) (vol (now (img .entry))) (now (block .entry)) n m) ⌝ }
+fn indexes_ok(
+    img: &[u16],
+    total: usize,
+    seen: &mut [u16; 1024],
+    block: &[u16],
+    n: usize,
+    m: usize,
+) -> bool
+    requires { ⌜ Judging (now img) total (now seen) × (length (now block) ≡ 1024) × (n ≤ 262144) × (m ≡ (n + 511) / 512) ⌝ }
+    ensures { λ r. ⌜ Judged (now (img .entry)) (Indexes (pages (now (img .entry))) (vol (now (img .entry))) (now (block .entry)) n m) (now (seen .exit)) r ⌝ }
 {
     let mut k: usize = 0;
     while k < m {
-        if !index_ok(img, total, dword(block, 2 * k) as usize, share(n, k)) {
+        if !index_once(img, total, seen, dword(block, 2 * k) as usize, share(n, k)) {
             return false;
         }
         k += 1;
@@ -107,22 +133,28 @@ fn indexes_ok(img: &[u16], total: usize, block: &[u16], n: usize, m: usize) -> b
 }
 
 // Whether a subindex block has n positions under it.
-fn subindex_block(img: &[u16], total: usize, block: &[u16], n: usize) -> bool
-    requires { ⌜ Whole (now img) × (total ≡ pages (now img)) × (length (now block) ≡ 1024) × (n ≤ 262144) ⌝ }
-    ensures { λ r. ⌜ Decides r (Indexes (pages (now (img .entry))) (vol (now (img .entry))) (now (block .entry)) n ((n + 511) / 512)
-        × Unlinked (now (block .entry)) ((n + 511) / 512) 512) ⌝ }
+fn subindex_block(
+    img: &[u16],
+    total: usize,
+    seen: &mut [u16; 1024],
+    block: &[u16],
+    n: usize,
+) -> bool
+    requires { ⌜ Judging (now img) total (now seen) × (length (now block) ≡ 1024) × (n ≤ 262144) ⌝ }
+    ensures { λ r. ⌜ Judged (now (img .entry)) (Indexes (pages (now (img .entry))) (vol (now (img .entry))) (now (block .entry)) n ((n + 511) / 512)
+        × Unlinked (now (block .entry)) ((n + 511) / 512) 512) (now (seen .exit)) r ⌝ }
 {
     let m = (n + 511) / 512;
-    if !indexes_ok(img, total, block, n, m) {
+    if !indexes_ok(img, total, seen, block, n, m) {
         return false;
     }
     unlinked(block, m)
 }
 
 // Whether page t is a subindex block of n pages.
-pub fn subindex_ok(img: &[u16], total: usize, t: usize, n: usize) -> bool
-    requires { ⌜ Whole (now img) × (total ≡ pages (now img)) × (512 < n) × (n ≤ 262144) ⌝ }
-    ensures { λ r. ⌜ Decides r (Filled (pages (now (img .entry))) (vol (now (img .entry))) 2 t n) ⌝ }
+pub fn subindex_ok(img: &[u16], total: usize, seen: &mut [u16; 1024], t: usize, n: usize) -> bool
+    requires { ⌜ Judging (now img) total (now seen) × (512 < n) × (n ≤ 262144) ⌝ }
+    ensures { λ r. ⌜ Judged (now (img .entry)) (Filled (pages (now (img .entry))) (vol (now (img .entry))) 2 t n) (now (seen .exit)) r ⌝ }
 {
     if t == 0 {
         return false;
@@ -132,5 +164,5 @@ pub fn subindex_ok(img: &[u16], total: usize, t: usize, n: usize) -> bool
     }
     let a = WORDS * t;
     let z = a + WORDS;
-    subindex_block(img, total, &img[a..z], n)
+    subindex_block(img, total, seen, &img[a..z], n)
 }

@@ -1,5 +1,5 @@
 // The shape of one file: by the flags of its pointer, and with its bytes, by its entry.
-use crate::block::index_ok;
+use crate::block::index_once;
 use crate::block::subindex_ok;
 use tree::entry::entry_flags;
 use tree::entry::entry_page;
@@ -11,9 +11,10 @@ ghost use Prim.Native.Nat.{_<_};
 ghost use Rattle.book.specs.Decides.{Decides};
 ghost use Rattle.book.specs.Entries.{used};
 ghost use Rattle.book.specs.Files.{Shape, Empty, Contiguous, Indexed, Subindexed, bytesOf};
-ghost use Rattle.book.specs.Image.{pages, Whole};
+ghost use Rattle.book.specs.Image.{pages};
 ghost use Rattle.book.specs.Words.{vol};
 ghost use Rattle.tree.specs.Reach.{entryIn};
+ghost use Rattle.shape.specs.Seen.{Judging, Judged};
 ghost use Rattle.shape.specs.Shapes.{Shaped};
 
 // Whether a pointer without flags to page t is that of a file of n pages: an empty or a contiguous one.
@@ -31,9 +32,9 @@ fn run_ok(total: usize, t: usize, n: usize) -> bool
 }
 
 // Whether page t is the index block of a file of n pages.
-fn indexed_ok(img: &[u16], total: usize, t: usize, n: usize) -> bool
-    requires { ⌜ Whole (now img) × (total ≡ pages (now img)) ⌝ }
-    ensures { λ r. ⌜ Decides r (Indexed (pages (now (img .entry))) (vol (now (img .entry))) t n) ⌝ }
+fn indexed_ok(img: &[u16], total: usize, seen: &mut [u16; 1024], t: usize, n: usize) -> bool
+    requires { ⌜ Judging (now img) total (now seen) ⌝ }
+    ensures { λ r. ⌜ Judged (now (img .entry)) (Indexed (pages (now (img .entry))) (vol (now (img .entry))) t n) (now (seen .exit)) r ⌝ }
 {
     if n == 0 {
         return false;
@@ -41,13 +42,13 @@ fn indexed_ok(img: &[u16], total: usize, t: usize, n: usize) -> bool
     if 512 < n {
         return false;
     }
-    index_ok(img, total, t, n)
+    index_once(img, total, seen, t, n)
 }
 
 // Whether page t is the subindex block of a file of n pages.
-fn subindexed_ok(img: &[u16], total: usize, t: usize, n: usize) -> bool
-    requires { ⌜ Whole (now img) × (total ≡ pages (now img)) ⌝ }
-    ensures { λ r. ⌜ Decides r (Subindexed (pages (now (img .entry))) (vol (now (img .entry))) t n) ⌝ }
+fn subindexed_ok(img: &[u16], total: usize, seen: &mut [u16; 1024], t: usize, n: usize) -> bool
+    requires { ⌜ Judging (now img) total (now seen) ⌝ }
+    ensures { λ r. ⌜ Judged (now (img .entry)) (Subindexed (pages (now (img .entry))) (vol (now (img .entry))) t n) (now (seen .exit)) r ⌝ }
 {
     if n <= 512 {
         return false;
@@ -55,22 +56,29 @@ fn subindexed_ok(img: &[u16], total: usize, t: usize, n: usize) -> bool
     if 262144 < n {
         return false;
     }
-    subindex_ok(img, total, t, n)
+    subindex_ok(img, total, seen, t, n)
 }
 
 // Whether a pointer with these flags to page t is that of a file of n pages.
-fn shape_ok(img: &[u16], total: usize, flags: u16, t: usize, n: usize) -> bool
-    requires { ⌜ Whole (now img) × (total ≡ pages (now img)) × (t < 4294967296) × (n < 4294967296) ⌝ }
-    ensures { λ r. ⌜ Decides r (Shape (pages (now (img .entry))) (vol (now (img .entry))) flags t n) ⌝ }
+fn shape_ok(
+    img: &[u16],
+    total: usize,
+    seen: &mut [u16; 1024],
+    flags: u16,
+    t: usize,
+    n: usize,
+) -> bool
+    requires { ⌜ Judging (now img) total (now seen) × (t < 4294967296) × (n < 4294967296) ⌝ }
+    ensures { λ r. ⌜ Judged (now (img .entry)) (Shape (pages (now (img .entry))) (vol (now (img .entry))) flags t n) (now (seen .exit)) r ⌝ }
 {
     if flags == 0 {
         return run_ok(total, t, n);
     }
     if flags == 1 {
-        return indexed_ok(img, total, t, n);
+        return indexed_ok(img, total, seen, t, n);
     }
     if flags == 2 {
-        return subindexed_ok(img, total, t, n);
+        return subindexed_ok(img, total, seen, t, n);
     }
     false
 }
@@ -83,9 +91,9 @@ fn bytes_ok(n: u32, bytes: u32) -> bool
 }
 
 // Whether the file in entry e on page q has one of the shapes, its bytes right, all its pages in 1..total-1.
-fn file_ok(img: &[u16], total: usize, q: usize, e: usize) -> bool
-    requires { ⌜ Whole (now img) × (total ≡ pages (now img)) × (q < pages (now img)) ⌝ }
-    ensures { λ r. ⌜ Decides r (Shaped (pages (now (img .entry))) (vol (now (img .entry))) (entryIn (vol (now (img .entry))) q e)) ⌝ }
+fn file_ok(img: &[u16], total: usize, seen: &mut [u16; 1024], q: usize, e: usize) -> bool
+    requires { ⌜ Judging (now img) total (now seen) × (q < pages (now img)) ⌝ }
+    ensures { λ r. ⌜ Judged (now (img .entry)) (Shaped (pages (now (img .entry))) (vol (now (img .entry))) (entryIn (vol (now (img .entry))) q e)) (now (seen .exit)) r ⌝ }
 {
     let n = entry_two(img, q, e, 26);
     if !bytes_ok(n, entry_two(img, q, e, 28)) {
@@ -93,16 +101,16 @@ fn file_ok(img: &[u16], total: usize, q: usize, e: usize) -> bool
     }
     let flags = entry_flags(img, q, e, 30);
     let t = entry_page(img, q, e, 30);
-    shape_ok(img, total, flags, t, n as usize)
+    shape_ok(img, total, seen, flags, t, n as usize)
 }
 
 // Whether entry e on page q is unused, or its file is right.
-pub fn entry_ok(img: &[u16], total: usize, q: usize, e: usize) -> bool
-    requires { ⌜ Whole (now img) × (total ≡ pages (now img)) × (q < pages (now img)) ⌝ }
-    ensures { λ r. ⌜ Decides r (0 < used (entryIn (vol (now (img .entry))) q e) → Shaped (pages (now (img .entry))) (vol (now (img .entry))) (entryIn (vol (now (img .entry))) q e)) ⌝ }
+pub fn entry_ok(img: &[u16], total: usize, seen: &mut [u16; 1024], q: usize, e: usize) -> bool
+    requires { ⌜ Judging (now img) total (now seen) × (q < pages (now img)) ⌝ }
+    ensures { λ r. ⌜ Judged (now (img .entry)) (0 < used (entryIn (vol (now (img .entry))) q e) → Shaped (pages (now (img .entry))) (vol (now (img .entry))) (entryIn (vol (now (img .entry))) q e)) (now (seen .exit)) r ⌝ }
 {
     if !entry_used(img, q, e) {
         return true;
     }
-    file_ok(img, total, q, e)
+    file_ok(img, total, seen, q, e)
 }

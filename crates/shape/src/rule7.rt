@@ -1,5 +1,6 @@
 // Rule 7: each file has one of the shapes, its bytes right, all its pages in 1..P-1. It goes over the pages of the object file and skips absent ones.
 use crate::file::entry_ok;
+use crate::seen::no_blocks;
 use tree::root::object_page;
 ghost use mathlib.Core.Path.{_≡_};
 ghost use Prim.Native.Nat.{_+_, _*_, _<_};
@@ -9,17 +10,18 @@ ghost use Rattle.book.specs.Image.{pages, Whole};
 ghost use Rattle.book.specs.Rules.{Rule2, Rule5, Rule7};
 ghost use Rattle.book.specs.Words.{vol};
 ghost use Rattle.tree.specs.Reach.{Reach};
+ghost use Rattle.shape.specs.Seen.{Judging, Judged};
 ghost use Rattle.shape.specs.Shapes.{FilesRight};
 
 // Whether the files are right whose entries are on object page q, the one at position n.
-fn page_ok(img: &[u16], total: usize, q: usize, n: usize) -> bool
-    requires { ⌜ Whole (now img) × (total ≡ pages (now img)) × (q < pages (now img)) × (n < 2048) × (q ≡ objectPage (vol (now img)) (32 * n)) ⌝ }
-    ensures { λ r. ⌜ Decides r (FilesRight (pages (now (img .entry))) (vol (now (img .entry))) (32 * n) (32 * n + 32)) ⌝ }
+fn page_ok(img: &[u16], total: usize, seen: &mut [u16; 1024], q: usize, n: usize) -> bool
+    requires { ⌜ Judging (now img) total (now seen) × (q < pages (now img)) × (n < 2048) × (q ≡ objectPage (vol (now img)) (32 * n)) ⌝ }
+    ensures { λ r. ⌜ Judged (now (img .entry)) (FilesRight (pages (now (img .entry))) (vol (now (img .entry))) (32 * n) (32 * n + 32)) (now (seen .exit)) r ⌝ }
 {
     let e = 32 * n;
     let mut k: usize = 0;
     while k < 32 {
-        if !entry_ok(img, total, q, e + k) {
+        if !entry_ok(img, total, seen, q, e + k) {
             return false;
         }
         k += 1;
@@ -28,15 +30,15 @@ fn page_ok(img: &[u16], total: usize, q: usize, n: usize) -> bool
 }
 
 // Whether the files are right whose entries are at position n of the object file.
-fn position_ok(img: &[u16], total: usize, n: usize) -> bool
-    requires { ⌜ Whole (now img) × (total ≡ pages (now img)) × Reach (now img) (objectFile (vol (now img))) × (n < 2048) ⌝ }
-    ensures { λ r. ⌜ Decides r (FilesRight (pages (now (img .entry))) (vol (now (img .entry))) (32 * n) (32 * n + 32)) ⌝ }
+fn position_ok(img: &[u16], total: usize, seen: &mut [u16; 1024], n: usize) -> bool
+    requires { ⌜ Judging (now img) total (now seen) × Reach (now img) (objectFile (vol (now img))) × (n < 2048) ⌝ }
+    ensures { λ r. ⌜ Judged (now (img .entry)) (FilesRight (pages (now (img .entry))) (vol (now (img .entry))) (32 * n) (32 * n + 32)) (now (seen .exit)) r ⌝ }
 {
     let q = object_page(img, 32 * n);
     if q == 0 {
         return true;
     }
-    page_ok(img, total, q, n)
+    page_ok(img, total, seen, q, n)
 }
 
 // Whether rule 7 holds.
@@ -44,9 +46,10 @@ pub fn rule7(img: &[u16], total: usize) -> bool
     requires { ⌜ Whole (now img) × (total ≡ pages (now img)) × Rule2 (pages (now img)) (vol (now img)) × Rule5 (pages (now img)) (vol (now img)) ⌝ }
     ensures { λ r. ⌜ Decides r (Rule7 (pages (now (img .entry))) (vol (now (img .entry)))) ⌝ }
 {
+    let mut seen = no_blocks();
     let mut n: usize = 0;
     while n < 2048 {
-        if !position_ok(img, total, n) {
+        if !position_ok(img, total, &mut seen, n) {
             return false;
         }
         n += 1;

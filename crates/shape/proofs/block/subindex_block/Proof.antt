@@ -1,4 +1,5 @@
-use Rattle.book.specs.Decides.{holds, fails, decides-and}
+use Rattle.book.specs.Decides.{decides-and}
+use Rattle.shape.proofs.Memory.{judged-no, judged-by, passed, failed}
 use borrow.Author.Needs.{needs}
 use Rattle.shape.proofs.block.subindex_block.Statement.{statement}
 use Rattle.shape.proofs.block.subindex_block.Tie as tie
@@ -10,14 +11,15 @@ indexes-ok-requires : tie.Need-indexes-ok-requires
 indexes-ok-requires c κs = search needs
 
 returns : tie.Need-returns
-returns c = λ h. fails (c .before .indexes-ok .result) _ (c .before .indexes-ok .ensures) (c .if1 .taken) (h .0)
+returns c = judged-no _ _ _ (λ h. failed _ _ _ (c .before .indexes-ok .result) (c .before .indexes-ok .ensures) (c .if1 .taken) (h .0))
 
 unlinked-requires : tie.Need-unlinked-requires
 unlinked-requires c κs = search needs
 
 returns-2 : tie.Need-returns-2
 returns-2 c =
-    decides-and (c .unlinked .result) _ _ (holds (c .before .before .indexes-ok .result) _ (c .before .before .indexes-ok .ensures) (c .before .if1 .left)) (c .unlinked .ensures)
+    let w = passed _ _ _ (c .before .before .indexes-ok .result) (c .before .before .indexes-ok .ensures) (c .before .if1 .left) in
+    judged-by _ _ _ (c .unlinked .result) (decides-and (c .unlinked .result) _ _ (w .0) (c .unlinked .ensures)) (w .1)
 
 pub subindex-block-spec : {M : Type 1} → statement M
 subindex-block-spec =

@@ -1,3 +1,4 @@
+use Rattle.shape.proofs.Memory.{judged-yes}
 use Rattle.shape.proofs.Objects.{right-absent}
 use borrow.Author.Needs.{needs}
 use Rattle.shape.proofs.rule7.position_ok.Statement.{statement}
@@ -10,7 +11,9 @@ object-page-requires : tie.Need-object-page-requires
 object-page-requires c κs = search needs
 
 returns : tie.Need-returns
-returns c = right-absent _ _ (c .before .before .before .args .n) (c .before .object-page .result) (c .before .object-page .ensures .0) (c .if1 .taken)
+returns c =
+    let s = c .before .before .before in
+    judged-yes _ _ _ (right-absent _ _ (s .args .n) (c .before .object-page .result) (c .before .object-page .ensures .0) (c .if1 .taken)) (s .pre .0 .known)
 
 page-ok-requires : tie.Need-page-ok-requires
 page-ok-requires c κs = search needs
