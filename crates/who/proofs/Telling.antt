@@ -1,14 +1,14 @@
 -- What is told of page p, from what the searches found. Assumes nothing.
 use mathlib.Core.Path.{_≡_, refl, sym, ap, _∙_, subst}
 use mathlib.Core.Logic.{inl, inr}
-use Prim.Native.Nat.{ℕ, zero, suc, _+_, _*_, _/_, _≤_, _<_}
+use Prim.Native.Nat.{ℕ, zero, suc, _+_, _/_, _≤_, _<_}
 use native.Mathlib.Nat.{not-suc-le-zero}
 use native.Mathlib.Omega.{arith}
 use Rattle.book.specs.declared.Role.{Role}
 use Rattle.book.specs.declared.Role.the-variants.{Subindex, Index, Data}
 use Rattle.book.specs.declared.FileHolder.{FileHolder}
 use Rattle.book.specs.declared.Holder.{Holder}
-use Rattle.book.specs.declared.Holder.the-variants.{Free, Master, BitFile, UserIndex, UserPage, ObjectSubindex, ObjectIndex, ObjectPage, File}
+use Rattle.book.specs.declared.Holder.the-variants.{Free, Master, BitFile, ObjectSubindex, ObjectIndex, ObjectPage, File}
 use Rattle.book.specs.Words.{Vol}
 use Rattle.book.specs.Pointers.{page, bitPointer}
 use Rattle.book.specs.Trees.{weighR, pageAt}

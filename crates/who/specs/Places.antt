@@ -2,7 +2,6 @@
 use mathlib.Core.Path.{_≡_}
 use Prim.Native.Nat.{ℕ, _<_}
 use Rattle.book.specs.declared.Role.{Role}
-use Rattle.book.specs.declared.FileHolder.{FileHolder}
 use Rattle.book.specs.Words.{Vol}
 use Rattle.book.specs.Pointers.{slot}
 use Rattle.book.specs.Trees.{Root, tree}

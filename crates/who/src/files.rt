@@ -12,7 +12,7 @@ use tree::entry::entry_two;
 use tree::entry::entry_used;
 use tree::root::root_page;
 ghost use mathlib.Core.Path.{_≡_};
-ghost use Prim.Native.Nat.{ℕ, _+_, _*_, _/_, _%_, _≤_, _<_};
+ghost use Prim.Native.Nat.{ℕ, _+_, _*_, _/_, _%_, _<_};
 ghost use Rattle.book.specs.Words.{vol};
 ghost use Rattle.book.specs.Trees.{pageAt};
 ghost use Rattle.book.specs.Entries.{objectFile, objectPage};

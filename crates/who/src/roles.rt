@@ -6,7 +6,7 @@ use page::read::page_at;
 use page::read::slot_at;
 use seek::Found;
 ghost use mathlib.Core.Path.{_≡_};
-ghost use Prim.Native.Nat.{ℕ, _+_, _*_, _≤_, _<_};
+ghost use Prim.Native.Nat.{ℕ, _+_, _*_, _<_};
 ghost use Rattle.book.specs.Words.{Vol, vol};
 ghost use Rattle.book.specs.Pointers.{slot};
 ghost use Rattle.book.specs.Trees.{tree, run, rootAt, rootBy};

@@ -41,9 +41,12 @@ cast-count : tie.Need-cast-count
 cast-count c = search needs
 
 find-role-requires : tie.Need-find-role-requires
-find-role-requires c κs = let s = c .before .before .before .before .before .before in let a = s .args in let v = vol (a .img .now) in
-    (reach-same _ _ _ (file-in v (a .e) (a .q) (s .pre .2) (holds (c .before .before .before .before .entry-used .result) _ (c .before .before .before .before .entry-used .ensures) (c .before .before .before .if1 .left))
-    (c .before .before .entry-flags .result) (c .before .entry-page .result) (c .entry-two .result) (c .before .before .entry-flags .ensures .0) (c .before .entry-page .ensures .0) (c .entry-two .ensures .0)) (ready-file _ (s .pre .0) (a .e) (s .pre .1)), s .pre .4, omega (arith, s .pre .0 .whole .most))
+find-role-requires c κs = let s = c .before .before .before .before .before .before in let a = s .args in let v = vol (a .img .now) in (
+  reach-same _ _ _ (file-in v (a .e) (a .q) (s .pre .2) (holds (c .before .before .before .before .entry-used .result) _ (c .before .before .before .before .entry-used .ensures) (c .before .before .before .if1 .left))
+      (c .before .before .entry-flags .result) (c .before .entry-page .result) (c .entry-two .result) (c .before .before .entry-flags .ensures .0) (c .before .entry-page .ensures .0) (c .entry-two .ensures .0)) (ready-file _ (s .pre .0) (a .e) (s .pre .1)),
+  s .pre .4,
+  omega (arith, s .pre .0 .whole .most),
+)
 
 returns-2 : tie.Need-returns-2
 returns-2 c = let s = c .before .before .before .before .before .before .before in let a = s .args in let v = vol (a .img .now) in

@@ -1,13 +1,12 @@
 -- `who::files::in_files` meets its contract. Assumes nothing.
-use mathlib.Core.Path.{_≡_, refl, sym, ap, _∙_, subst}
+use mathlib.Core.Path.{_≡_, refl, subst}
 use Prim.Native.Nat.{ℕ, _-_, _/_, _≤_, _<_}
 use borrow.Author.Count.{below-none, below-more}
 use borrow.Author.Needs.{needs}
 use native.Mathlib.Omega.{arith}
 use Rattle.book.specs.Words.{vol}
-use Rattle.book.specs.Trees.{Root, pageAt}
 use Rattle.book.specs.Entries.{objectFile}
-use Rattle.tree.proofs.Reach.{reach-same, root-read}
+use Rattle.tree.proofs.Reach.{reach-same, root-read, page-read}
 use Rattle.seek.proofs.Ready.{ready-objects}
 use Rattle.who.specs.Places.{Owned}
 use Rattle.who.proofs.Among.{Without}
@@ -40,7 +39,7 @@ root-page-requires c κs = let s = c .before .before .before .before .before in 
 in-page-requires : tie.Need-in-page-requires Inv-loop μ-loop
 unfolding objectFile
 in-page-requires c κs = let s = c .before .before .before .before .before .before in let v = vol (s .args .img .now) in
-    (s .pre .0, omega arith, c .root-page .ensures .0 ∙ ap (λ (r : Root). pageAt v r (c .before .before .loop .i)) (sym (root-read (v 0) 1016 0 (c .before .before .before .before .flags-at .result) (c .before .before .before .page-at .result) 0 (c .before .before .before .before .flags-at .ensures .0) (c .before .before .before .page-at .ensures .0) refl)), c .root-page .ensures .1, s .pre .1, s .pre .2)
+    (s .pre .0, omega arith, page-read v (objectFile v) _ _ _ _ (root-read (v 0) 1016 0 (c .before .before .before .before .flags-at .result) (c .before .before .before .page-at .result) 0 (c .before .before .before .before .flags-at .ensures .0) (c .before .before .before .page-at .ensures .0) refl) refl (c .root-page .ensures .0), c .root-page .ensures .1, s .pre .1, s .pre .2)
 
 enum-known-r : tie.Need-enum-known-r Inv-loop μ-loop
 enum-known-r c = search needs

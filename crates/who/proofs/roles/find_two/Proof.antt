@@ -1,5 +1,5 @@
 -- `who::roles::find_two` meets its contract. Assumes nothing.
-use mathlib.Core.Path.{_≡_, subst}
+use mathlib.Core.Path.{subst}
 use Prim.Native.Nat.{ℕ, _-_, _≤_, _<_}
 use borrow.Author.Count.{below-none, below-more}
 use borrow.Author.Needs.{needs}

@@ -1,3 +1,12 @@
+-- `who::tell::who` meets its contract. Assumes nothing.
+use mathlib.Core.Path.{sym, _∙_, subst}
+use native.Mathlib.Omega.{arith}
+use Rattle.book.specs.Words.{vol}
+use Rattle.book.specs.Image.{pages}
+use Rattle.laws.specs.Who.{told-free}
+use Rattle.bits.specs.File.{BitsAt}
+use Rattle.bits.proofs.Places.{bits-at}
+use Rattle.who.proofs.Telling.{told-master, told-bits, bits-none}
 use borrow.Author.Needs.{needs}
 use Rattle.who.proofs.tell.who.Statement.{statement}
 use Rattle.who.proofs.tell.who.Tie as tie
@@ -7,35 +16,31 @@ use Rattle.bits.proofs.test.Reads as test-reads
 use Rattle.page.proofs.read.page_at.Reads as page-at-reads
 use Rattle.who.proofs.tell.held.Reads as held-reads
 
--- src/tell.rt:73:9
 returns : tie.Need-returns
-returns c = ?
+returns c = let s = c .before .before in let a = s .args in let v = vol (a .img .now) in told-master (pages (a .img .now)) v (a .p) (c .if1 .taken)
 
--- src/tell.rt:75:13
 page-at-requires : tie.Need-page-at-requires
 page-at-requires c κs = search needs
 
--- src/tell.rt:75:13
 cast-b : tie.Need-cast-b
 cast-b c = search needs
 
--- src/tell.rt:76:8
 test-requires : tie.Need-test-requires
-test-requires c κs = ?
+test-requires c κs = let s = c .before .before .before in let a = s .args in let v = vol (a .img .now) in let P = pages (a .img .now) in let g = c .page-at in let f = subst (BitsAt P v) (sym (g .ensures .0)) (bits-at P v (s .pre .0 .whole .most) (s .pre .0 .sound .r1)) in
+    (omega (arith, f .below), omega (arith, s .pre .1, s .pre .0 .whole .most))
 
--- src/tell.rt:77:9
 returns-2 : tie.Need-returns-2
-returns-2 c = ?
+returns-2 c = let s = c .before .before .before .before .before in let a = s .args in let v = vol (a .img .now) in let P = pages (a .img .now) in let g = c .before .before .page-at in let f = subst (BitsAt P v) (sym (g .ensures .0)) (bits-at P v (s .pre .0 .whole .most) (s .pre .0 .sound .r1)) in
+    told-free P v (s .pre .0 .sound) (a .p) (s .pre .1) (sym (c .before .test .ensures .0 P f (s .pre .1)) ∙ c .if2 .taken)
 
--- src/tell.rt:80:9
 returns-3 : tie.Need-returns-3
-returns-3 c = ?
+returns-3 c = let s = c .before .before .before .before .before .before in let a = s .args in let v = vol (a .img .now) in let P = pages (a .img .now) in let g = c .before .before .before .page-at in let f = subst (BitsAt P v) (sym (g .ensures .0)) (bits-at P v (s .pre .0 .whole .most) (s .pre .0 .sound .r1)) in
+    told-bits P v (g .result) (a .p) f (omega arith) (c .if3 .taken)
 
--- src/tell.rt:82:5
 held-requires : tie.Need-held-requires
-held-requires c κs = ?
+held-requires c κs = let s = c .before .before .before .before .before .before in let a = s .args in let v = vol (a .img .now) in let P = pages (a .img .now) in let g = c .before .before .before .page-at in let f = subst (BitsAt P v) (sym (g .ensures .0)) (bits-at P v (s .pre .0 .whole .most) (s .pre .0 .sound .r1)) in
+    (s .pre .0, omega arith, s .pre .1, bits-none P v (g .result) (a .p) f (omega arith) (c .if3 .left))
 
--- src/tell.rt:68:1
 returns-4 : tie.Need-returns-4
 returns-4 c = search needs
 
