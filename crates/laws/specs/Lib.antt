@@ -99,3 +99,5 @@ pub mod Moved
 pub mod Granted
 pub mod Charge
 pub mod Indexes
+pub mod Sequence
+pub mod Aside

@@ -3,13 +3,16 @@ use crate::args::file_args;
 use crate::args::name_args;
 use book::Answer;
 use book::Gate;
+use book::Holding;
 use book::Refusal;
 use seek::Found;
 ghost use mathlib.Core.Path.{_≡_};
 ghost use Prim.Native.Nat.{_<_};
-ghost use Rattle.book.specs.Answers.{numbers};
+ghost use Rattle.book.specs.Decides.{Decides};
+ghost use Rattle.book.specs.Image.{pages, PageArg};
+ghost use Rattle.book.specs.Answers.{numbers, holding};
 ghost use Rattle.book.specs.Outcome.{Outcome, Gives};
-ghost use Rattle.book.specs.Calls.{checkCall, findUserCall, findFileCall, addressCall, readCall};
+ghost use Rattle.book.specs.Calls.{checkCall, findUserCall, findFileCall, addressCall, readCall, whoCall};
 
 // Judges the image: done with the pages visited, or 3 with the lowest broken rule.
 pub fn check(img: &[u16]) -> Answer
@@ -101,4 +104,28 @@ pub fn read_page(img: &[u16], user: usize, file: usize, n: usize) -> &[u16]
         return seek::part::empty(img);
     }
     seek::part::page_part(img, seek::positions::address(img, user, file, n))
+}
+
+// Number 2 of who-holds: a page number not below P.
+fn page_arg(img: &[u16], p: usize) -> bool
+    ensures { λ r. ⌜ Decides r (PageArg (pages (now (img .entry))) p) ⌝ }
+{
+    if img.len() / page::WORDS <= p {
+        return false;
+    }
+    true
+}
+
+// Who holds page p, or that it is free.
+pub fn who_holds(img: &[u16], p: usize) -> Holding
+    ensures { λ r. ⌜ Outcome (whoCall (now (img .entry)) p) (now (img .entry)) (holding r) (now (img .entry)) ⌝ }
+{
+    let ok = page_arg(img, p);
+    let g = sound::gate(img, ok);
+    if let Gate::Shut { why } = g {
+        return Holding::Refused { why };
+    }
+    Holding::By {
+        holder: who::tell::who(img, p),
+    }
 }
