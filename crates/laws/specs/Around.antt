@@ -1,7 +1,7 @@
 -- The words that a file's last position has: slots, bits, counts; and what growing and shrinking may change. Assumes nothing.
-use mathlib.Core.Path.{_≡_, sym, ap, _∙_, subst}
-use mathlib.Core.Logic.{_≢_, _⊎_, inl, inr}
-use Prim.Native.Nat.{ℕ, suc, _+_, _*_, _/_, _%_, _≤_, _<_}
+use mathlib.Core.Path.{_≡_, sym, _∙_, subst}
+use mathlib.Core.Logic.{_⊎_, inl, inr}
+use Prim.Native.Nat.{ℕ, _+_, _*_, _/_, _%_, _<_}
 use native.Mathlib.Omega.{arith}
 use Rattle.book.specs.Bits.{bitPage, bitWord, mark, claim}
 use Rattle.book.specs.Entries.{objectPage, userPage}
@@ -13,7 +13,7 @@ use Rattle.book.specs.Trees.{Root, indexAt, subindexOf}
 use Rattle.book.specs.Words.{Vol, put2}
 use Rattle.laws.specs.Levels.{last}
 use Rattle.laws.specs.Leave.{SamePlaces, bitPage-same}
-use Rattle.laws.specs.Places.{Places, PageOf, WordsOf, FieldOf, Either, OnlyAt, only-wider, only-then, only-put, only-put2, only-wipe}
+use Rattle.laws.specs.Places.{Places, PageOf, WordsOf, FieldOf, Either, OnlyAt, only-wider, only-put, only-put2, only-wipe}
 
 -- page x is one of those that position n needs
 abbrev pub Needs : Vol → Root → ℕ → ℕ → Type 0
@@ -75,3 +75,8 @@ only-finish A v U O a e n ptr x o u =
 
     v₃ : Vol
     v₃ = put2 v₂ O (w + 30) ptr
+
+-- a page is taken that the new position of z needs
+pub only-take : (P : ℕ) (v w z : Vol) (a e n d : ℕ) → SamePlaces w z → Needs z (fileAt z e) n d → OnlyAt (AroundNew P z a e n) v w → OnlyAt (AroundNew P z a e n) v (claim P w d)
+only-take P v w z a e n d L h o = only-trans (AroundNew P z a e n) v w (claim P w d) o
+    (only-claim (AroundNew P z a e n) P w d (λ p j i. inr (inl (d, h, (i .0 ∙ sym (bitPage-same P w z L d), i .1, i .2)))) (λ j. inl h))

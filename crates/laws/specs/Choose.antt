@@ -1,11 +1,11 @@
 -- The choice that the book makes: the lowest free page. Assumes nothing.
-use mathlib.Core.Path.{_≡_, sym, ap, _∙_, subst}
-use Prim.Native.Nat.{ℕ, suc, _+_, _-_, _≤_, _<_}
+use mathlib.Core.Path.{_≡_}
+use Prim.Native.Nat.{ℕ, _-_, _<_}
 use native.Mathlib.Omega.{arith}
 use Rattle.sums.specs.Search.{lowest, lowest-lt, lowest-is}
 use Rattle.book.specs.Bits.{bit, lowestFree}
 use Rattle.book.specs.Words.{Vol}
-use Rattle.laws.specs.Count.{free, free-page, bit-le}
+use Rattle.laws.specs.Count.{free-page, bit-le}
 use Rattle.laws.specs.Grow.{Chooser}
 
 -- while a page is free, the lowest free page is one

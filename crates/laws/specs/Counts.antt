@@ -2,7 +2,6 @@
 use mathlib.Core.Path.{_≡_, refl, sym, ap, _∙_}
 use mathlib.Core.Logic.{inl, inr}
 use Prim.Native.Nat.{ℕ, zero, suc, _+_, _<_}
-use native.Mathlib.Nat.{eq-zero-or-pos}
 use native.Mathlib.Omega.{arith}
 use Rattle.sums.specs.Sum.{sum, sum-zero, sum-ext, sum-none, sum-const}
 use Rattle.book.specs.Bits.{bit, reserved}
@@ -10,17 +9,18 @@ use Rattle.book.specs.Entries.{object, used, pageCount}
 use Rattle.book.specs.Files.{fileAt, Shape, FileShape, cost, isRun}
 use Rattle.book.specs.Holders.{some, all, holders, visits}
 use Rattle.book.specs.Pointers.{flags, page}
-use Rattle.book.specs.Rules.{Rule7, Rule8, Sound}
+use Rattle.book.specs.Rules.{Rule7, Sound}
 use Rattle.book.specs.Trees.{Root, run, weighR, rootAt, rootBy}
 use Rattle.book.specs.Words.{Vol}
 use Rattle.laws.specs.Cost.{fill-1, fill-2}
 use Rattle.laws.specs.Count.{free, free-count, good, most, bit-holders, holders-count, sound-within}
 use Rattle.laws.specs.Finish.{file-used}
-use Rattle.laws.specs.Tree.{some-pos, some-zero}
+use Rattle.laws.specs.Visits.{visits-holders}
+use Rattle.laws.specs.Tree.{some-pos}
 
 -- ---- a file
 
-run-count : (v : Vol) (t n : ℕ) → 0 < t → weighR v (run t n) some ≡ n
+pub run-count : (v : Vol) (t n : ℕ) → 0 < t → weighR v (run t n) some ≡ n
 unfolding weighR
 run-count v t n h = sum-ext n (λ i. some (t + i)) (λ i. 1) (λ i l. some-pos (t + i) (omega arith)) ∙ sum-const n 1 ∙ omega arith
 
@@ -67,17 +67,10 @@ module _ (P : ℕ) (v : Vol) (S : Sound P v) (e : ℕ) (he : e < 65536) (ue : 0 
 -- ---- the volume
 
 module _ (P : ℕ) (v : Vol) (S : Sound P v) where
-  visit : (p : ℕ) → p < P → some (holders P v p) ≡ bit P v p
-  unfolding Rule8
-  visit p h = elim (eq-zero-or-pos (holders P v p)) [
-    | inl z ↦ ap some z ∙ some-zero ∙ sym (bit-holders P v S p h ∙ z)
-    | inr q ↦ some-pos (holders P v p) q ∙ omega (arith, S .r8 p h, bit-holders P v S p h)
-  ]
-
   -- each held page is visited once: as many as are reserved
   pub visits-reserved : visits P v ≡ reserved P v
-  unfolding visits reserved
-  visits-reserved = sum-ext P (λ p. some (holders P v p)) (bit P v) visit
+  unfolding reserved
+  visits-reserved = visits-holders P v (S .r8) ∙ sym (sum-ext P (bit P v) (holders P v) (bit-holders P v S))
 
   pub reserved-held : 0 < P → reserved P v ≡ 1 + all P v some
   unfolding reserved

@@ -2,9 +2,10 @@
 use mathlib.Core.Path.{_≡_, refl, sym, ap, _∙_, subst}
 use mathlib.Core.Logic.{_≢_, _⊎_, inl, inr}
 use Prim.Native.Nat.{ℕ, suc, _+_, _-_, _*_, _/_, _%_, _≤_, _<_}
+use native.Mathlib.Nat.{eq-zero-or-pos}
 use native.Mathlib.Omega.{arith}
 use Rattle.sums.specs.Sum.{sum-at}
-use Rattle.book.specs.Bits.{bit, markAll, freed}
+use Rattle.book.specs.Bits.{bitPage, bitWord, bit, markAll, freed}
 use Rattle.book.specs.Delete.{deleteFile}
 use Rattle.book.specs.Entries.{Table, entry, userFile, objectFile, userPage, objectPage, user, object, used, usedPages}
 use Rattle.book.specs.Files.{fileAt}
@@ -13,15 +14,22 @@ use Rattle.book.specs.Rules.{Rule10, Sound}
 use Rattle.book.specs.Trees.{weighR, pageAt}
 use Rattle.book.specs.Words.{Words, Vol, two, word, put2, putWords, zeros}
 use Rattle.book.specs.Written.{word-pos, word-ext, put2-page, put2-word, put2-hi, put2-lo, putWords-here, putWords-page, putWords-low, putWords-high}
+use Rattle.laws.specs.Around.{only-trans}
 use Rattle.laws.specs.Count.{Good, good, sound, bit-le}
 use Rattle.laws.specs.Delete.{delete-good}
 use Rattle.laws.specs.Edit.{Outside, Change, user-at, obj-at, weighR-nobody}
 use Rattle.laws.specs.Edited.{edit-beside}
 use Rattle.laws.specs.Finish.{isO, isU, UO, owner-used}
-use Rattle.laws.specs.Leave.{Beside, still-beside, beside-trans}
-use Rattle.laws.specs.Marks.{Marked, marked, marked-good, alone}
+use Rattle.laws.specs.Leave.{Beside, still-beside, beside-trans, bitPage-same}
+use Rattle.laws.specs.Marks.{Changed, Marked, marked, marked-good, alone}
+use Rattle.laws.specs.Places.{Places, WordsOf, EntryOf, FieldOf, Either, OnlyAt, only-wider, only-putWords, only-put2}
 use Rattle.laws.specs.Shrunk.{all-zero}
 use Rattle.laws.specs.Tree.{Agree, hit-same}
+
+-- the words of the bits of the file's pages, its entry, its owner's used pages
+abbrev pub DeletePlaces : ℕ → Vol → ℕ → ℕ → Places
+DeletePlaces P v a e =
+    Either (λ q k. (p : ℕ) × (0 < weighR v (fileAt v e) (hit p)) × WordsOf (bitPage P v p) (bitWord p) 1 q k) (Either (EntryOf (objectPage v e) e) (FieldOf (userPage v a) a 16 2))
 
 -- the file at e of user a is gone: its entry is clear, its pages are free and no longer counted, and all beside is as it was
 pub record Deleted (P : ℕ) (v v′ : Vol) (a e : ℕ) : Type 0 where
@@ -29,6 +37,7 @@ pub record Deleted (P : ℕ) (v v′ : Vol) (a e : ℕ) : Type 0 where
   pub beside : Beside P v v′ a e
   pub clear : (k : ℕ) → k < 32 → object v′ e k ≡ 0
   pub spent : usedPages (user v′) a + weighR v (fileAt v e) some ≡ usedPages (user v) a
+  pub words : OnlyAt (DeletePlaces P v a e) v v′
 
 pub used-zero : (w : Words) → w 0 ≡ 0 → used w ≡ 0
 unfolding used
@@ -141,15 +150,30 @@ module _ (P : ℕ) (v : Vol) (S : Sound P v) (pos : 0 < P) (big : P ≤ 10737418
   marked₁ : Marked P (w left) (markAll P (w left) f₁ P) f₁ P
   marked₁ = marked P (w left) (alone P (w left) (λ p. 0 + held p) good₁) f₁ (λ p. omega (arith, bit-le P (w left) p)) (good₁ .most) P (omega arith)
 
+  beside₁ : Beside P v (w left) a e
+  beside₁ = edit-beside P v (λ p. 0) G pos a f ha hf (λ x. 0) (w left) (change left) (master left) (kept left)
+
+  -- a bit that changes is that of a page of the file
+  gone : (p : ℕ) → f₁ p ≢ bit P (w left) p → 0 < held p
+  gone p ne = elim (eq-zero-or-pos (held p)) [ inl z ↦ absurd (ne (omega (arith, z))) | inr h ↦ h ]
+
   pub deleted : Deleted P v (deleteFile P v a f) a e
   unfolding deleteFile freed userPage objectPage
   deleted = record {
     good = marked-good P (w left) (markAll P (w left) f₁ P) f₁ (λ p. 0 + held p) (λ p. 0) marked₁ good₁ (λ p h. omega (arith, good₁ .held p h));
-    beside = beside-trans P v (w left) (markAll P (w left) f₁ P) a e (edit-beside P v (λ p. 0) G pos a f ha hf (λ x. 0) (w left) (change left) (master left) (kept left))
-        (still-beside P (w left) (markAll P (w left) f₁ P) a e (omega arith) (marked₁ .still));
+    beside = beside-trans P v (w left) (markAll P (w left) f₁ P) a e beside₁ (still-beside P (w left) (markAll P (w left) f₁ P) a e (omega arith) (marked₁ .still));
     clear = λ k h. ap (λ (T : Table). T e k) (marked₁ .still .objects) ∙ clear left k h;
     spent = omega (arith, ap (λ (T : Table). usedPages T a) (marked₁ .still .users), now left, counted);
+    words = only-trans (DeletePlaces P v a e) v (w left) (markAll P (w left) f₁ P)
+        (only-trans (DeletePlaces P v a e) v v₁′ (w left) (only-wider _ _ v v₁′ (λ p k h. inr (inl h)) (only-putWords v O (32 * (e % 32)) 32 zeros)) (only-wider _ _ v₁′ (w left) (λ p k h. inr (inr h)) (only-put2 v₁′ U at left)))
+        (only-wider _ _ (w left) _ bits (marked₁ .words));
   }
+    where
+      v₁′ : Vol
+      v₁′ = putWords v O (32 * (e % 32)) 32 zeros
+
+      bits : (q k : ℕ) → Changed P (w left) f₁ P q k → DeletePlaces P v a e q k
+      bits q k (p, h, ne, (z, lo, hi)) = inl (p, gone p ne, (z ∙ bitPage-same P v (w left) (beside₁ .places) p, lo, hi))
 
   pub delete-sound : Sound P (deleteFile P v a f)
   delete-sound = sound P (deleteFile P v a f) (λ p. 0) (deleted .good) (λ p h. refl)

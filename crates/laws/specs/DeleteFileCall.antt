@@ -21,10 +21,12 @@ use Rattle.book.specs.Trees.{Root, weighR}
 use Rattle.book.specs.Words.{Vol, vol}
 use Rattle.laws.specs.After.{after-call}
 use Rattle.laws.specs.Call.{kept-call}
-use Rattle.laws.specs.Count.{good, sound, bit-le, file-unused}
-use Rattle.laws.specs.DeleteFile.{Deleted, deleted, used-zero}
+use Rattle.laws.specs.Count.{Good, good, sound, bit-le, file-unused, free}
+use Rattle.laws.specs.FreeCount.{beside-free}
+use Rattle.laws.specs.DeleteFile.{DeletePlaces, Deleted, deleted, used-zero}
 use Rattle.laws.specs.Done.{done}
 use Rattle.laws.specs.Leave.{Beside, beside-refl, beside-bits}
+use Rattle.laws.specs.Places.{OnlyAt}
 
 module _ (img : List ℕ) (u f : ℕ) where
   abbrev P : ℕ
@@ -53,6 +55,11 @@ module _ (img : List ℕ) (u f : ℕ) where
     unfolding deleteFileCall call Clear
     beside-delete-file = after-call img _ _ 0 _ _ r img′ o (λ w. Beside P v w u e) (beside-refl P v u e) (λ W A S c. delete-step W A S (c .0) .beside)
 
+    -- no other word changes: the bits of the file's pages, its entry, its owner's used pages
+    pub frame-delete-file : OnlyAt (DeletePlaces P v u e) v v′
+    unfolding deleteFileCall call Clear
+    frame-delete-file = after-call img _ _ 0 _ _ r img′ o (λ w. OnlyAt (DeletePlaces P v u e) v w) (λ p k h. refl) (λ W A S c. delete-step W A S (c .0) .words)
+
     -- done: the file is gone
     module _ (z : r .number ≡ 0) where
       pub delete-done : DoneAs (deleteFileCall img u f) img r img′
@@ -63,6 +70,10 @@ module _ (img : List ℕ) (u f : ℕ) where
       unfolding deleteFileCall call asking judged Clear
       deleted-call = let c = delete-done .clear in subst (λ (w : Vol). Deleted P v w u e) (sym (delete-done .image)) (delete-step (c .0) (c .1 .0) (c .1 .1 .0) (c .1 .1 .1 .0))
 
+      before : Good P v (λ p. 0)
+      unfolding deleteFileCall call asking judged Clear
+      before = good P v (delete-done .clear .1 .1 .0)
+
       -- it holds nothing
       pub delete-none : (g : ℕ → ℕ) → weighR v′ (fileAt v′ e) g ≡ 0
       unfolding weighR
@@ -72,19 +83,29 @@ module _ (img : List ℕ) (u f : ℕ) where
       pub delete-used : usedPages (user v′) u + weighR v (fileAt v e) some ≡ usedPages (user v) u
       delete-used = deleted-call .spent
 
-      pub delete-bits : Sound P v → (p : ℕ) → p < P → bit P v′ p + weighR v (fileAt v e) (hit p) ≡ bit P v p
-      delete-bits S p h = omega (arith, beside-bits P v v′ u e (good P v S) (deleted-call .good) beside-delete-file p h, delete-none (hit p))
+      pub delete-free : free P v′ ≡ free P v + weighR v (fileAt v e) some
+      unfolding deleteFileCall call asking judged Clear
+      delete-free =
+          let c = delete-done .clear in
+          omega (
+            arith,
+            delete-used,
+            beside-free P v v′ u f (omega (arith, c .0 .least)) (omega (arith, c .1 .0 .0)) (omega (arith, c .1 .0 .1)) (c .1 .1 .1 .0 .1) before (deleted-call .good) beside-delete-file,
+          )
+
+      pub delete-bits : (p : ℕ) → p < P → bit P v′ p + weighR v (fileAt v e) (hit p) ≡ bit P v p
+      delete-bits p h = omega (arith, beside-bits P v v′ u e before (deleted-call .good) beside-delete-file p h, delete-none (hit p))
 
       -- a page is free afterwards exactly if it was free before or the file held it
-      pub delete-frees : Sound P v → (p : ℕ) → p < P → (bit P v′ p ≡ 0) ↔ ((bit P v p ≡ 0) ⊎ (0 < weighR v (fileAt v e) (hit p)))
-      delete-frees S p h = (there, back)
+      pub delete-frees : (p : ℕ) → p < P → (bit P v′ p ≡ 0) ↔ ((bit P v p ≡ 0) ⊎ (0 < weighR v (fileAt v e) (hit p)))
+      delete-frees p h = (there, back)
         where
           there : bit P v′ p ≡ 0 → (bit P v p ≡ 0) ⊎ (0 < weighR v (fileAt v e) (hit p))
           there q = elim (eq-zero-or-pos (bit P v p)) [
             | inl i ↦ inl i
-            | inr i ↦ inr (omega (arith, delete-bits S p h))
+            | inr i ↦ inr (omega (arith, delete-bits p h))
           ]
 
           back : (bit P v p ≡ 0) ⊎ (0 < weighR v (fileAt v e) (hit p)) → bit P v′ p ≡ 0
-          back (inl i) = omega (arith, delete-bits S p h)
-          back (inr i) = omega (arith, delete-bits S p h, bit-le P v p)
+          back (inl i) = omega (arith, delete-bits p h)
+          back (inr i) = omega (arith, delete-bits p h, bit-le P v p)

@@ -4,12 +4,9 @@ use mathlib.Core.Logic.{inl, inr}
 use mathlib.Core.List.{List}
 use Prim.Native.Nat.{ℕ, _<_}
 use native.Mathlib.Omega.{arith}
-use Rattle.book.specs.Words.{Vol, vol}
-use Rattle.book.specs.Rules.{Sound}
-use Rattle.book.specs.Rows.{Rows, Clear, Above, lowest-applies, applies-above, clear-none}
+use Rattle.book.specs.Rows.{Clear, Above, lowest-applies, applies-above, clear-none}
 use Rattle.book.specs.Answers.{Numbers}
-use Rattle.book.specs.Image.{pages, Whole}
-use Rattle.book.specs.Outcome.{Call, asking, judged, Outcome, DoneAs}
+use Rattle.book.specs.Outcome.{Call, Outcome, DoneAs}
 
 -- no refusal has number 0
 pub done : {A : Type 0} (C : Call A) (img : List ℕ) (r : Numbers A) (img′ : List ℕ) → Above (C .table) 0 → Outcome C img r img′ → r .number ≡ 0 → DoneAs C img r img′
@@ -21,9 +18,3 @@ pub clear-done : {A : Type 0} (C : Call A) (img : List ℕ) (r : Numbers A) (img
 unfolding Outcome
 clear-done C img r img′ c (inl x) = absurd (clear-none (C .table) c (r .number) (lowest-applies (C .table) (r .number) (x .number)))
 clear-done C img r img′ c (inr x) = x
-
--- what a done call may assume
-pub asked : {A : Type 0} (img : List ℕ) (args : Type 0) (rest : Rows) (none : A) (gives : A → Type 0) (after : Vol) (r : Numbers A) (img′ : List ℕ)
-    → DoneAs (asking img args rest none gives after) img r img′ → Whole img × args × Sound (pages img) (vol img) × Clear rest
-unfolding asking judged Clear
-asked img args rest none gives after r img′ x = (x .clear .0, x .clear .1 .0, x .clear .1 .1 .0, x .clear .1 .1 .1)

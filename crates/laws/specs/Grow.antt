@@ -1,7 +1,7 @@
 -- Growing a file by one page leaves a sound volume sound, and has the pages it needs. Assumes nothing.
 use mathlib.Core.Path.{_≡_, refl, sym, ap, _∙_, subst}
 use Prim.Native.Nat.{ℕ, zero, suc, _+_, _-_, _*_, _/_, _%_, _^_, _≤_, _<_, min}
-use native.Mathlib.Nat.{pow-suc, mul-comm, mul-le-mul-right}
+use native.Mathlib.Nat.{not-suc-le-zero, pow-suc, mul-comm, mul-le-mul-right}
 use native.Mathlib.Decide.{ℕ-discrete}
 use native.Mathlib.Omega.{arith}
 use Rattle.sums.specs.Sum.{is, is-same, sum-le, sum-const}
@@ -12,16 +12,19 @@ use Rattle.book.specs.Grow.{first, onward, raise, block, phaseBy, indexOf, ente
 use Rattle.book.specs.Holders.{hit, some}
 use Rattle.book.specs.Pointers.{slot, flags, page, pointer, setSlot}
 use Rattle.book.specs.Rules.{Rule6, Sound}
-use Rattle.book.specs.Trees.{Root, weigh, weighR, pageAt, rootBy, Fill}
+use Rattle.book.specs.Trees.{Root, weigh, weighR, rootBy, Fill}
 use Rattle.book.specs.Words.{Vol, two, word}
-use Rattle.laws.specs.Cases.{Grew, caseA, caseB, caseC, caseD, caseE, root-is, shape-is}
+use Rattle.laws.specs.Around.{AroundNew, Needs, only-trans, only-take}
+use Rattle.laws.specs.Cases.{Grew, caseA, caseB, root-is, shape-is}
+use Rattle.laws.specs.CasesSub.{caseC, caseD, caseE}
 use Rattle.laws.specs.Claim.{claim-good, claim-user, claim-obj, claim-keeps, claim-zero, claim-free, free-pos}
 use Rattle.laws.specs.Count.{Good, good, sound, free, free-count, room}
 use Rattle.laws.specs.Kinds.{kind-empty, kind-low, kind-high}
-use Rattle.laws.specs.Longer.{Longer, longer-still}
+use Rattle.laws.specs.Longer.{longer-still}
 use Rattle.laws.specs.Part.{all-rest, file-le, rest}
 use Rattle.laws.specs.Marks.{claim-still}
-use Rattle.laws.specs.Leave.{Still, still-trans, still-beside, beside-trans}
+use Rattle.laws.specs.Leave.{SamePlaces, Still, Beside, places-sym, places-trans, still-trans, still-beside, beside-trans}
+use Rattle.laws.specs.Places.{OnlyAt}
 use Rattle.laws.specs.Tree.{hit-same, some-pos, slot-same}
 
 -- ---- a full tree has as many pages
@@ -36,7 +39,8 @@ full-count v (suc l) t h =
     full-count v l (slot v t k) (subst (λ (x : ℕ). Fill v l (slot v t k) x) (let q : min (512 ^ suc l - k * L) L ≡ L = omega (arith, s, mul-le-mul-right L i) in q) (h .2 k i)) in
     omega (arith, s, sum-le 512 (λ k. L) (λ k. weigh v l (slot v t k) some) each, sum-const 512 L)
 
-slot-bare : (v : Vol) (q : ℕ) → ((k : ℕ) → word v q k ≡ 0) → (j : ℕ) → slot v q j ≡ 0
+-- a block whose words are zero has only zero slots
+pub slot-bare : (v : Vol) (q : ℕ) → ((k : ℕ) → word v q k ≡ 0) → (j : ℕ) → slot v q j ≡ 0
 unfolding slot two
 slot-bare v q h j = omega (arith, h (2 * j), h (suc (2 * j)))
 
@@ -127,16 +131,26 @@ module _ (choose : Vol → ℕ) (P : ℕ) (ch : Chooser P choose) (v : Vol) (S :
     S1 = claim-still P v (λ p. 0) G0 d (dOk .0) (dOk .1)
 
     -- what is said of the volume with the pages taken holds of the one before
-    rebase : (w′ w : Vol) → Still P v w → Grew P w w′ a e (two (object w e) 26) d → Grew P v w′ a e n (choose v)
-    rebase w′ w T g = record {
+    rebase : (w′ w : Vol) (hand : ℕ → ℕ) → Still P v w → (SamePlaces v w′ → ((x : ℕ) → 0 < hand x → Needs w′ (fileAt w′ e) n x) → OnlyAt (AroundNew P w′ a e n) v w)
+        → Grew P w w′ a e (two (object w e) 26) d hand → Grew P v w′ a e n (choose v) (λ p. 0)
+    rebase w′ w hand T o g₀ = record {
       good = g .good;
-      longer = longer-still P v w w′ a e n (omega arith) T (subst (λ (k : ℕ). Longer w w′ a e k) q (g .longer));
-      beside = beside-trans P v w w′ a e (still-beside P v w a e (omega arith) T) (g .beside);
-      at = ap (pageAt w′ (fileAt w′ e)) (sym q) ∙ g .at;
+      longer = longer-still P v w w′ a e n (omega arith) T (g .longer);
+      beside = B;
+      at = g .at;
+      taken = λ x h. absurd (not-suc-le-zero h);
+      words = only-trans (AroundNew P w′ a e n) v w w′ (o (B .places) (g .taken)) (g .words);
     }
       where
-        q : two (object w e) 26 ≡ n
-        q = ap (λ (O : Table). two (O e) 26) (T .objects)
+        g : Grew P w w′ a e n d hand
+        g = subst (λ (k : ℕ). Grew P w w′ a e k d hand) (ap (λ (O : Table). two (O e) 26) (T .objects)) g₀
+
+        B : Beside P v w′ a e
+        B = beside-trans P v w w′ a e (still-beside P v w a e (omega arith) T) (g .beside)
+
+    -- the words of the pages taken
+    words₁ : (z : Vol) → SamePlaces v z → Needs z (fileAt z e) n d → OnlyAt (AroundNew P z a e n) v v₁
+    words₁ z L h = only-take P v v z a e n d L h (λ p k i. refl)
 
     -- the second
     module _ (more : 2 ≤ need n) where
@@ -167,6 +181,9 @@ module _ (choose : Vol → ℕ) (P : ℕ) (ch : Chooser P choose) (v : Vol) (S :
 
       S2 : Still P v v₂
       S2 = still-trans P v v₁ v₂ S1 (claim-still P v₁ (λ p. 0 + hit d p) G1 b (bOk .0) (bOk .1))
+
+      words₂ : (z : Vol) → SamePlaces v z → Needs z (fileAt z e) n d → Needs z (fileAt z e) n b → OnlyAt (AroundNew P z a e n) v v₂
+      words₂ z L h i = only-take P v v₁ z a e n b (places-trans v₁ v z (places-sym v v₁ (S1 .places)) L) i (words₁ z L h)
 
       u2 : user v₂ ≡ user v
       u2 = claim-user P v₁ (λ p. 0 + hit d p) G1 b (bOk .0) (bOk .1) ∙ u1
@@ -204,28 +221,32 @@ module _ (choose : Vol → ℕ) (P : ℕ) (ch : Chooser P choose) (v : Vol) (S :
         S3 : Still P v v₃
         S3 = still-trans P v v₂ v₃ S2 (claim-still P v₂ (λ p. 0 + hit d p + hit b p) G2 s (sOk .0) (sOk .1))
 
+        words₃ : (z : Vol) → SamePlaces v z → Needs z (fileAt z e) n d → Needs z (fileAt z e) n b → Needs z (fileAt z e) n s → OnlyAt (AroundNew P z a e n) v v₃
+        words₃ z L h i j = only-take P v v₂ z a e n s (places-trans v₂ v z (places-sym v v₂ (S2 .places)) L) j (words₂ z L h i)
+
         u3 : user v₃ ≡ user v
         u3 = claim-user P v₂ (λ p. 0 + hit d p + hit b p) G2 s (sOk .0) (sOk .1) ∙ u2
 
-        raised : n ≡ 512 → Grew P v (growTo choose P v a f raise) a e n (choose v)
+        raised : n ≡ 512 → Grew P v (growTo choose P v a f raise) a e n (choose v) (λ p. 0)
         unfolding growTo entered
-        raised n5 = rebase (growTo choose P v a f raise) v₃ S3 (caseC P v₃ (λ p. 0 + hit d p + hit b p + hit s p) G3 pos (omega arith) a f ha hf (subst (λ (O : Table). 0 < used (O e)) (sym o3) uf)
+        raised n5 = rebase (growTo choose P v a f raise) v₃ (λ p. 0 + hit d p + hit b p + hit s p) S3
+            (λ L t. words₃ _ L (t d (omega (arith, hit-same d pd))) (t b (omega (arith, hit-same b pb))) (t s (omega (arith, hit-same s ps)))) (caseC P v₃ (λ p. 0 + hit d p + hit b p + hit s p) G3 pos (omega arith) a f ha hf (subst (λ (O : Table). 0 < used (O e)) (sym o3) uf)
             d b s (dOk .0) (bOk .0) (sOk .0) pd pb ps (λ p. omega arith) kept₃ bare₃
             (ap (λ (O : Table). flags (O e) 30) o3 ∙ flag-low (omega arith) (omega arith)) (ap (λ (O : Table). two (O e) 26) o3 ∙ n5) (subst (λ (U : Table). usedPages U a + 3 ≤ given U a) (sym u3) (omega (arith, le, most))))
 
-      firsted : n ≡ 0 → Grew P v (growTo choose P v a f first) a e n (choose v)
+      firsted : n ≡ 0 → Grew P v (growTo choose P v a f first) a e n (choose v) (λ p. 0)
       unfolding growTo entered
-      firsted n0 = rebase (growTo choose P v a f first) v₂ S2 (caseA P v₂ (λ p. 0 + hit d p + hit b p) G2 pos (omega arith) a f ha hf (subst (λ (O : Table). 0 < used (O e)) (sym o2) uf)
+      firsted n0 = rebase (growTo choose P v a f first) v₂ (λ p. 0 + hit d p + hit b p) S2 (λ L t. words₂ _ L (t d (omega (arith, hit-same d pd))) (t b (omega (arith, hit-same b pb)))) (caseA P v₂ (λ p. 0 + hit d p + hit b p) G2 pos (omega arith) a f ha hf (subst (λ (O : Table). 0 < used (O e)) (sym o2) uf)
           d b (dOk .0) (bOk .0) pd pb (λ p. omega arith) bare₂ (ap (λ (O : Table). flags (O e) 30) o2 ∙ flag-first n0) (ap (λ (O : Table). two (O e) 26) o2 ∙ n0) (subst (λ (U : Table). usedPages U a + 2 ≤ given U a) (sym u2) (omega (arith, le, more))))
 
-      blocked : n % 512 ≡ 0 → 512 < n → Grew P v (growTo choose P v a f block) a e n (choose v)
+      blocked : n % 512 ≡ 0 → 512 < n → Grew P v (growTo choose P v a f block) a e n (choose v) (λ p. 0)
       unfolding growTo entered
-      blocked z hn = rebase (growTo choose P v a f block) v₂ S2 (caseE P v₂ (λ p. 0 + hit d p + hit b p) G2 pos (omega arith) a f ha hf (subst (λ (O : Table). 0 < used (O e)) (sym o2) uf)
+      blocked z hn = rebase (growTo choose P v a f block) v₂ (λ p. 0 + hit d p + hit b p) S2 (λ L t. words₂ _ L (t d (omega (arith, hit-same d pd))) (t b (omega (arith, hit-same b pb)))) (caseE P v₂ (λ p. 0 + hit d p + hit b p) G2 pos (omega arith) a f ha hf (subst (λ (O : Table). 0 < used (O e)) (sym o2) uf)
           d b (dOk .0) (bOk .0) pd pb (λ p. omega arith) bare₂ (ap (λ (O : Table). flags (O e) 30) o2 ∙ flag-high hn) (subst (λ (O : Table). two (O e) 26 < 262144) (sym o2) (small hn)) (ap (λ (O : Table). two (O e) 26 % 512) o2 ∙ z) (subst (λ (U : Table). usedPages U a + 2 ≤ given U a) (sym u2) (omega (arith, le, more))))
 
-    plained : 0 < n % 512 → Grew P v (growTo choose P v a f onward) a e n (choose v)
+    plained : 0 < n % 512 → Grew P v (growTo choose P v a f onward) a e n (choose v) (λ p. 0)
     unfolding growTo entered indexOf Shape
-    plained m = rebase (growTo choose P v a f onward) v₁ S1 (go (flags (object v₁ e) 30) refl)
+    plained m = rebase (growTo choose P v a f onward) v₁ (λ p. 0 + hit d p) S1 (λ L t. words₁ _ L (t d (omega (arith, hit-same d pd)))) (go (flags (object v₁ e) 30) refl)
       where
         uf₁ : 0 < used (object v₁ e)
         uf₁ = subst (λ (O : Table). 0 < used (O e)) (sym o1) uf
@@ -243,11 +264,11 @@ module _ (choose : Vol → ℕ) (P : ℕ) (ch : Chooser P choose) (v : Vol) (S :
         at x q = subst (λ (y : ℕ). Shape P v y (page (object v e) 30) n) (sym f₁ ∙ q) shape
 
         go : (x : ℕ) → flags (object v₁ e) 30 ≡ x → Grew P v₁ (entered a f v₁ (setSlot v₁ (indexOf v₁ x (page (object v₁ e) 30) (two (object v₁ e) 26)) (two (object v₁ e) 26 % 512) d)
-            (suc (two (object v₁ e) 26)) (pointer x (page (object v₁ e) 30)) (usedPages (user v₁) a + 1)) a e (two (object v₁ e) 26) d
+            (suc (two (object v₁ e) 26)) (pointer x (page (object v₁ e) 30)) (usedPages (user v₁) a + 1)) a e (two (object v₁ e) 26) d (λ p. 0 + hit d p)
         go zero q = absurd (let r : ⊥ = omega (arith, kind (sym f₁ ∙ q)) in r)
         go (suc zero) q =
             let lt : n < 512 = omega (arith, at 1 q .1) in
-            subst (λ (k : ℕ). Grew P v₁ (entered a f v₁ (setSlot v₁ (page (object v₁ e) 30) k d) (suc (two (object v₁ e) 26)) (pointer 1 (page (object v₁ e) 30)) (usedPages (user v₁) a + 1)) a e (two (object v₁ e) 26) d)
+            subst (λ (k : ℕ). Grew P v₁ (entered a f v₁ (setSlot v₁ (page (object v₁ e) 30) k d) (suc (two (object v₁ e) 26)) (pointer 1 (page (object v₁ e) 30)) (usedPages (user v₁) a + 1)) a e (two (object v₁ e) 26) d (λ p. 0 + hit d p))
             (let r : two (object v₁ e) 26 ≡ two (object v₁ e) 26 % 512 = omega (arith, n₁, lt) in r)
             (caseB P v₁ (λ p. 0 + hit d p) G1 pos (omega arith) a f ha hf uf₁ d (dOk .0) pd (λ p. omega arith) q (omega (arith, n₁, lt)) le₁)
         go (suc (suc zero)) q = caseD P v₁ (λ p. 0 + hit d p) G1 pos (omega arith) a f ha hf uf₁ d (dOk .0) pd (λ p. omega arith) q (omega (arith, n₁, small (at 2 q .0))) (omega (arith, n₁)) le₁
@@ -262,11 +283,11 @@ module _ (choose : Vol → ℕ) (P : ℕ) (ch : Chooser P choose) (v : Vol) (S :
     need-raise z = omega (arith, subst (λ (x : ℕ). is x 512 ≡ 1) (sym z) (is-same 512), let q : n % 512 ≡ 0 = omega arith in subst (λ (x : ℕ). is x 0 ≡ 1) (sym q) (is-same 0))
 
     -- the whole step: sound again, old pages where they were, the new one is the first page chosen
-    pub grown : Grew P v (grow choose P v a f) a e n (choose v)
+    pub grown : Grew P v (grow choose P v a f) a e n (choose v) (λ p. 0)
     unfolding grow phaseBy
     grown = go (n % 512) (n / 512) refl refl
       where
-        go : (m q : ℕ) → n % 512 ≡ m → n / 512 ≡ q → Grew P v (growTo choose P v a f (phaseBy m q)) a e n (choose v)
+        go : (m q : ℕ) → n % 512 ≡ m → n / 512 ≡ q → Grew P v (growTo choose P v a f (phaseBy m q)) a e n (choose v) (λ p. 0)
         go (suc m) q i j = plained (omega arith)
         go zero zero i j = firsted (need-block i) (omega arith)
         go zero (suc zero) i j = raised (need-block i) (need-raise (omega arith)) (omega arith)

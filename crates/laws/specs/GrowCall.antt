@@ -18,15 +18,18 @@ use Rattle.book.specs.Rules.{Rule4, Sound}
 use Rattle.book.specs.Trees.{pageAt}
 use Rattle.book.specs.Words.{Vol, vol}
 use Rattle.laws.specs.After.{after-call}
+use Rattle.laws.specs.Around.{AroundNew}
 use Rattle.laws.specs.Call.{kept-call}
 use Rattle.laws.specs.Cases.{Grew}
 use Rattle.laws.specs.Choose.{lowest-chooser}
-use Rattle.laws.specs.Count.{good, sound}
+use Rattle.laws.specs.Count.{Good, good, sound, free}
+use Rattle.laws.specs.FreeCount.{beside-free}
 use Rattle.laws.specs.Done.{done}
 use Rattle.laws.specs.Grow.{grown}
 use Rattle.laws.specs.Kinds.{grows-kind}
 use Rattle.laws.specs.Leave.{Beside, beside-refl, beside-bits}
 use Rattle.laws.specs.Levels.{last}
+use Rattle.laws.specs.Places.{OnlyAt}
 use Rattle.laws.specs.Tree.{hit-zero}
 
 module _ (img : List ℕ) (u f : ℕ) where
@@ -43,7 +46,7 @@ module _ (img : List ℕ) (u f : ℕ) where
   n = pageCount (object v e)
 
   -- the step that the call takes
-  grow-step : Whole img → IndexArg u × IndexArg f → Sound P v → HasFile v u f → Grows v e → need n ≤ spare v u → Grew P v (grow (lowestFree P) P v u f) u e n (lowestFree P v)
+  grow-step : Whole img → IndexArg u × IndexArg f → Sound P v → HasFile v u f → Grows v e → need n ≤ spare v u → Grew P v (grow (lowestFree P) P v u f) u e n (lowestFree P v) (λ p. 0)
   unfolding spare Rule4
   grow-step W A S h g l =
       let hu : u < 256 = omega (arith, A .0) in let hf : f < 256 = omega (arith, A .1) in
@@ -63,6 +66,11 @@ module _ (img : List ℕ) (u f : ℕ) where
     unfolding growCall call Clear
     beside-grow = after-call img _ _ 0 _ _ r img′ o (λ w. Beside P v w u e) (beside-refl P v u e) (λ W A S c. grow-step W A S (c .0) (c .1 .0) (c .1 .1 .0) .beside)
 
+    -- no other word changes: the new position's pages, their bits, its slot, the counts
+    pub frame-grow : OnlyAt (AroundNew P v′ u e n) v v′
+    unfolding growCall call Clear
+    frame-grow = after-call img _ _ 0 _ _ r img′ o (λ w. OnlyAt (AroundNew P w u e n) v w) (λ p k h. refl) (λ W A S c. grow-step W A S (c .0) (c .1 .0) (c .1 .1 .0) .words)
+
     -- the file's pages are where they were
     pub grow-old : (m : ℕ) → m < n → pageAt v′ (fileAt v′ e) m ≡ pageAt v (fileAt v e) m
     unfolding growCall call Clear
@@ -74,11 +82,15 @@ module _ (img : List ℕ) (u f : ℕ) where
       unfolding growCall call asking judged Above
       grow-done = done (growCall img u f) img r img′ (omega arith, (omega arith, (omega arith, (omega arith, (omega arith, (omega arith, tt)))))) o z
 
-      pub grew-call : Grew P v v′ u e n (r .value)
+      pub grew-call : Grew P v v′ u e n (r .value) (λ p. 0)
       unfolding growCall call asking judged Clear
       grew-call =
           let c = grow-done .clear in
-          subst₂ (λ (w : Vol) (d : ℕ). Grew P v w u e n d) (sym (grow-done .image)) (sym (grow-done .value)) (grow-step (c .0) (c .1 .0) (c .1 .1 .0) (c .1 .1 .1 .0) (c .1 .1 .1 .1 .0) (c .1 .1 .1 .1 .1 .0))
+          subst₂ (λ (w : Vol) (d : ℕ). Grew P v w u e n d (λ p. 0)) (sym (grow-done .image)) (sym (grow-done .value)) (grow-step (c .0) (c .1 .0) (c .1 .1 .0) (c .1 .1 .1 .0) (c .1 .1 .1 .1 .0) (c .1 .1 .1 .1 .1 .0))
+
+      before : Good P v (λ p. 0)
+      unfolding growCall call asking judged Clear
+      before = good P v (grow-done .clear .1 .1 .0)
 
       pub grow-value : r .value ≡ lowestFree P v
       unfolding growCall call asking
@@ -93,6 +105,17 @@ module _ (img : List ℕ) (u f : ℕ) where
       pub grow-used : usedPages (user v′) u ≡ usedPages (user v) u + need n
       grow-used = grew-call .longer .spent
 
+      -- as many pages less are free
+      pub grow-free : free P v′ + need n ≡ free P v
+      unfolding growCall call asking judged Clear
+      grow-free =
+          let c = grow-done .clear in
+          omega (
+            arith,
+            grow-used,
+            beside-free P v v′ u f (omega (arith, c .0 .least)) (omega (arith, c .1 .0 .0)) (omega (arith, c .1 .0 .1)) (c .1 .1 .1 .0 .1) before (grew-call .good) beside-grow,
+          )
+
       -- the pages of the new position are taken, and no others
-      pub grow-bits : Sound P v → (p : ℕ) → p < P → bit P v′ p ≡ bit P v p + last v′ (fileAt v′ e) n (hit p)
-      grow-bits S p h = omega (arith, beside-bits P v v′ u e (good P v S) (grew-call .good) beside-grow p h, grew-call .longer .weight (hit p) (hit-zero p))
+      pub grow-bits : (p : ℕ) → p < P → bit P v′ p ≡ bit P v p + last v′ (fileAt v′ e) n (hit p)
+      grow-bits p h = omega (arith, beside-bits P v v′ u e before (grew-call .good) beside-grow p h, grew-call .longer .weight (hit p) (hit-zero p))

@@ -40,13 +40,13 @@ pub record Beside (P : ℕ) (v v′ : Vol) (a e : ℕ) : Type 0 where
   pub holding : (x : ℕ) → x < 65536 → x ≢ e → (g : ℕ → ℕ) → weighR v′ (fileAt v′ x) g ≡ weighR v (fileAt v x) g
   pub held : (g : ℕ → ℕ) → all P v′ g + weighR v (fileAt v e) g ≡ all P v g + weighR v′ (fileAt v′ e) g
 
-places-refl : (v : Vol) → SamePlaces v v
+pub places-refl : (v : Vol) → SamePlaces v v
 places-refl v = record { master = λ k. refl; ofUser = λ u. refl; ofObject = λ x. refl }
 
-places-sym : (v w : Vol) → SamePlaces v w → SamePlaces w v
+pub places-sym : (v w : Vol) → SamePlaces v w → SamePlaces w v
 places-sym v w L = record { master = λ k. sym (L .master k); ofUser = λ u. sym (L .ofUser u); ofObject = λ x. sym (L .ofObject x) }
 
-places-trans : (v w z : Vol) → SamePlaces v w → SamePlaces w z → SamePlaces v z
+pub places-trans : (v w z : Vol) → SamePlaces v w → SamePlaces w z → SamePlaces v z
 places-trans v w z L M = record { master = λ k. M .master k ∙ L .master k; ofUser = λ u. M .ofUser u ∙ L .ofUser u; ofObject = λ x. M .ofObject x ∙ L .ofObject x }
 
 pub still-refl : (P : ℕ) (v : Vol) → Still P v v

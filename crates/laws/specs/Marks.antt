@@ -1,19 +1,21 @@
 -- Marking pages, one or all, and taking one: no entry and no tree changes. Assumes nothing.
-use mathlib.Core.Path.{_≡_, refl, sym, ap, _∙_, subst}
+use mathlib.Core.Path.{_≡_, refl, sym, ap, _∙_, subst, subst₂}
 use mathlib.Core.Logic.{_≢_}
-use Prim.Native.Nat.{ℕ, zero, suc, _+_, _≤_, _<_}
+use Prim.Native.Nat.{ℕ, zero, suc, _+_, _/_, _%_, _≤_, _<_}
 use native.Mathlib.Nat.{not-suc-le-zero}
 use native.Mathlib.Decide.{ℕ-discrete}
 use native.Mathlib.Omega.{arith}
-use Rattle.book.specs.Bits.{bitPage, bit, mark, markAll, claim}
+use Rattle.book.specs.Bits.{bitPage, bitWord, bit, digit, toDigit, mark, markAll, claim}
 use Rattle.book.specs.Holders.{hit}
 use Rattle.book.specs.Rules.{Rule1}
-use Rattle.book.specs.Words.{Vol}
-use Rattle.laws.specs.Claim.{claim-agree, claim-quiet, claim-none, claim-master, bitPage-rest}
+use Rattle.book.specs.Words.{Vol, word, put}
+use Rattle.book.specs.Written.{word-pos, put-here, put-page, put-word}
+use Rattle.laws.specs.Claim.{claim-agree, claim-quiet, claim-none, claim-master, bitPage-rest, bitPage-pos}
 use Rattle.laws.specs.Count.{Good, Most}
 use Rattle.laws.specs.Leave.{Still, still-refl, still-trans, still-calm, bitPage-same, rest-same}
 use Rattle.laws.specs.Part.{rest, most-calm}
-use Rattle.laws.specs.Release.{mark-page, mark-agree, mark-master, mark-roots, mark-bit, mark-other}
+use Rattle.laws.specs.Places.{Places, WordsOf, Apart, OnlyAt, only-put}
+use Rattle.laws.specs.Release.{mark-agree, mark-master, mark-roots, mark-bit, mark-other}
 use Rattle.laws.specs.Tree.{hit-zero}
 
 pub claim-still : (P : ℕ) (v : Vol) (hand : ℕ → ℕ) (G : Good P v hand) (d : ℕ) → d < P → bit P v d ≡ 0 → Still P v (claim P v d)
@@ -45,23 +47,49 @@ pub alone-still : (P : ℕ) (v w : Vol) → Still P v w → Alone P v → Alone 
 unfolding Alone
 alone-still P v w S A p h = rest-same P v w S (hit (bitPage P w p)) ∙ ap (λ (b : ℕ). rest v (hit b)) (bitPage-same P v w (S .places) p) ∙ A p h
 
+-- ---- a bit that is written as it was
+
+digit-idle : (j w : ℕ) → toDigit j w (digit j w) ≡ w
+unfolding digit toDigit
+digit-idle zero w = omega arith
+digit-idle (suc j) w = omega (arith, digit-idle j (w / 2))
+
+put-idle : (v : Vol) (q j x : ℕ) → x ≡ v q j → (p k : ℕ) → put v q j x p k ≡ v p k
+put-idle v q j x e p k = elim (ℕ-discrete p q) [
+  | no n ↦ put-page v q j x p k n
+  | yes i ↦ elim (ℕ-discrete k j) [
+    | no m ↦ put-word v q j x p k m
+    | yes l ↦ subst₂ (λ (y z : ℕ). put v q j x y z ≡ v y z) (sym i) (sym l) (put-here v q j x ∙ e)
+  ]
+]
+
+mark-idle : (P : ℕ) (v : Vol) → Rule1 P v → (d x : ℕ) → d < P → x ≡ bit P v d → (p k : ℕ) → mark P v d x p k ≡ v p k
+unfolding mark bit
+mark-idle P v r d x h e p k = put-idle v (bitPage P v d) (bitWord d) _ (ap (toDigit (d % 16) (word v (bitPage P v d) (bitWord d))) e
+    ∙ digit-idle (d % 16) (word v (bitPage P v d) (bitWord d)) ∙ word-pos v (bitPage P v d) (bitWord d) (bitPage-pos P v r d h)) p k
+
 -- ---- the bits of all pages below n
+
+-- the words of the bits that change
+abbrev pub Changed : ℕ → Vol → (ℕ → ℕ) → ℕ → Places
+Changed P v f n q k = (p : ℕ) × (p < n) × (f p ≢ bit P v p) × WordsOf (bitPage P v p) (bitWord p) 1 q k
 
 pub record Marked (P : ℕ) (v w : Vol) (f : ℕ → ℕ) (n : ℕ) : Type 0 where
   pub most : Most P w
   pub still : Still P v w
   pub low : (p : ℕ) → p < n → bit P w p ≡ f p
   pub high : (p : ℕ) → n ≤ p → p < P → bit P w p ≡ bit P v p
-  pub words : (q k : ℕ) → ((p : ℕ) → p < n → q ≢ bitPage P v p) → w q k ≡ v q k
+  pub words : OnlyAt (Changed P v f n) v w
 
 module _ (P : ℕ) (v : Vol) (A : Alone P v) (f : ℕ → ℕ) (small : (p : ℕ) → f p < 2) where
   marked-one : (w : Vol) (n : ℕ) → n < P → Marked P v w f n → Marked P v (mark P w n (f n)) f (suc n)
+  unfolding mark
   marked-one w n h M = record {
     most = mark-most P w r A′ n (f n) h (small n) (M .most);
     still = still-trans P v w _ (M .still) (mark-still P w r A′ n (f n) h (small n));
     low = low;
     high = λ p i j. mark-other P w r n (f n) h (small n) p j (omega arith) ∙ M .high p (omega arith) j;
-    words = λ q k i. mark-page P w r n (f n) h (small n) q k (λ e. i n (omega arith) (e ∙ bitPage-same P v w (M .still .places) n)) ∙ M .words q k (λ p j. i p (omega arith));
+    words = λ q k i. step q k i ∙ M .words q k (λ c. i (c .0, omega (arith, c .1), c .2, c .3));
   }
     where
       r : Rule1 P w
@@ -69,6 +97,12 @@ module _ (P : ℕ) (v : Vol) (A : Alone P v) (f : ℕ → ℕ) (small : (p : ℕ
 
       A′ : Alone P w
       A′ = alone-still P v w (M .still) A
+
+      step : (q k : ℕ) → Apart (Changed P v f (suc n)) q k → mark P w n (f n) q k ≡ w q k
+      step q k i = elim (ℕ-discrete (f n) (bit P v n)) [
+        | yes e ↦ mark-idle P w r n (f n) h (e ∙ sym (M .high n (omega arith) h)) q k
+        | no ne ↦ only-put w (bitPage P w n) (bitWord n) _ q k (λ c. i (n, omega arith, ne, (c .0 ∙ bitPage-same P v w (M .still .places) n, c .1, c .2)))
+      ]
 
       low : (p : ℕ) → p < suc n → bit P (mark P w n (f n)) p ≡ f p
       low p i = elim (ℕ-discrete p n) [

@@ -4,6 +4,7 @@ use mathlib.Core.List.{List}
 use Prim.Native.Nat.{ℕ, _-_, _/_, _≤_, _<_}
 use native.Mathlib.Decide.{ℕ-discrete, decLt}
 use native.Mathlib.Omega.{arith}
+use Rattle.sums.specs.Sum.{sum-ext}
 use Rattle.book.specs.Answers.{Numbers}
 use Rattle.book.specs.Bits.{bit}
 use Rattle.book.specs.Calls.{growCall, shrinkCall}
@@ -18,7 +19,7 @@ use Rattle.book.specs.Rules.{Rule7, Sound}
 use Rattle.book.specs.Trees.{Root, pageAt, rootAt}
 use Rattle.book.specs.Words.{Vol, vol}
 use Rattle.laws.specs.Cases.{Grew}
-use Rattle.laws.specs.Count.{Most, good}
+use Rattle.laws.specs.Count.{Most, good, free}
 use Rattle.laws.specs.Finish.{file-used}
 use Rattle.laws.specs.GrowCall.{grow-done, grow-count, grew-call}
 use Rattle.laws.specs.Leave.{Beside, beside-trans, beside-bits, places-unreserved}
@@ -39,15 +40,18 @@ pub record Returned (P : ℕ) (v w : Vol) (a e : ℕ) : Type 0 where
   pub spent : usedPages (user w) a ≡ usedPages (user v) a
   pub unreserved : unreserved w ≡ unreserved v
   pub bits : (p : ℕ) → p < P → bit P w p ≡ bit P v p
+  pub free : free P w ≡ free P v
   pub address : (x : ℕ) → x < 65536 → (m : ℕ) → pageAt w (fileAt w x) m ≡ pageAt v (fileAt v x) m
   pub beside : Beside P v w a e
 
-pub returned : (P : ℕ) (v v′ v″ : Vol) (a e n d : ℕ) → e < 65536 → 0 < used (object v e) → Sound P v → Grew P v v′ a e n d → Lost P v′ v″ a e n (λ p. 0) → Returned P v v″ a e
+pub returned : (P : ℕ) (v v′ v″ : Vol) (a e n d : ℕ) → e < 65536 → 0 < used (object v e) → Sound P v → Grew P v v′ a e n d (λ p. 0) → Lost P v′ v″ a e n (λ p. 0) → Returned P v v″ a e
+unfolding free
 returned P v v′ v″ a e n d he ue S g l = record {
   count = l .longer .count ∙ sym (g .longer .count);
   spent = omega (arith, g .longer .spent, l .longer .spent);
   unreserved = places-unreserved v v″ (B .places);
-  bits = λ p h. omega (arith, beside-bits P v v″ a e (good P v S) (l .good) B p h, g .longer .weight (hit p) (hit-zero p), l .longer .weight (hit p) (hit-zero p));
+  bits = bits;
+  free = sum-ext P (λ p. 1 - bit P v″ p) (λ p. 1 - bit P v p) (λ p h. ap (λ (x : ℕ). 1 - x) (bits p h));
   address = λ x h m. elim (ℕ-discrete x e) [
     | no ne ↦ B .address x h ne m
     | yes q ↦ subst (λ (y : ℕ). pageAt v″ (fileAt v″ y) m ≡ pageAt v (fileAt v y) m) (sym q) (own m)
@@ -57,6 +61,9 @@ returned P v v′ v″ a e n d he ue S g l = record {
   where
     B : Beside P v v″ a e
     B = beside-trans P v v′ v″ a e (g .beside) (l .beside)
+
+    bits : (p : ℕ) → p < P → bit P v″ p ≡ bit P v p
+    bits p h = omega (arith, beside-bits P v v″ a e (good P v S) (l .good) B p h, g .longer .weight (hit p) (hit-zero p), l .longer .weight (hit p) (hit-zero p))
 
     same : used (object v″ e) ≡ used (object v e)
     same = used-ext (object v″ e) (object v e) (sym (l .longer .entry 0 (omega arith)) ∙ g .longer .entry 0 (omega arith))

@@ -1,20 +1,15 @@
 -- A run of free pages is taken. Assumes nothing.
 use mathlib.Core.Path.{_≡_, refl, _∙_}
 use mathlib.Core.Logic.{_≢_, _⊎_, inl, inr}
-use Prim.Native.Nat.{ℕ, zero, suc, _+_, _-_, _≤_, _<_}
+use Prim.Native.Nat.{ℕ, zero, suc, _+_, _≤_, _<_}
 use native.Mathlib.Omega.{arith}
 use Rattle.sums.specs.Sum.{sum, sum-suc, sum-zero}
-use Rattle.book.specs.Bits.{bit, claim}
+use Rattle.book.specs.Bits.{bit, claimRun}
 use Rattle.book.specs.Entries.{user, object}
 use Rattle.book.specs.Holders.{hit}
 use Rattle.book.specs.Words.{Vol}
 use Rattle.laws.specs.Claim.{claim-good, claim-bit-other, claim-user, claim-obj}
 use Rattle.laws.specs.Count.{Good}
-
--- pages s to s + n - 1
-unfoldable pub claimRun : ℕ → Vol → ℕ → ℕ → Vol
-claimRun P v s zero = v
-claimRun P v s (suc n) = claim P (claimRun P v s n) (s + n)
 
 pub record Taken (P : ℕ) (v : Vol) (hand : ℕ → ℕ) (s n : ℕ) : Type 0 where
   pub good : Good P (claimRun P v s n) (λ p. hand p + sum n (λ i. hit (s + i) p))

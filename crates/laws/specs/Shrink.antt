@@ -20,7 +20,8 @@ use Rattle.laws.specs.Leave.{Still, still-sym, still-beside, beside-tran
 use Rattle.laws.specs.Longer.{longer-still}
 use Rattle.laws.specs.Marks.{alone, mark-still}
 use Rattle.laws.specs.Release.{release-good}
-use Rattle.laws.specs.ShrinkCases.{Lost, Real, shrinkA, shrinkB, shrinkC, shrinkD, shrinkE}
+use Rattle.laws.specs.ShrinkCases.{Lost, Real, shrinkA, shrinkB}
+use Rattle.laws.specs.ShrinkCasesSub.{shrinkC, shrinkD, shrinkE}
 
 -- one of the pages in hand is given back
 pub lost-release : (P : ℕ) (v w : Vol) (a e n : ℕ) (hand hand′ : ℕ → ℕ) (d : ℕ) → e < 65536 → Lost P v w a e n hand → Real P v e n d

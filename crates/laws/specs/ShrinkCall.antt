@@ -18,12 +18,15 @@ use Rattle.book.specs.Shrink.{shrink}
 use Rattle.book.specs.Trees.{pageAt}
 use Rattle.book.specs.Words.{Vol, vol}
 use Rattle.laws.specs.After.{after-call}
+use Rattle.laws.specs.Around.{Around}
 use Rattle.laws.specs.Call.{kept-call}
-use Rattle.laws.specs.Count.{good, sound}
+use Rattle.laws.specs.Count.{Good, good, sound, free}
+use Rattle.laws.specs.FreeCount.{beside-free}
 use Rattle.laws.specs.Done.{done}
 use Rattle.laws.specs.Kinds.{grows-kind}
 use Rattle.laws.specs.Leave.{Beside, beside-refl, beside-bits}
 use Rattle.laws.specs.Levels.{last}
+use Rattle.laws.specs.Places.{OnlyAt}
 use Rattle.laws.specs.Shrink.{shrunk}
 use Rattle.laws.specs.ShrinkCases.{Lost}
 use Rattle.laws.specs.Tree.{hit-zero}
@@ -58,6 +61,11 @@ module _ (img : List ℕ) (u f : ℕ) where
     unfolding shrinkCall call Clear
     beside-shrink = after-call img _ _ 0 _ _ r img′ o (λ w. Beside P v w u e) (beside-refl P v u e) (λ W A S c. shrink-step W A S (c .0) (c .1 .0) .beside)
 
+    -- no other word changes: the bits of the last position's pages, its slot, the counts
+    pub frame-shrink : OnlyAt (Around P v u e (n - 1)) v v′
+    unfolding shrinkCall call Clear
+    frame-shrink = after-call img _ _ 0 _ _ r img′ o (λ w. OnlyAt (Around P v u e (n - 1)) v w) (λ p k h. refl) (λ W A S c. shrink-step W A S (c .0) (c .1 .0) .words)
+
     -- the file's pages but the last are where they were
     pub shrink-old : (m : ℕ) → m < n - 1 → pageAt v′ (fileAt v′ e) m ≡ pageAt v (fileAt v e) m
     unfolding shrinkCall call Clear
@@ -75,12 +83,26 @@ module _ (img : List ℕ) (u f : ℕ) where
           let c = shrink-done .clear in
           subst (λ (w : Vol). Lost P v w u e (n - 1) (λ p. 0)) (sym (shrink-done .image)) (shrink-step (c .0) (c .1 .0) (c .1 .1 .0) (c .1 .1 .1 .0) (c .1 .1 .1 .1 .0))
 
+      before : Good P v (λ p. 0)
+      unfolding shrinkCall call asking judged Clear
+      before = good P v (shrink-done .clear .1 .1 .0)
+
       pub shrink-count : pageCount (object v′ e) + 1 ≡ n
       shrink-count = omega (arith, shrunk-call .longer .count, shrunk-call .longer .count′)
 
       pub shrink-used : usedPages (user v′) u + need (n - 1) ≡ usedPages (user v) u
       shrink-used = sym (shrunk-call .longer .spent)
 
+      pub shrink-free : free P v′ ≡ free P v + need (n - 1)
+      unfolding shrinkCall call asking judged Clear
+      shrink-free =
+          let c = shrink-done .clear in
+          omega (
+            arith,
+            shrink-used,
+            beside-free P v v′ u f (omega (arith, c .0 .least)) (omega (arith, c .1 .0 .0)) (omega (arith, c .1 .0 .1)) (c .1 .1 .1 .0 .1) before (shrunk-call .good) beside-shrink,
+          )
+
       -- the pages of the last position are free, and no others
-      pub shrink-bits : Sound P v → (p : ℕ) → p < P → bit P v′ p + last v (fileAt v e) (n - 1) (hit p) ≡ bit P v p
-      shrink-bits S p h = omega (arith, beside-bits P v v′ u e (good P v S) (shrunk-call .good) beside-shrink p h, shrunk-call .longer .weight (hit p) (hit-zero p))
+      pub shrink-bits : (p : ℕ) → p < P → bit P v′ p + last v (fileAt v e) (n - 1) (hit p) ≡ bit P v p
+      shrink-bits p h = omega (arith, beside-bits P v v′ u e before (shrunk-call .good) beside-shrink p h, shrunk-call .longer .weight (hit p) (hit-zero p))

@@ -121,7 +121,7 @@ pub record Settled (P : ℕ) (v v′ : Vol) (C : ℕ → ℕ) (new : (ℕ → �
   pub pay : two (v′ 0) 1022 + new some ≡ two (v 0) 1022
 
 module _ (P : ℕ) (v : Vol) (hand : ℕ → ℕ) (G : Good P v hand) (v′ : Vol) (C : ℕ → ℕ) (new : (ℕ → ℕ) → ℕ) (T : Settled P v v′ C new) where
-  file-same : (e : ℕ) → fileAt v′ e ≡ fileAt v e
+  pub file-same : (e : ℕ) → fileAt v′ e ≡ fileAt v e
   unfolding fileAt
   file-same e = ap (λ (O : Table). pick (used (O e)) (rootAt (O e) 30 (two (O e) 26)) (run 0 0)) (T .objs)
 
@@ -140,7 +140,7 @@ module _ (P : ℕ) (v : Vol) (hand : ℕ → ℕ) (G : Good P v hand) (v′ : Vo
   unfolding all
   all-new g g0 = omega (arith, T .weight g g0, sum-ext 256 (λ u. mine v′ u g) (λ u. mine v u g) (mine-same g))
 
-  bits-kept : (p : ℕ) → bit P v′ p ≡ bit P v p
+  pub bits-kept : (p : ℕ) → bit P v′ p ≡ bit P v p
   unfolding bit bitPage Agree
   bits-kept p =
       ap (λ (r : Root). digit (p % 16) (word v′ (pageAt v′ r (p / 16384)) (p % 16384 / 16))) (T .bits)
@@ -313,7 +313,7 @@ module _ (P : ℕ) (v : Vol) (hand : ℕ → ℕ) (G : Good P v hand) (pos : 0 <
   page18 = page-ext (v′ 0) (v 0) 1018 (mast 1018 (omega arith) (omega arith) (omega arith) (omega arith)) (mast 1019 (omega arith) (omega arith) (omega arith) (omega arith))
 
   -- each position has the page that it had
-  leaves : (n : ℕ) → pageAt v′ (tree 2 s) n ≡ pageAt v (tree 1 t) n
+  pub leaves : (n : ℕ) → pageAt v′ (tree 2 s) n ≡ pageAt v (tree 1 t) n
   unfolding pageAt leaf
   leaves n = elim (decLt n 512) [
     | yes h ↦ upto-in n 262144 _ (omega arith) ∙ low h ∙ sym (upto-in n 512 _ h)

@@ -5,6 +5,7 @@ use Prim.Native.Nat.{ℕ, _+_, _-_, _*_, _/_, _%_, _<_}
 use native.Mathlib.Decide.{ℕ-discrete}
 use native.Mathlib.Omega.{arith}
 use Rattle.sums.specs.Sum.{is}
+use Rattle.book.specs.Bits.{bit}
 use Rattle.book.specs.Entries.{entry, userFile, objectFile, user, object, used, usedPages, grant}
 use Rattle.book.specs.Files.{fileAt}
 use Rattle.book.specs.Holders.{hit, some, mine}
@@ -13,7 +14,7 @@ use Rattle.book.specs.Rules.{Rule6, Rule7}
 use Rattle.book.specs.Trees.{Root, weighR, blocksR, pageAt}
 use Rattle.book.specs.Words.{Vol, two, word}
 use Rattle.laws.specs.Count.{Good}
-use Rattle.laws.specs.Edit.{Outside, Change, user-page, obj-at, objs-words, user-at, users-words, edit-mine, edit-good, weighR-nobody}
+use Rattle.laws.specs.Edit.{Outside, Change, user-page, obj-at, objs-words, user-at, users-words, bits-same, edit-mine, edit-good, weighR-nobody}
 use Rattle.laws.specs.Frame.{pageAt-le, weighR-frame, blocksR-le, file-kept}
 use Rattle.laws.specs.Part.{file-le}
 use Rattle.laws.specs.Rules.{UserNew, FileNew, used-ext, shape-same}
@@ -58,6 +59,10 @@ module _ (P : ℕ) (v : Vol) (hand : ℕ → ℕ) (G : Good P v hand) (pos : 0 <
     | yes q ↦ subst (λ (y : ℕ). object v′ y k ≡ object v y k) (sym q) (obj-at P v hand G pos a 0 ha zero256 (λ x. 0) v′ change k ∙ sameO (32 * (e % 32) + k))
     | no n ↦ objs-words P v hand G pos a 0 ha zero256 (λ x. 0) v′ change x n k h
   ]
+
+  -- the bits stay
+  pub bits-else : (p : ℕ) → p < P → bit P v′ p ≡ bit P v p
+  bits-else p h = bits-same P v hand G pos a 0 ha zero256 (λ x. 0) v′ change p h
 
   quiet : blocksR v (fileAt v e) (hit U) ≡ 0
   quiet = omega (arith, blocksR-le v (fileAt v e) (hit U), file-le v (hit U) a 0 ha zero256, user-page P v hand G pos (a / 32) .3)

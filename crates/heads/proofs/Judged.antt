@@ -1,0 +1,133 @@
+-- Rules 4 and 6, by the parts that the code judges. Assumes nothing.
+use mathlib.Core.Path.{_≡_, refl, sym, ap, subst, fun-ext}
+use mathlib.Core.Bool.{Bool}
+use Prim.Native.Nat.{ℕ, _+_, _-_, _*_, _/_, _%_, _≤_, _<_}
+use native.Mathlib.Decide.{decLt, ℕ-discrete}
+use native.Mathlib.Omega.{arith}
+use Rattle.book.specs.Words.{Vol}
+use Rattle.book.specs.Pointers.{flags, page}
+use Rattle.book.specs.Trees.{Root, rootBy, pageAt}
+use Rattle.book.specs.Entries.{Table, entry, user, object, userFile, objectFile, used, fileEntry}
+use Rattle.book.specs.Names.{Same, SameFile, LegalName, LegalType}
+use Rattle.book.specs.Rules.{Rule4, Rule6, FileOk}
+use Rattle.book.specs.Decides.{Decides}
+use Rattle.page.proofs.Deciding.{decides-iff}
+use Rattle.laws.specs.Names.{Same-sym}
+use Rattle.laws.specs.Moved.{SameFile-ten, ten-SameFile}
+use Rattle.tree.proofs.Reach.{root-read}
+use Rattle.heads.specs.Span.{Span, span-join, span-part}
+use Rattle.heads.specs.Fine.{UserFine, FileFine, Owners}
+use Rattle.heads.proofs.Pages.{entry-in, absent-unused}
+use Rattle.heads.specs.Twins.{Apart, FilesApart}
+
+-- ---- the entries of the user file and of the object file, by flags and page of their pointers
+
+pub users-root : (v : Vol) (x t : ℕ) → x ≡ flags (v 0) 1018 → t ≡ page (v 0) 1018 → entry v (rootBy x t 0) ≡ user v
+unfolding user userFile
+users-root v x t a b = fun-ext (λ u. ap (λ (r : Root). entry v r u) (sym (root-read (v 0) 1018 0 x t 0 a b refl)))
+
+objects-root : (v : Vol) (x t : ℕ) → x ≡ flags (v 0) 1016 → t ≡ page (v 0) 1016 → entry v (rootBy x t 0) ≡ object v
+unfolding object objectFile
+objects-root v x t a b = fun-ext (λ e. ap (λ (r : Root). entry v r e) (sym (root-read (v 0) 1016 0 x t 0 a b refl)))
+
+-- ---- no twins: two entries of one name are one
+
+abbrev One : Table → ℕ → ℕ → ℕ → Type 0
+One E n base z = (a b : ℕ) → base ≤ a → a < z → base ≤ b → b < z → 0 < used (E a) → 0 < used (E b) → Same n (E a) 1 (E b) 1 → a ≡ b
+
+module _ (E : Table) (n base z : ℕ) where
+  apart-one : Apart E n base z → One E n base z
+  unfolding Span
+  apart-one s a b h i j k u w same = elim (ℕ-discrete a b) [
+    | yes e ↦ e
+    | no d ↦ elim (decLt a b) [
+      | yes l ↦ absurd (s b j k a h l (record { first = u; second = w; words = same }))
+      | no l ↦ absurd (s a h i b j (omega arith) (record { first = w; second = u; words = Same-sym n (E a) (E b) 1 1 same }))
+    ]
+  ]
+
+  one-apart : One E n base z → Apart E n base z
+  unfolding Span
+  one-apart f y h i x j k t = let e : x ≡ y = f x y j (omega arith) h i (t .first) (t .second) (t .words) in omega arith
+
+-- ---- rule 4
+
+module _ (U : Table) where
+  pub rule4-users : Rule4 U → Span (UserFine U) 0 256
+  unfolding Rule4 Span
+  rule4-users r u h l = r .0 u l
+
+  pub rule4-by : (b : Bool) → Span (UserFine U) 0 256 → Decides b (Apart U 8 0 256) → Decides b (Rule4 U)
+  unfolding Rule4 Span
+  rule4-by b s =
+      decides-iff b _ _ (λ a. ((λ u l. s u (omega arith) l), λ x y i j. apart-one U 8 0 256 a x y (omega arith) i (omega arith) j))
+      (λ r. one-apart U 8 0 256 (λ x y h i j k. r .1 x y i k))
+
+-- ---- rule 6
+
+module _ (U O : Table) where
+  rule6-files : Rule6 U O → Span (FileFine U O) 0 65536
+  unfolding Rule6 Span
+  rule6-files r e h l =
+      let q : 256 * (e / 256) + e % 256 ≡ e = omega arith in
+      subst (λ (y : ℕ). 0 < used (O y) → FileOk U O (e / 256) y) q (r .0 (e / 256) (e % 256) (omega arith) (omega arith))
+
+  files-fine : Span (FileFine U O) 0 65536 → (u f : ℕ) → u < 256 → f < 256 → 0 < used (O (fileEntry u f)) → FileOk U O u (fileEntry u f)
+  unfolding Span
+  files-fine s u f h i =
+      let q : fileEntry u f / 256 ≡ u = omega arith in
+      subst (λ (w : ℕ). 0 < used (O (fileEntry u f)) → FileOk U O w (fileEntry u f)) q (s (fileEntry u f) (omega arith) (omega arith))
+
+  files-apart : Span (FilesApart O) 0 256 → (u a b : ℕ) → u < 256 → a < 256 → b < 256 → 0 < used (O (fileEntry u a)) → 0 < used (O (fileEntry u b)) → SameFile (O (fileEntry u a)) (O (fileEntry u b)) → a ≡ b
+  unfolding Span
+  files-apart s u a b h i j p q same =
+      let e : fileEntry u a ≡ fileEntry u b = apart-one O 10 (256 * u) (256 * u + 256) (s u (omega arith) h) (fileEntry u a) (fileEntry u b) (omega arith) (omega arith) (omega arith) (omega arith) p q (ten-SameFile _ _ same) in
+      omega arith
+
+  rule6-one : Rule6 U O → (u : ℕ) → u < 256 → One O 10 (256 * u) (256 * u + 256)
+  unfolding Rule6
+  rule6-one r u h x y i j k l p q same =
+      let a : fileEntry u (x - 256 * u) ≡ x = omega arith in
+      let b : fileEntry u (y - 256 * u) ≡ y = omega arith in
+      let s : Same 10 (O (fileEntry u (x - 256 * u))) 1 (O (fileEntry u (y - 256 * u))) 1 =
+      subst (λ (z : ℕ). Same 10 (O z) 1 (O (fileEntry u (y - 256 * u))) 1) (sym a) (subst (λ (z : ℕ). Same 10 (O x) 1 (O z) 1) (sym b) same) in
+      let e : x - 256 * u ≡ y - 256 * u = r .1 u (x - 256 * u) (y - 256 * u) h (omega arith) (omega arith) (subst (λ (z : ℕ). 0 < used (O z)) (sym a) p) (subst (λ (z : ℕ). 0 < used (O z)) (sym b) q) (SameFile-ten _ _ s) in
+      omega arith
+
+  rule6-apart : Rule6 U O → Span (FilesApart O) 0 256
+  unfolding Span
+  rule6-apart r u z h = one-apart O 10 (256 * u) (256 * u + 256) (rule6-one r u h)
+
+  rule6-by : (b : Bool) → Span (FileFine U O) 0 65536 → Decides b (Span (FilesApart O) 0 256) → Decides b (Rule6 U O)
+  unfolding Rule6
+  rule6-by b s = decides-iff b _ _ (λ a. (files-fine s, files-apart a)) rule6-apart
+
+-- one used object, whose type is judged last
+pub file-by : (U O : Table) (e : ℕ) (b : Bool) → 0 < used (O e) → 0 < used (U (e / 256)) → O e 16 ≡ e / 256 → O e 17 ≡ e → LegalName (O e) 1 → Decides b (LegalType (O e) 9) → Decides b (FileFine U O e)
+file-by U O e b h o w n l = decides-iff b _ _ (λ t u. record { owner = o; whose = w; number = n; name = l; type = t }) (λ f. f h .type)
+
+-- ---- by the pages that the object file has: objects of users from m on are unused
+
+module _ (v : Vol) (x t m : ℕ) (o : Owners x m) where
+  abbrev O : Table
+  O = entry v (rootBy x t 0)
+
+  past-unused : (e : ℕ) → 256 * m ≤ e → e < 65536 → used (O e) ≡ 0
+  past-unused e h l = absent-unused v (pageAt v (rootBy x t 0) (e / 32)) e _ (entry-in v (rootBy x t 0) _ e refl) (o .past v t (e / 32) (omega arith) (omega arith))
+
+  files-all : (U : Table) → Span (FileFine U O) 0 (256 * m) → Span (FileFine U O) 0 65536
+  unfolding Span
+  files-all U s = span-join _ 0 (256 * m) 65536 s (λ e h l u. absurd (let r : ⊥ = omega (arith, past-unused e h l) in r))
+
+  apart-all : (b : Bool) → Decides b (Span (FilesApart O) 0 m) → Decides b (Span (FilesApart O) 0 256)
+  unfolding Span
+  apart-all b = decides-iff b _ _ (λ s. span-join _ 0 m 256 s (λ u h l y i j z k c w. absurd (let r : ⊥ = omega (arith, w .second, past-unused y (omega arith) (omega arith)) in r)))
+      (span-part _ 0 0 m 256 (omega arith) (o .most))
+
+  -- as the code judges, where x and t are the flags and the page of the object pointer
+  module _ (a : x ≡ flags (v 0) 1016) (c : t ≡ page (v 0) 1016) where
+    pub rule6-wrong : (Span (FileFine (user v) O) 0 (256 * m) → ⊥) → Rule6 (user v) (object v) → ⊥
+    rule6-wrong f r = f (span-part _ 0 0 (256 * m) 65536 (omega arith) (omega (arith, o .most)) (rule6-files (user v) O (subst (λ (E : Table). Rule6 (user v) E) (sym (objects-root v x t a c)) r)))
+
+    pub rule6-right : (b : Bool) → Span (FileFine (user v) O) 0 (256 * m) → Decides b (Span (FilesApart O) 0 m) → Decides b (Rule6 (user v) (object v))
+    rule6-right b s d = subst (λ (E : Table). Decides b (Rule6 (user v) E)) (objects-root v x t a c) (rule6-by (user v) O b (files-all (user v) s) (apart-all b d))

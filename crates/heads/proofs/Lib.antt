@@ -1,0 +1,10 @@
+-- Laws that proofs of this crate and of its users cite.
+pub mod Told
+pub mod Slots
+pub mod Heads
+pub mod Pages
+pub mod Named
+pub mod Alike
+pub mod Judged
+pub mod Blocks
+pub mod Hashed

@@ -1,0 +1,65 @@
+use native.Mathlib.Omega.{arith}
+use Rattle.book.specs.Words.{vol}
+use Rattle.book.specs.Decides.{holds, fails}
+use Rattle.heads.proofs.Heads.{users-reach, objects-reached}
+use Rattle.heads.proofs.Judged.{rule6-wrong, rule6-right}
+use borrow.Author.Needs.{needs}
+use Rattle.heads.proofs.objects.rule6.Statement.{statement}
+use Rattle.heads.proofs.objects.rule6.Tie as tie
+
+flags-at-requires : tie.Need-flags-at-requires
+flags-at-requires c κs = search needs
+
+page-at-requires : tie.Need-page-at-requires
+page-at-requires c κs = search needs
+
+cast-top : tie.Need-cast-top
+cast-top c = search needs
+
+owners-requires : tie.Need-owners-requires
+owners-requires c κs = search needs
+
+files-ok-requires : tie.Need-files-ok-requires
+files-ok-requires c κs =
+    let s = c .before .before .before .before in (
+      users-reach _ (omega arith) (s .pre .1) (s .pre .2),
+      objects-reached _ (omega arith) (s .pre .1) (s .pre .3) (c .before .before .flags-at .result) (c .before .page-at .result) (c .before .before .flags-at .ensures .0) (c .before .page-at .ensures .0),
+      c .owners .ensures .most,
+    )
+
+returns : tie.Need-returns
+returns c =
+    let f = c .before .before .before .before .flags-at in let p = c .before .before .before .page-at in
+    rule6-wrong (vol (c .before .before .before .before .before .before .args .img .now)) (f .result) (p .result) (c .before .before .owners .result) (c .before .before .owners .ensures) (f .ensures .0) (p .ensures .0)
+    (fails (c .before .files-ok .result) _ (c .before .files-ok .ensures) (c .if1 .taken))
+
+room-requires : tie.Need-room-requires
+room-requires c κs = search needs
+
+all-apart-requires : tie.Need-all-apart-requires
+all-apart-requires c κs =
+    let s = c .before .before .before .before .before .before .before .before in (
+      objects-reached _ (omega arith) (s .pre .1) (s .pre .3) (c .before .before .before .before .before .before .flags-at .result) (c .before .before .before .before .before .page-at .result) (c .before .before .before .before .before .before .flags-at .ensures .0) (c .before .before .before .before .before .page-at .ensures .0),
+      c .before .before .before .before .owners .ensures .most,
+      c .before .room .ensures,
+    )
+
+returns-2 : tie.Need-returns-2
+returns-2 c =
+    let f = c .before .before .before .before .before .before .before .flags-at in let p = c .before .before .before .before .before .before .page-at in
+    rule6-right (vol (c .before .before .before .before .before .before .before .before .before .args .img .now)) (f .result) (p .result) (c .before .before .before .before .before .owners .result) (c .before .before .before .before .before .owners .ensures) (f .ensures .0) (p .ensures .0) (c .all-apart .result)
+    (holds (c .before .before .before .before .files-ok .result) _ (c .before .before .before .before .files-ok .ensures) (c .before .before .before .if1 .left)) (c .all-apart .ensures)
+
+pub rule6-spec : {M : Type 1} → statement M
+rule6-spec =
+    tie.close
+    (tie.spec
+    flags-at-requires
+    page-at-requires
+    cast-top
+    owners-requires
+    files-ok-requires
+    returns
+    room-requires
+    all-apart-requires
+    returns-2)

@@ -1,0 +1,58 @@
+use Prim.Native.Nat.{_/_}
+use native.Mathlib.Omega.{arith}
+use Rattle.book.specs.Words.{vol}
+use Rattle.book.specs.Trees.{rootBy}
+use Rattle.book.specs.Decides.{holds, fails}
+use Rattle.tree.proofs.Reach.{reach-page}
+use Rattle.heads.proofs.Alike.{used-on}
+use Rattle.heads.proofs.Hashed.{entry-unused, entry-stamped, entry-first}
+use Rattle.heads.proofs.twins.entry_apart.Statement.{statement}
+use Rattle.heads.proofs.twins.entry_apart.Tie as tie
+
+entry-used-requires : tie.Need-entry-used-requires
+entry-used-requires c κs = let s = c .before in omega (arith, s .pre .0 .at, reach-page _ _ (s .pre .0 .reach) (s .args .y / 32))
+
+returns : tie.Need-returns
+returns c =
+    let s = c .before .before .before in let a = s .args in
+    entry-unused (vol (a .img .now)) (rootBy (a .flags) (a .top) 0) (a .n) (a .base) (a .q) (a .y) (a .table .now) (s .pre .0 .at) (s .pre .4) (fails (c .before .entry-used .result) _ (c .before .entry-used .ensures) (c .if1 .taken))
+
+slot-of-requires : tie.Need-slot-of-requires
+slot-of-requires c κs = let s = c .before .before .before in (s .pre .0 .there, omega (arith, s .pre .0 .at, reach-page _ _ (s .pre .0 .reach) (s .args .y / 32)), s .pre .1)
+
+stamp-of-requires : tie.Need-stamp-of-requires
+stamp-of-requires c κs = omega arith
+
+stamp-requires : tie.Need-stamp-requires
+stamp-requires c κs = let s = c .before .before .before .before .before .before in (s .pre .4 .size, c .before .before .slot-of .ensures .1)
+
+returns-2 : tie.Need-returns-2
+returns-2 c =
+    let s = c .before .before .before .before .before .before .before .before in let a = s .args in let h = c .before .before .before .before .slot-of in let k = c .before .before .stamp-of in let v = vol (a .img .now) in let r = rootBy (a .flags) (a .top) 0 in (
+      entry-first v r (a .n) (a .base) (a .q) (a .y) (a .table .now) (s .pre .0 .at) (s .pre .4) (h .result) (k .result) (h .ensures .0) (k .ensures) (fails (c .before .stamp .result) _ (c .before .stamp .ensures .0) (c .if2 .taken)),
+      entry-stamped v r (a .n) (a .base) (a .q) (a .y) (a .table .now) (s .pre .0 .at) (s .pre .4) (h .result) (k .result) (h .ensures .0) (k .ensures) (h .ensures .1) _ (c .before .stamp .ensures .1),
+    )
+
+fresh-requires : tie.Need-fresh-requires
+fresh-requires c κs =
+    let s = c .before .before .before .before .before .before .before .before in let a = s .args in
+    let u = holds (c .before .before .before .before .before .before .entry-used .result) _ (c .before .before .before .before .before .before .entry-used .ensures) (c .before .before .before .before .before .if1 .left) in
+    (s .pre .0, omega (arith, u, used-on (vol (a .img .now)) (rootBy (a .flags) (a .top) 0) (a .q) (a .y) (s .pre .0 .at)), s .pre .1, s .pre .2)
+
+returns-3 : tie.Need-returns-3
+returns-3 c =
+    let s = c .before .before .before .before .before .before .before .before .before in let a = s .args in let h = c .before .before .before .before .before .slot-of in let k = c .before .before .before .stamp-of in let v = vol (a .img .now) in let r = rootBy (a .flags) (a .top) 0 in
+    (c .fresh .ensures, entry-stamped v r (a .n) (a .base) (a .q) (a .y) (a .table .now) (s .pre .0 .at) (s .pre .4) (h .result) (k .result) (h .ensures .0) (k .ensures) (h .ensures .1) _ (c .before .before .stamp .ensures .1))
+
+pub entry-apart-spec : {M : Type 1} → statement M
+entry-apart-spec =
+    tie.close
+    (tie.spec
+    entry-used-requires
+    returns
+    slot-of-requires
+    stamp-of-requires
+    stamp-requires
+    returns-2
+    fresh-requires
+    returns-3)

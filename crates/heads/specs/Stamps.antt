@@ -1,0 +1,30 @@
+-- A table of stamps that tells which words were met before: equal words fall into one slot. Assumes nothing.
+use mathlib.Core.Path.{_≡_}
+use mathlib.Core.List.{List}
+use Prim.Native.Nat.{ℕ, zero, suc, _+_, _*_, _/_, _%_, _<_}
+use lib.ListN.{length, getD}
+use Rattle.book.specs.Words.{Words}
+use Rattle.book.specs.Entries.{Table, used}
+use Rattle.heads.specs.Span.{Span}
+
+-- one word more
+abbrev pub mix : ℕ → ℕ → ℕ
+mix h x = (h * 31415 + x) % 65521
+
+-- a number of the n words from k on
+unfoldable pub hash : Words → ℕ → ℕ → ℕ
+hash w k zero = 0
+hash w k (suc n) = mix (hash w k n) (w (k + n))
+
+-- the slot of an entry's n words from word 1 on
+abbrev pub place : ℕ → Words → ℕ
+place n w = hash w 1 n % 4096
+
+-- the stamp of the 256 entries from `base` on; a new table has only zeros
+abbrev pub stampOf : ℕ → ℕ
+stampOf base = base / 256 + 1
+
+-- each used entry from `base` on below y has its slot stamped
+pub record Stamped (E : Table) (n base y : ℕ) (T : List ℕ) : Type 0 where
+  pub size : length T ≡ 4096
+  pub met : Span (λ x. 0 < used (E x) → getD T (place n (E x)) 0 ≡ stampOf base) base y

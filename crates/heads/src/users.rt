@@ -1,0 +1,89 @@
+// Rule 4: the used users.
+use crate::stamps::room;
+use crate::stored::entry_legal;
+use crate::twins::apart;
+use page::read::flags_at;
+use page::read::page_at;
+use tree::entry::entry_two;
+use tree::entry::entry_used;
+use tree::entry::entry_word;
+use tree::root::user_page;
+ghost use mathlib.Core.Path.{_≡_};
+ghost use Prim.Native.Nat.{_+_, _%_, _<_};
+ghost use Rattle.book.specs.Words.{vol};
+ghost use Rattle.book.specs.Entries.{userFile, user, used};
+ghost use Rattle.book.specs.Image.{pages, Whole};
+ghost use Rattle.book.specs.Rules.{Rule2, Rule3, Rule4};
+ghost use Rattle.book.specs.Decides.{Decides};
+ghost use Rattle.tree.specs.Reach.{Reach, entryIn};
+ghost use Rattle.heads.specs.Span.{Span};
+ghost use Rattle.heads.specs.Fine.{UserFine};
+
+// Whether user u on page q is unused, or has its own index, a legal name, and uses no more than it was given.
+fn user_ok(img: &[u16], q: usize, u: usize) -> bool
+    requires { ⌜ (0 < q) × (q < pages (now img)) ⌝ }
+    ensures { λ r. ⌜ Decides r (UserFine (entryIn (vol (now (img .entry))) q) u) ⌝ }
+{
+    if !entry_used(img, q, u) {
+        return true;
+    }
+    if entry_word(img, q, u, 18) as usize != u {
+        return false;
+    }
+    if !entry_legal(img, q, u, 1, 1, 16) {
+        return false;
+    }
+    if entry_two(img, q, u, 14) < entry_two(img, q, u, 16) {
+        return false;
+    }
+    true
+}
+
+// Whether the 32 users from `first` on, a page of them, are unused or right. An absent page has no used users.
+fn page_ok(img: &[u16], first: usize) -> bool
+    requires { ⌜ Reach (now img) (userFile (vol (now img))) × (first % 32 ≡ 0) × (first < 256) ⌝ }
+    ensures { λ r. ⌜ Decides r (Span (UserFine (user (vol (now (img .entry))))) first (first + 32)) ⌝ }
+{
+    let q = user_page(img, first);
+    if q == 0 {
+        return true;
+    }
+    let end = first + 32;
+    let mut u = first;
+    while u < end {
+        if !user_ok(img, q, u) {
+            return false;
+        }
+        u += 1;
+    }
+    true
+}
+
+// Whether all users are unused or right.
+fn users_ok(img: &[u16]) -> bool
+    requires { ⌜ Reach (now img) (userFile (vol (now img))) ⌝ }
+    ensures { λ r. ⌜ Decides r (Span (UserFine (user (vol (now (img .entry))))) 0 256) ⌝ }
+{
+    let mut first: usize = 0;
+    while first < 256 {
+        if !page_ok(img, first) {
+            return false;
+        }
+        first += 32;
+    }
+    true
+}
+
+// Rule 4: used users: own index right, name legal, no two names equal, used no more than given.
+pub fn rule4(img: &[u16]) -> bool
+    requires { ⌜ Whole (now img) × Rule2 (pages (now img)) (vol (now img)) × Rule3 (pages (now img)) (vol (now img)) ⌝ }
+    ensures { λ r. ⌜ Decides r (Rule4 (user (vol (now (img .entry))))) ⌝ }
+{
+    if !users_ok(img) {
+        return false;
+    }
+    let flags = flags_at(img, 0, 1018);
+    let top = page_at(img, 0, 1018) as usize;
+    let mut table = room();
+    apart(img, &mut table, flags, top, 8, 0)
+}

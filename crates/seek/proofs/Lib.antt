@@ -1,0 +1,3 @@
+-- Laws that proofs of this crate and of its users cite.
+pub mod Ready
+pub mod Search

@@ -1,0 +1,91 @@
+use mathlib.Core.List.{[]}
+use native.Mathlib.Omega.{arith}
+use Rattle.book.specs.Decides.{holds, fails}
+use Rattle.walk.proofs.Judged.{held-on, held-met, met-rule8, held-rule8, held-visits}
+use Rattle.sound.proofs.Laws.{early-within, late-8, late-9, late-10, nine-bits, bits-nine, bits-here, bit-below}
+use borrow.Author.Needs.{needs}
+use Rattle.sound.proofs.judge_held.Statement.{statement}
+use Rattle.sound.proofs.judge_held.Tie as tie
+use Rattle.sound.proofs.judge_held.Reads as reads
+use Rattle.sound.proofs.judge_held.Lts as lts
+use Rattle.page.proofs.read.page_at.Reads as page-at-reads
+use Rattle.shape.proofs.rule10.rule10.Reads as rule10-reads
+use Rattle.walk.proofs.marks.no_marks.Reads as no-marks-reads
+use Rattle.walk.proofs.same.same_bits.Reads as same-bits-reads
+use Rattle.walk.proofs.volume.mark_all.Reads as mark-all-reads
+
+-- src/lib.rt:18:21
+no-marks-requires : tie.Need-no-marks-requires
+no-marks-requires c κs = search needs
+
+-- src/lib.rt:19:9
+mark-all-requires : tie.Need-mark-all-requires
+mark-all-requires c κs = (c .before .no-marks .ensures, record { whole = c .before .before .before .pre .0; within = early-within _ _ (c .before .before .before .pre .2) }, c .before .before .before .pre .1)
+
+-- src/lib.rt:20:20
+enum-known-w : tie.Need-enum-known-w
+enum-known-w c = search needs
+
+-- src/lib.rt:21:9
+enum-told : tie.Need-enum-told
+enum-told c = search needs
+
+-- src/lib.rt:21:9
+returns : tie.Need-returns
+returns c = late-8 _ _ (met-rule8 _ _ [] (held-met _ _ _ (c .before .before .mark-all .result) (c .before .before .mark-all .ensures) (c .enum-told .given .1)))
+
+-- src/lib.rt:23:13
+page-at-requires : tie.Need-page-at-requires
+page-at-requires c κs = search needs
+
+-- src/lib.rt:23:13
+cast-b : tie.Need-cast-b
+cast-b c = search needs
+
+-- src/lib.rt:24:9
+same-bits-requires : tie.Need-same-bits-requires
+same-bits-requires c κs =
+    let s = c .before .before .before .before .before .before .before .before .before in let e = c .before .page-at .ensures .0 in
+    let l = bit-below _ _ (omega arith) (s .pre .2 .r1) in
+    (omega (arith, e, l), bits-here _ _ (s .args .total) _ (omega arith) (s .pre .1) (s .pre .2 .r1) e, (held-on _ _ _ (c .before .before .before .before .before .mark-all .result) (c .before .before .before .before .before .mark-all .ensures) _ (c .before .before .before .w .given .1)) .size)
+
+-- src/lib.rt:25:9
+returns-2 : tie.Need-returns-2
+returns-2 c =
+    let k = held-on _ _ _ (c .before .before .before .before .before .before .before .mark-all .result) (c .before .before .before .before .before .before .before .mark-all .ensures) _ (c .before .before .before .before .before .w .given .1) in
+    late-9 _ _ (held-rule8 _ _ _ _ k) (λ r. fails (c .before .same-bits .result) _ (c .before .same-bits .ensures) (c .if1 .taken) (nine-bits _ _ _ _ k (c .before .before .before .before .before .before .before .before .before .before .before .args .total) (c .before .before .before .before .before .before .before .before .before .before .before .pre .1) r))
+
+-- src/lib.rt:27:9
+rule10-requires : tie.Need-rule10-requires
+rule10-requires c κs = let s = c .before .before .before .before .before .before .before .before .before .before .before in let E = s .pre .2 in (s .pre .0, s .pre .1, E .r2, E .r3, E .r5, E .r7, (held-on _ _ _ (c .before .before .before .before .before .before .before .mark-all .result) (c .before .before .before .before .before .before .before .mark-all .ensures) _ (c .before .before .before .before .before .w .given .1)) .count)
+
+-- src/lib.rt:28:9
+returns-3 : tie.Need-returns-3
+returns-3 c =
+    let s = c .before .before .before .before .before .before .before .before .before .before .before .before .before in let k = held-on _ _ _ (c .before .before .before .before .before .before .before .before .before .mark-all .result) (c .before .before .before .before .before .before .before .before .before .mark-all .ensures) _ (c .before .before .before .before .before .before .before .w .given .1) in
+    late-10 _ _ (held-rule8 _ _ _ _ k) (bits-nine _ _ _ _ k (s .args .total) (s .pre .1) (holds (c .before .before .before .same-bits .result) _ (c .before .before .before .same-bits .ensures) (c .before .before .if1 .left))) (fails (c .before .rule10 .result) _ (c .before .rule10 .ensures) (c .if2 .taken))
+
+-- src/lib.rt:14:1
+returns-4 : tie.Need-returns-4
+returns-4 c =
+    let s = c .before .before .before .before .before .before .before .before .before .before .before .before .before in let k = held-on _ _ _ (c .before .before .before .before .before .before .before .before .before .mark-all .result) (c .before .before .before .before .before .before .before .before .before .mark-all .ensures) _ (c .before .before .before .before .before .before .before .w .given .1) in (
+      record { r8 = held-rule8 _ _ _ _ k; r9 = (bits-nine _ _ _ _ k (s .args .total) (s .pre .1) (holds (c .before .before .before .same-bits .result) _ (c .before .before .before .same-bits .ensures) (c .before .before .if1 .left))); r10 = holds (c .before .rule10 .result) _ (c .before .rule10 .ensures) (c .if2 .left) },
+      held-visits _ _ _ _ k (omega arith) (early-within _ _ (s .pre .2)),
+    )
+
+pub judge-held-spec : {M : Type 1} → statement M
+judge-held-spec =
+    tie.close
+    (tie.spec
+    no-marks-requires
+    mark-all-requires
+    enum-known-w
+    enum-told
+    returns
+    page-at-requires
+    cast-b
+    same-bits-requires
+    returns-2
+    rule10-requires
+    returns-3
+    returns-4)

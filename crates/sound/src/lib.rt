@@ -1,0 +1,99 @@
+// The check: the ten rules judged in order, each where all lower ones hold; and the gate that every call but format goes through.
+use book::Gate;
+use book::Refusal;
+use book::Verdict;
+use walk::Walk;
+ghost use mathlib.Core.Path.{_≡_};
+ghost use Rattle.book.specs.Words.{vol};
+ghost use Rattle.book.specs.Decides.{Decides};
+ghost use Rattle.book.specs.Image.{pages, Whole};
+ghost use Rattle.book.specs.Gate.{Judged, Gated};
+ghost use Rattle.sound.specs.Late.{Early, JudgedLate};
+
+// Rules 8 to 10 of an image that keeps the first seven: the walk marks each held page and counts it.
+fn judge_held(img: &[u16], total: usize) -> Verdict
+    requires { ⌜ Whole (now img) × (total ≡ pages (now img)) × Early (pages (now img)) (vol (now img)) ⌝ }
+    ensures { λ r. ⌜ JudgedLate (pages (now (img .entry))) (vol (now (img .entry))) r ⌝ }
+{
+    let mut marks = walk::marks::no_marks();
+    let w = walk::volume::mark_all(img, &mut marks, total);
+    let Walk::On { visited } = w else {
+        return Verdict::Broken { rule: 8 };
+    };
+    let b = page::read::page_at(img, 0, 1020) as usize;
+    if !walk::same::same_bits(img, b, &marks, total) {
+        return Verdict::Broken { rule: 9 };
+    }
+    if !shape::rule10::rule10(img, total, visited) {
+        return Verdict::Broken { rule: 10 };
+    }
+    Verdict::Sound { visits: visited }
+}
+
+// Judges an image of whole pages: sound with the pages visited, or the lowest broken rule.
+pub fn judge(img: &[u16]) -> Verdict
+    requires { ⌜ Whole (now img) ⌝ }
+    ensures { λ r. ⌜ Judged (pages (now (img .entry))) (vol (now (img .entry))) r ⌝ }
+{
+    let total = img.len() / page::WORDS;
+    if !heads::master::rule1(img, total) {
+        return Verdict::Broken { rule: 1 };
+    }
+    if !heads::master::rule2(img, total) {
+        return Verdict::Broken { rule: 2 };
+    }
+    if !heads::master::rule3(img, total) {
+        return Verdict::Broken { rule: 3 };
+    }
+    if !heads::users::rule4(img) {
+        return Verdict::Broken { rule: 4 };
+    }
+    if !heads::objects::rule5(img, total) {
+        return Verdict::Broken { rule: 5 };
+    }
+    if !heads::objects::rule6(img) {
+        return Verdict::Broken { rule: 6 };
+    }
+    if !shape::rule7::rule7(img, total) {
+        return Verdict::Broken { rule: 7 };
+    }
+    judge_held(img, total)
+}
+
+// Whether an image is of whole pages, 8 to 16,384 of them.
+pub fn whole(img: &[u16]) -> bool
+    ensures { λ r. ⌜ Decides r (Whole (now (img .entry))) ⌝ }
+{
+    let words = img.len();
+    if words % page::WORDS != 0 {
+        return false;
+    }
+    if words / page::WORDS < 8 {
+        return false;
+    }
+    if 16384 < words / page::WORDS {
+        return false;
+    }
+    true
+}
+
+// Numbers 1 to 3, in order; `ok` tells whether the call's arguments are right.
+pub fn gate(img: &[u16], ok: bool) -> Gate
+    ensures { λ r. ⌜ Gated (now (img .entry)) ok r ⌝ }
+{
+    if !whole(img) {
+        return Gate::Shut { why: Refusal::Size };
+    }
+    if !ok {
+        return Gate::Shut {
+            why: Refusal::Argument,
+        };
+    }
+    let verdict = judge(img);
+    match verdict {
+        Verdict::Sound { visits } => Gate::Open { visits },
+        Verdict::Broken { rule } => Gate::Shut {
+            why: Refusal::Unsound { rule },
+        },
+    }
+}

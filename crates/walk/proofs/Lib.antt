@@ -1,0 +1,9 @@
+-- Laws that proofs of this crate and of its users cite.
+pub mod Lows
+pub mod Marked
+pub mod Walks
+pub mod Pointers
+pub mod Runs
+pub mod Entries
+pub mod Holding
+pub mod Judged

@@ -1,0 +1,128 @@
+-- Walking over a pointer and over a block: one law for each way through the code. Assumes nothing.
+use mathlib.Core.Path.{_≡_, refl, sym, ap, ap₂, _∙_, subst}
+use mathlib.Core.Logic.{_≢_}
+use mathlib.Core.List.{List}
+use Prim.Native.Nat.{ℕ, zero, suc, _+_, _-_, _*_, _≤_, _<_}
+use native.Mathlib.Nat.{not-suc-le-zero, le-refl}
+use native.Mathlib.Numerals.{add-one}
+use native.Mathlib.Omega.{arith}
+use lib.ListN.{getD, take, drop}
+use Rattle.sums.specs.Sum.{sum, sum-ext, is}
+use Rattle.book.specs.Words.{Vol, vol, two}
+use Rattle.book.specs.Written.{word-pos}
+use Rattle.book.specs.Pointers.{slot}
+use Rattle.book.specs.Trees.{weigh, Below}
+use Rattle.book.specs.Holders.{hit, some}
+use Rattle.book.specs.Image.{pages}
+use Rattle.laws.specs.Tree.{weigh-none, weigh-count, hit-zero, hit-same, some-zero, some-pos}
+use Rattle.walk.specs.declared.Walk.{Walk}
+use Rattle.walk.specs.declared.Walk.the-variants.{On, Met}
+use Rattle.walk.specs.Marks.{marked, Newly}
+use Rattle.walk.specs.Walked.{Weigher, Walking, WalkedOn, Walked, slotOf}
+use Rattle.walk.proofs.Marked.{marks-more, marks-room}
+use Rattle.walk.proofs.Walks.{Counts, rowOf, row-counts, walking-on, walked-none, walked-same, walked-then}
+
+pub below-top : (v : Vol) (P l t : ℕ) → Below v P l t → t < P
+unfolding Below
+below-top v P zero t b = b
+below-top v P (suc l) t b = b .0
+
+pub tree-counts : (v : Vol) (P l t : ℕ) → Below v P l t → Counts P (weigh v l t)
+unfolding Counts
+tree-counts v P l t b = weigh-count v P l t b
+
+-- the page itself is weighed
+weigh-top : (v : Vol) (l t : ℕ) (g : ℕ → ℕ) → g t ≤ weigh v l t g
+unfolding weigh
+weigh-top v zero t g = le-refl (g t)
+weigh-top v (suc l) t g = omega arith
+
+hit-is : (p q : ℕ) → 0 < p → hit q p ≡ is p q
+unfolding hit
+hit-is zero q h = absurd (not-suc-le-zero h)
+hit-is (suc p) q h = refl
+
+-- ---- a page's part, handed over as a block
+
+-- pointer n as code reads it
+pub slot-read : (b : List ℕ) (n k x : ℕ) → k ≡ 2 * n → x ≡ getD b k 0 * 65536 + getD b (k + 1) 0 → x ≡ slotOf b n
+unfolding slotOf two
+slot-read b n k x ek e = e ∙ ap (λ (j : ℕ). getD b k 0 * 65536 + getD b j 0) (add-one k) ∙ ap (λ (j : ℕ). getD b j 0 * 65536 + getD b (suc j) 0) ek
+
+module _ (img : List ℕ) (t : ℕ) (b : List ℕ) (is-part : b ≡ take (1024 * t + 1024 - 1024 * t) (drop (1024 * t) img)) (h : 0 < t) where
+  part : b ≡ take 1024 (drop (1024 * t) img)
+  part = let e : 1024 * t + 1024 - 1024 * t ≡ 1024 = omega arith in is-part ∙ ap (λ (n : ℕ). take n (drop (1024 * t) img)) e
+
+  pub slot-part : (n : ℕ) → slot (vol img) t n ≡ slotOf b n
+  unfolding slot slotOf two vol
+  slot-part n =
+      ap₂ (λ (x y : ℕ). x * 65536 + y) (word-pos (vol img) t (2 * n) h) (word-pos (vol img) t (suc (2 * n)) h)
+      ∙ ap (λ (c : List ℕ). getD c (2 * n) 0 * 65536 + getD c (suc (2 * n)) 0) (sym part)
+
+  pub block-below : (P l : ℕ) → l ≢ 0 → Below (vol img) P l t → (n : ℕ) → n < 512 → Below (vol img) P (l - 1) (slotOf b n)
+  unfolding Below
+  block-below P zero d w n i = absurd (d refl)
+  block-below P (suc l) d w n i =
+      let e : suc l - 1 ≡ l = omega arith in
+      subst (λ (x : ℕ). Below (vol img) P x (slotOf b n)) (sym e) (subst (λ (x : ℕ). Below (vol img) P l x) (slot-part n) (w .1 n i))
+
+  -- the tree is its page and what the block's pointers name
+  pub block-weigh : (l : ℕ) → l ≢ 0 → (g : ℕ → ℕ) → g t + sum 512 (λ k. weigh (vol img) (l - 1) (slotOf b k) g) ≡ weigh (vol img) l t g
+  unfolding weigh
+  block-weigh zero d g = absurd (d refl)
+  block-weigh (suc l) d g =
+      let e : suc l - 1 ≡ l = omega arith in
+      ap (λ (s : ℕ). g t + s) (sum-ext 512 (λ k. weigh (vol img) (suc l - 1) (slotOf b k) g) (λ k. weigh (vol img) l (slot (vol img) t k) g)
+      (λ k i. ap₂ (λ (x y : ℕ). weigh (vol img) x y g) e (sym (slot-part k))))
+
+-- ---- a pointer
+
+module _ (img : List ℕ) (P : ℕ) (m : List ℕ) (v l t : ℕ) where
+  pub pointer-none : t ≡ 0 → Walked P m v (weigh (vol img) l t) m (On v)
+  pointer-none z =
+      let w : (g : ℕ → ℕ) → g 0 ≡ 0 → weigh (vol img) l t g ≡ 0 = λ g g0. ap (λ (x : ℕ). weigh (vol img) l x g) z ∙ weigh-none (vol img) g g0 l in
+      walked-none P m v (weigh (vol img) l t) (λ p. w (hit p) (hit-zero p)) (w some some-zero)
+
+  module _ (h : 0 < t) where
+    pub pointer-met : t < P → marked m t ≡ 1 → (m′ : List ℕ) → Walked P m v (weigh (vol img) l t) m′ Met
+    pointer-met i e m′ = (t, i, omega (arith, e, weigh-top (vol img) l t (hit t), hit-same t h))
+
+    module _ (m′ : List ℕ) (d : Newly m t m′) where
+      -- its page alone
+      first : WalkedOn P m v (λ g. g t) m′ (v + 1)
+      first = record { more = λ p i. d .more p ∙ ap (λ (x : ℕ). marked m p + x) (sym (hit-is t p h)); count = omega (arith, some-pos t h); kept = d .kept }
+
+      pub pointer-page : l ≡ 0 → Walked P m v (weigh (vol img) l t) m′ (On (v + 1))
+      unfolding weigh
+      pointer-page z = walked-same P m v (λ g. g t) (weigh (vol img) l t) (λ g. sym (ap (λ (x : ℕ). weigh (vol img) x t g) z)) m′ (On (v + 1)) first
+
+      pub pointer-block : l ≢ 0 → (b : List ℕ) → b ≡ take (1024 * t + 1024 - 1024 * t) (drop (1024 * t) img) → (m″ : List ℕ) (r : Walk)
+          → Walked P m′ (v + 1) (λ g. sum 512 (λ k. weigh (vol img) (l - 1) (slotOf b k) g)) m″ r → Walked P m v (weigh (vol img) l t) m″ r
+      pointer-block z b e m″ r k =
+          walked-same P m v (λ g. g t + sum 512 (λ k. weigh (vol img) (l - 1) (slotOf b k) g)) (weigh (vol img) l t) (block-weigh img t b e h l z) m″ r
+          (walked-then P m v (λ g. g t) m′ (v + 1) first (λ g. sum 512 (λ k. weigh (vol img) (l - 1) (slotOf b k) g)) m″ r k)
+
+-- after one page is marked
+module _ (img m : List ℕ) (v t : ℕ) (m′ : List ℕ) (d : Newly m t m′) (i : t < pages img) (w : Walking img m v) where
+  pub mark-fits : v + 1 ≤ 16384
+  mark-fits = omega (arith, marks-room (pages img) m t m′ d i, w .counted, w .few)
+
+  pub mark-walking : Walking img m′ (v + 1)
+  mark-walking = record { size = d .kept ∙ w .size; few = w .few; counted = omega (arith, marks-more (pages img) m t m′ d i, w .counted) }
+
+-- ---- a block: the row of its pointers
+
+abbrev pub slotsOf : List ℕ → ℕ → List ℕ → ℕ → Weigher
+slotsOf img l b = λ k. weigh (vol img) l (slotOf b k)
+
+module _ (img b : List ℕ) (l : ℕ) (within : (k : ℕ) → k < 512 → Below (vol img) (pages img) l (slotOf b k)) (i : ℕ) where
+  pub block-walking : i ≤ 512 → (m : List ℕ) (v : ℕ) (m′ : List ℕ) (x : ℕ) → Walking img m v → WalkedOn (pages img) m v (rowOf (slotsOf img l b) i) m′ x → Walking img m′ x
+  block-walking h m v m′ x w k =
+      walking-on img m v (rowOf (slotsOf img l b) i) m′ x w
+      (row-counts (pages img) (slotsOf img l b) i (λ j lt. tree-counts (vol img) (pages img) l (slotOf b j) (within j (omega arith)))) k
+
+  pub slot-below : i < 512 → (p : ℕ) → p ≡ slotOf b i → Below (vol img) (pages img) l p
+  slot-below h p e = subst (λ (x : ℕ). Below (vol img) (pages img) l x) (sym e) (within i h)
+
+  pub slot-weigh : (p : ℕ) → p ≡ slotOf b i → (g : ℕ → ℕ) → weigh (vol img) l p g ≡ slotsOf img l b i g
+  slot-weigh p e g = ap (λ (x : ℕ). weigh (vol img) l x g) e

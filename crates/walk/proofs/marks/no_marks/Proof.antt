@@ -1,0 +1,10 @@
+use mathlib.Core.Path.{refl}
+use Rattle.walk.proofs.Marked.{no-marks}
+use Rattle.walk.proofs.marks.no_marks.Statement.{statement}
+use Rattle.walk.proofs.marks.no_marks.Tie as tie
+
+returns : tie.Need-returns
+returns c = no-marks 1024 refl
+
+pub no-marks-spec : {M : Type 1} → statement M
+no-marks-spec = tie.close (tie.spec returns)

@@ -1,0 +1,37 @@
+-- What a walk is given and how it ends, over the pages that a weigher W weighs: W (hit p) is how often page p is among them, W some how many they are.
+-- Assumes nothing.
+use mathlib.Core.Path.{_≡_}
+use mathlib.Core.List.{List}
+use Prim.Native.Nat.{ℕ, _+_, _*_, _≤_, _<_}
+use lib.ListN.{length, getD}
+use Rattle.sums.specs.Sum.{sum}
+use Rattle.book.specs.Words.{two}
+use Rattle.book.specs.Holders.{hit, some}
+use Rattle.book.specs.Image.{pages, mostPages}
+use Rattle.walk.specs.declared.Walk.{Walk}
+use Rattle.walk.specs.declared.Walk.the-variants.{On, Met}
+use Rattle.walk.specs.Marks.{marked}
+
+abbrev pub Weigher : Type 0
+Weigher = (ℕ → ℕ) → ℕ
+
+-- the marks have room for each page, and at least as many are marked as were visited
+pub record Walking (img m : List ℕ) (visited : ℕ) : Type 0 where
+  pub size : length m ≡ 1024
+  pub few : pages img ≤ mostPages
+  pub counted : visited ≤ sum (pages img) (marked m)
+
+-- none of them was marked or is there twice: now all are marked, and counted
+pub record WalkedOn (P : ℕ) (m : List ℕ) (v : ℕ) (W : Weigher) (m′ : List ℕ) (x : ℕ) : Type 0 where
+  pub more : (p : ℕ) → p < P → marked m′ p ≡ marked m p + W (hit p)
+  pub count : x ≡ v + W some
+  pub kept : length m′ ≡ length m
+
+-- that, or one of them was marked already or is there twice
+abbrev pub Walked : ℕ → List ℕ → ℕ → Weigher → List ℕ → Walk → Type 0
+Walked P m v W m′ (On x) = WalkedOn P m v W m′ x
+Walked P m v W m′ Met = (p : ℕ) × (p < P) × (2 ≤ marked m p + W (hit p))
+
+-- pointer n of a block that was handed over as a part
+unfoldable pub slotOf : List ℕ → ℕ → ℕ
+slotOf block n = two (λ k. getD block k 0) (2 * n)

@@ -1,0 +1,61 @@
+// The pages of a run, and of any root by the flags of its pointer.
+use crate::Walk;
+use crate::pages::mark_pointer;
+ghost use Prim.Native.Nat.{_+_, _≤_};
+ghost use Rattle.sums.specs.Sum.{sum};
+ghost use Rattle.book.specs.Words.{vol};
+ghost use Rattle.book.specs.Trees.{weighR, rootBy};
+ghost use Rattle.book.specs.Image.{pages};
+ghost use Rattle.laws.specs.Count.{BelowR};
+ghost use Rattle.walk.specs.Walked.{Walking, Walked};
+
+// Marks the pages of a run.
+pub fn mark_run(
+    img: &[u16],
+    marks: &mut [u16; 1024],
+    start: usize,
+    count: usize,
+    visited: u32,
+) -> Walk
+    requires { ⌜ Walking (now img) (now marks) visited × (start + count ≤ pages (now img)) ⌝ }
+    ensures { λ r. ⌜ Walked (pages (now (img .entry))) (now (marks .entry)) visited (λ g. sum count (λ i. g (start + i))) (now (marks .exit)) r ⌝ }
+{
+    let mut v = visited;
+    let mut i: usize = 0;
+    while i < count {
+        match mark_pointer(img, marks, start + i, 0, v) {
+            Walk::On { visited: n } => {
+                v = n;
+            }
+            Walk::Met => {
+                return Walk::Met;
+            }
+        }
+        i += 1;
+    }
+    Walk::On { visited: v }
+}
+
+// Marks the pages of the root with these flags, page and count.
+pub fn mark_root(
+    img: &[u16],
+    marks: &mut [u16; 1024],
+    flags: u16,
+    top: usize,
+    count: usize,
+    visited: u32,
+) -> Walk
+    requires { ⌜ Walking (now img) (now marks) visited × BelowR (vol (now img)) (pages (now img)) (rootBy flags top count) ⌝ }
+    ensures { λ r. ⌜ Walked (pages (now (img .entry))) (now (marks .entry)) visited (weighR (vol (now (img .entry))) (rootBy flags top count)) (now (marks .exit)) r ⌝ }
+{
+    if flags == 0 {
+        return mark_run(img, marks, top, count, visited);
+    }
+    if flags == 1 {
+        return mark_pointer(img, marks, top, 1, visited);
+    }
+    if flags == 2 {
+        return mark_pointer(img, marks, top, 2, visited);
+    }
+    Walk::On { visited }
+}

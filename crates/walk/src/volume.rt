@@ -1,0 +1,90 @@
+// All that is held: the master page, the bit file, the user file, the object file and the files.
+use crate::Walk;
+use crate::files::mark_files;
+use crate::marks::mark;
+use crate::roots::mark_root;
+use crate::roots::mark_run;
+use page::read::flags_at;
+use page::read::page_at;
+ghost use mathlib.Core.Path.{_≡_};
+ghost use Prim.Native.Nat.{_+_, _≤_};
+ghost use Rattle.book.specs.Words.{vol};
+ghost use Rattle.book.specs.Trees.{weighR};
+ghost use Rattle.book.specs.Bits.{bitPages, bitFile};
+ghost use Rattle.book.specs.Entries.{userFile, objectFile};
+ghost use Rattle.book.specs.Holders.{system};
+ghost use Rattle.book.specs.Image.{pages as pagesOf};
+ghost use Rattle.walk.specs.Marks.{Unmarked};
+ghost use Rattle.walk.specs.Walked.{Walking, Walked};
+ghost use Rattle.walk.specs.Held.{Held, Volume};
+
+// How many bit pages so many pages ask for.
+fn bit_pages(pages: usize) -> usize
+    requires { ⌜ pages ≤ 16384 ⌝ }
+    ensures { λ r. ⌜ r ≡ bitPages pages ⌝ }
+{
+    (pages + 16383) / 16384
+}
+
+// The pages of the bit file.
+fn mark_bits(img: &[u16], marks: &mut [u16; 1024], pages: usize, visited: u32) -> Walk
+    requires { ⌜ Walking (now img) (now marks) visited × Volume (now img) × (pages ≡ pagesOf (now img)) ⌝ }
+    ensures { λ r. ⌜ Walked (pagesOf (now (img .entry))) (now (marks .entry)) visited (weighR (vol (now (img .entry))) (bitFile (pagesOf (now (img .entry))) (vol (now (img .entry))))) (now (marks .exit)) r ⌝ }
+{
+    let start = page_at(img, 0, 1020) as usize;
+    mark_run(img, marks, start, bit_pages(pages), visited)
+}
+
+// The pages of the user file.
+fn mark_users(img: &[u16], marks: &mut [u16; 1024], visited: u32) -> Walk
+    requires { ⌜ Walking (now img) (now marks) visited × Volume (now img) ⌝ }
+    ensures { λ r. ⌜ Walked (pagesOf (now (img .entry))) (now (marks .entry)) visited (weighR (vol (now (img .entry))) (userFile (vol (now (img .entry))))) (now (marks .exit)) r ⌝ }
+{
+    let flags = flags_at(img, 0, 1018);
+    let top = page_at(img, 0, 1018) as usize;
+    mark_root(img, marks, flags, top, 0, visited)
+}
+
+// The pages of the object file.
+fn mark_objects(img: &[u16], marks: &mut [u16; 1024], visited: u32) -> Walk
+    requires { ⌜ Walking (now img) (now marks) visited × Volume (now img) ⌝ }
+    ensures { λ r. ⌜ Walked (pagesOf (now (img .entry))) (now (marks .entry)) visited (weighR (vol (now (img .entry))) (objectFile (vol (now (img .entry))))) (now (marks .exit)) r ⌝ }
+{
+    let flags = flags_at(img, 0, 1016);
+    let top = page_at(img, 0, 1016) as usize;
+    mark_root(img, marks, flags, top, 0, visited)
+}
+
+// The pages of both.
+fn mark_entry_files(img: &[u16], marks: &mut [u16; 1024], visited: u32) -> Walk
+    requires { ⌜ Walking (now img) (now marks) visited × Volume (now img) ⌝ }
+    ensures { λ r. ⌜ Walked (pagesOf (now (img .entry))) (now (marks .entry)) visited (λ g. weighR (vol (now (img .entry))) (userFile (vol (now (img .entry)))) g + weighR (vol (now (img .entry))) (objectFile (vol (now (img .entry)))) g) (now (marks .exit)) r ⌝ }
+{
+    match mark_users(img, marks, visited) {
+        Walk::On { visited: n } => mark_objects(img, marks, n),
+        Walk::Met => Walk::Met,
+    }
+}
+
+// The system pages but the master page.
+fn mark_system(img: &[u16], marks: &mut [u16; 1024], pages: usize, visited: u32) -> Walk
+    requires { ⌜ Walking (now img) (now marks) visited × Volume (now img) × (pages ≡ pagesOf (now img)) ⌝ }
+    ensures { λ r. ⌜ Walked (pagesOf (now (img .entry))) (now (marks .entry)) visited (system (pagesOf (now (img .entry))) (vol (now (img .entry)))) (now (marks .exit)) r ⌝ }
+{
+    match mark_bits(img, marks, pages, visited) {
+        Walk::On { visited: n } => mark_entry_files(img, marks, n),
+        Walk::Met => Walk::Met,
+    }
+}
+
+// Marks every page that is held, from no marks on.
+pub fn mark_all(img: &[u16], marks: &mut [u16; 1024], pages: usize) -> Walk
+    requires { ⌜ Unmarked (now marks) × Volume (now img) × (pages ≡ pagesOf (now img)) ⌝ }
+    ensures { λ r. ⌜ Held (pagesOf (now (img .entry))) (vol (now (img .entry))) (now (marks .exit)) r ⌝ }
+{
+    mark(marks, 0);
+    match mark_system(img, marks, pages, 1) {
+        Walk::On { visited: n } => mark_files(img, marks, n),
+        Walk::Met => Walk::Met,
+    }
+}
