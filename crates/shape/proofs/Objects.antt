@@ -1,5 +1,5 @@
--- The files of an object page, and of pages in a row. Assumes nothing.
-use mathlib.Core.Path.{_≡_, sym, ap, _∙_, subst}
+-- The object file, the files of an object page, and of pages in a row. Assumes nothing.
+use mathlib.Core.Path.{_≡_, refl, sym, ap, _∙_, subst}
 use mathlib.Core.List.{List}
 use Prim.Native.Nat.{ℕ, _+_, _-_, _*_, _/_, _≤_, _<_, zero-le}
 use native.Mathlib.Decide.{ℕ-discrete, decLt}
@@ -7,16 +7,27 @@ use native.Mathlib.Omega.{arith}
 use Rattle.book.specs.Entries.{object, objectFile, objectPage, used}
 use Rattle.book.specs.Files.{FileShape}
 use Rattle.book.specs.Image.{pages, Whole}
+use Rattle.book.specs.Pointers.{flags, page}
 use Rattle.book.specs.Rules.{Rule2, Rule5, Rule7}
-use Rattle.book.specs.Trees.{pageAt}
-use Rattle.book.specs.Words.{Words, Vol, vol}
+use Rattle.book.specs.Trees.{rootBy, pageAt}
+use Rattle.book.specs.Words.{Vol, vol}
 use Rattle.laws.specs.Reach.{below-objects}
-use Rattle.tree.specs.Reach.{Reach, entryIn}
+use Rattle.tree.specs.Reach.{entryIn}
 use Rattle.tree.proofs.Entries.{object-in, absent-word}
-use Rattle.shape.specs.Shapes.{Shaped, FilesRight}
+use Rattle.tree.proofs.Reach.{reach-same, root-read, page-read}
+use Rattle.shape.specs.Objects.{ObjectsAt}
+use Rattle.shape.specs.Shapes.{EntryRight, FilesRight}
 
-pub reach-objects : (img : List ℕ) → Whole img → Rule2 (pages img) (vol img) → Rule5 (pages img) (vol img) → Reach img (objectFile (vol img))
-reach-objects img w a b = record { some = omega arith; below = below-objects (pages img) (vol img) a b }
+-- as code reads its pointer: flags x and page t
+pub objects-at : (img : List ℕ) (x t : ℕ) → Whole img → Rule2 (pages img) (vol img) → Rule5 (pages img) (vol img) → x ≡ flags (vol img 0) 1016 → t ≡ page (vol img 0) 1016 → ObjectsAt img x t
+unfolding objectFile
+objects-at img x t w a b ex et =
+    let e : objectFile (vol img) ≡ rootBy x t 0 = root-read (vol img 0) 1016 0 x t 0 ex et refl in
+    record { root = e; reach = reach-same img _ _ e (record { some = omega arith; below = below-objects (pages img) (vol img) a b }) }
+
+pub object-page-at : (img : List ℕ) (x t : ℕ) → ObjectsAt img x t → (n q : ℕ) → q ≡ pageAt (vol img) (rootBy x t 0) n → q ≡ objectPage (vol img) (32 * n)
+unfolding objectPage
+object-page-at img x t o n q e = page-read (vol img) (objectFile (vol img)) (rootBy x t 0) n (32 * n / 32) q (o .root) (omega arith) e
 
 -- ---- entry k of the object page q at position n
 
@@ -29,13 +40,13 @@ module _ (v : Vol) (n k q : ℕ) (h : k < 32) (at : q ≡ objectPage v (32 * n))
   unfolding used
   absent-at z = ap used (sym entry-at) ∙ (let w : entryIn v q (32 * n + k) 0 ≡ 0 = absent-word v q (32 * n + k) 0 z in omega arith)
 
-  pub right-at : (P : ℕ) → (0 < used (entryIn v q (32 * n + k)) → Shaped P v (entryIn v q (32 * n + k))) → 0 < used (object v (32 * n + k)) → FileShape P v (32 * n + k)
+  pub right-at : (P : ℕ) → EntryRight P v (entryIn v q (32 * n + k)) → 0 < used (object v (32 * n + k)) → FileShape P v (32 * n + k)
   unfolding FileShape
-  right-at P f = subst (λ (w : Words). 0 < used w → Shaped P v w) entry-at f
+  right-at P f = subst (EntryRight P v) entry-at f
 
-  pub at-right : (P : ℕ) → (0 < used (object v (32 * n + k)) → FileShape P v (32 * n + k)) → 0 < used (entryIn v q (32 * n + k)) → Shaped P v (entryIn v q (32 * n + k))
+  pub at-right : (P : ℕ) → (0 < used (object v (32 * n + k)) → FileShape P v (32 * n + k)) → EntryRight P v (entryIn v q (32 * n + k))
   unfolding FileShape
-  at-right P f = subst (λ (w : Words). 0 < used w → Shaped P v w) (sym entry-at) f
+  at-right P f = subst (EntryRight P v) (sym entry-at) f
 
 -- ---- files in a row
 

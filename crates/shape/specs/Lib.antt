@@ -1,3 +1,4 @@
 pub mod Shapes
 pub mod Seen
+pub mod Objects
 pub mod Counts

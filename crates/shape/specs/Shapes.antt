@@ -40,6 +40,10 @@ Indexes P v block n m = (k : ℕ) → k < m → Filled P v 1 (pointerIn block k)
 abbrev pub Shaped : ℕ → Vol → Words → Type 0
 Shaped P v w = Shape P v (flags w filePointer) (page w filePointer) (pageCount w) × BytesRight w
 
+-- the entry is unused, or its file is right
+abbrev pub EntryRight : ℕ → Vol → Words → Type 0
+EntryRight P v w = 0 < used w → Shaped P v w
+
 -- the files of entries a to z - 1 are right
 abbrev pub FilesRight : ℕ → Vol → ℕ → ℕ → Type 0
 FilesRight P v a z = (e : ℕ) → e < z → a ≤ e → 0 < used (object v e) → FileShape P v e

@@ -2,16 +2,17 @@
 use tree::entry::entry_flags;
 use tree::entry::entry_two;
 use tree::entry::entry_used;
-use tree::root::object_page;
+use tree::root::root_page;
 ghost use mathlib.Core.Path.{_≡_};
 ghost use Prim.Native.Nat.{_*_, _≤_, _<_};
-ghost use Rattle.book.specs.Entries.{objectFile, objectPage};
+ghost use Rattle.book.specs.Entries.{objectPage};
 ghost use Rattle.book.specs.Files.{cost};
 ghost use Rattle.book.specs.Image.{pages};
 ghost use Rattle.book.specs.Words.{vol};
 ghost use Rattle.laws.specs.Charge.{charge, entryPages};
-ghost use Rattle.tree.specs.Reach.{Reach, entryIn};
+ghost use Rattle.tree.specs.Reach.{entryIn};
 ghost use Rattle.shape.specs.Counts.{pagesAt, pagesOf};
+ghost use Rattle.shape.specs.Objects.{ObjectsAt};
 
 // The data pages, index blocks and subindex block of an indexed file of n pages.
 fn cost_of(n: u64) -> u64
@@ -64,27 +65,27 @@ fn page_pages(img: &[u16], q: usize, n: usize) -> u64
     sum
 }
 
-// The pages of the files whose entries are at position n of the object file.
-fn position_pages(img: &[u16], n: usize) -> u64
-    requires { ⌜ Reach (now img) (objectFile (vol (now img))) × (n < 2048) ⌝ }
+// The pages of the files whose entries are at position n of the object file, whose pointer has these flags and this page.
+fn position_pages(img: &[u16], flags: u16, top: usize, n: usize) -> u64
+    requires { ⌜ ObjectsAt (now img) flags top × (n < 2048) ⌝ }
     ensures { λ r. ⌜ (r ≡ pagesAt (vol (now (img .entry))) n) × (r ≤ 32 * 8589934592) ⌝ }
 {
-    let q = object_page(img, 32 * n);
+    let q = root_page(img, flags, top, 0, n);
     if q == 0 {
         return 0;
     }
     page_pages(img, q, n)
 }
 
-// The pages of user u's files.
-pub fn user_pages(img: &[u16], u: usize) -> u64
-    requires { ⌜ Reach (now img) (objectFile (vol (now img))) × (u < 256) ⌝ }
+// The pages of user u's files, where the object pointer has these flags and this page.
+pub fn user_pages(img: &[u16], flags: u16, top: usize, u: usize) -> u64
+    requires { ⌜ ObjectsAt (now img) flags top × (u < 256) ⌝ }
     ensures { λ r. ⌜ (r ≡ pagesOf (vol (now (img .entry))) u) × (r ≤ 256 * 8589934592) ⌝ }
 {
     let mut sum: u64 = 0;
     let mut i: usize = 0;
     while i < 8 {
-        sum += position_pages(img, 8 * u + i);
+        sum += position_pages(img, flags, top, 8 * u + i);
         i += 1;
     }
     sum

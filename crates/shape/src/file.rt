@@ -9,13 +9,12 @@ ghost use mathlib.Core.Path.{_≡_};
 ghost use mathlib.Core.Logic.{_⊎_};
 ghost use Prim.Native.Nat.{_<_};
 ghost use Rattle.book.specs.Decides.{Decides};
-ghost use Rattle.book.specs.Entries.{used};
 ghost use Rattle.book.specs.Files.{Shape, Empty, Contiguous, Indexed, Subindexed, bytesOf};
 ghost use Rattle.book.specs.Image.{pages};
 ghost use Rattle.book.specs.Words.{vol};
 ghost use Rattle.tree.specs.Reach.{entryIn};
 ghost use Rattle.shape.specs.Seen.{Judging, Judged};
-ghost use Rattle.shape.specs.Shapes.{Shaped};
+ghost use Rattle.shape.specs.Shapes.{Shaped, EntryRight};
 
 // Whether a pointer without flags to page t is that of a file of n pages: an empty or a contiguous one.
 fn run_ok(total: usize, t: usize, n: usize) -> bool
@@ -107,7 +106,7 @@ fn file_ok(img: &[u16], total: usize, seen: &mut [u16; 1024], q: usize, e: usize
 // Whether entry e on page q is unused, or its file is right.
 pub fn entry_ok(img: &[u16], total: usize, seen: &mut [u16; 1024], q: usize, e: usize) -> bool
     requires { ⌜ Judging (now img) total (now seen) × (q < pages (now img)) ⌝ }
-    ensures { λ r. ⌜ Judged (now (img .entry)) (0 < used (entryIn (vol (now (img .entry))) q e) → Shaped (pages (now (img .entry))) (vol (now (img .entry))) (entryIn (vol (now (img .entry))) q e)) (now (seen .exit)) r ⌝ }
+    ensures { λ r. ⌜ Judged (now (img .entry)) (EntryRight (pages (now (img .entry))) (vol (now (img .entry))) (entryIn (vol (now (img .entry))) q e)) (now (seen .exit)) r ⌝ }
 {
     if !entry_used(img, q, e) {
         return true;

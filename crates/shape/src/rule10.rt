@@ -1,5 +1,7 @@
 // Rule 10: each used count is the pages of his files; unreserved, given and system pages make up P.
 use crate::counts::user_pages;
+use page::read::flags_at;
+use page::read::page_at;
 use page::read::two_at;
 use tree::entry::entry_two;
 use tree::entry::entry_used;
@@ -70,10 +72,12 @@ pub fn rule10(img: &[u16], total: usize, visits: u32) -> bool
         × Rule7 (pages (now img)) (vol (now img)) × (visits ≡ 1 + all (pages (now img)) (vol (now img)) some) ⌝ }
     ensures { λ r. ⌜ Decides r (Rule10 (pages (now (img .entry))) (vol (now (img .entry)))) ⌝ }
 {
+    let flags = flags_at(img, 0, 1016);
+    let top = page_at(img, 0, 1016) as usize;
     let mut held: u64 = 0;
     let mut u: usize = 0;
     while u < 256 {
-        let n = user_pages(img, u);
+        let n = user_pages(img, flags, top, u);
         if !user_ok(img, u, n) {
             return false;
         }

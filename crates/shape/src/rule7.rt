@@ -1,15 +1,17 @@
 // Rule 7: each file has one of the shapes, its bytes right, all its pages in 1..P-1. It goes over the pages of the object file and skips absent ones.
 use crate::file::entry_ok;
 use crate::seen::no_blocks;
-use tree::root::object_page;
+use page::read::flags_at;
+use page::read::page_at;
+use tree::root::root_page;
 ghost use mathlib.Core.Path.{_≡_};
 ghost use Prim.Native.Nat.{_+_, _*_, _<_};
 ghost use Rattle.book.specs.Decides.{Decides};
-ghost use Rattle.book.specs.Entries.{objectFile, objectPage};
+ghost use Rattle.book.specs.Entries.{objectPage};
 ghost use Rattle.book.specs.Image.{pages, Whole};
 ghost use Rattle.book.specs.Rules.{Rule2, Rule5, Rule7};
 ghost use Rattle.book.specs.Words.{vol};
-ghost use Rattle.tree.specs.Reach.{Reach};
+ghost use Rattle.shape.specs.Objects.{ObjectsAt};
 ghost use Rattle.shape.specs.Seen.{Judging, Judged};
 ghost use Rattle.shape.specs.Shapes.{FilesRight};
 
@@ -29,12 +31,19 @@ fn page_ok(img: &[u16], total: usize, seen: &mut [u16; 1024], q: usize, n: usize
     true
 }
 
-// Whether the files are right whose entries are at position n of the object file.
-fn position_ok(img: &[u16], total: usize, seen: &mut [u16; 1024], n: usize) -> bool
-    requires { ⌜ Judging (now img) total (now seen) × Reach (now img) (objectFile (vol (now img))) × (n < 2048) ⌝ }
+// Whether the files are right whose entries are at position n of the object file, whose pointer has these flags and this page.
+fn position_ok(
+    img: &[u16],
+    total: usize,
+    seen: &mut [u16; 1024],
+    flags: u16,
+    top: usize,
+    n: usize,
+) -> bool
+    requires { ⌜ Judging (now img) total (now seen) × ObjectsAt (now img) flags top × (n < 2048) ⌝ }
     ensures { λ r. ⌜ Judged (now (img .entry)) (FilesRight (pages (now (img .entry))) (vol (now (img .entry))) (32 * n) (32 * n + 32)) (now (seen .exit)) r ⌝ }
 {
-    let q = object_page(img, 32 * n);
+    let q = root_page(img, flags, top, 0, n);
     if q == 0 {
         return true;
     }
@@ -46,10 +55,12 @@ pub fn rule7(img: &[u16], total: usize) -> bool
     requires { ⌜ Whole (now img) × (total ≡ pages (now img)) × Rule2 (pages (now img)) (vol (now img)) × Rule5 (pages (now img)) (vol (now img)) ⌝ }
     ensures { λ r. ⌜ Decides r (Rule7 (pages (now (img .entry))) (vol (now (img .entry)))) ⌝ }
 {
+    let flags = flags_at(img, 0, 1016);
+    let top = page_at(img, 0, 1016) as usize;
     let mut seen = no_blocks();
     let mut n: usize = 0;
     while n < 2048 {
-        if !position_ok(img, total, &mut seen, n) {
+        if !position_ok(img, total, &mut seen, flags, top, n) {
             return false;
         }
         n += 1;

@@ -1,4 +1,8 @@
+use Prim.Native.Nat.{_+_, _/_}
 use Rattle.book.specs.Decides.{decides-and}
+use Rattle.book.specs.Image.{pages}
+use Rattle.book.specs.Words.{vol}
+use Rattle.shape.specs.Shapes.{Unlinked, Indexes}
 use Rattle.shape.proofs.Memory.{judged-no, judged-by, passed, failed}
 use borrow.Author.Needs.{needs}
 use Rattle.shape.proofs.block.subindex_block.Statement.{statement}
@@ -18,8 +22,10 @@ unlinked-requires c κs = search needs
 
 returns-2 : tie.Need-returns-2
 returns-2 c =
-    let w = passed _ _ _ (c .before .before .indexes-ok .result) (c .before .before .indexes-ok .ensures) (c .before .if1 .left) in
-    judged-by _ _ _ (c .unlinked .result) (decides-and (c .unlinked .result) _ _ (w .0) (c .unlinked .ensures)) (w .1)
+    let a = c .before .before .before .before .before .before .args in let m = (a .n + 511) / 512 in
+    let I = Indexes (pages (a .img .now)) (vol (a .img .now)) (a .block .now) (a .n) m in let U = Unlinked (a .block .now) m 512 in
+    let w = passed (a .img .now) I _ (c .before .before .indexes-ok .result) (c .before .before .indexes-ok .ensures) (c .before .if1 .left) in
+    judged-by (a .img .now) (I × U) _ (c .unlinked .result) (decides-and (c .unlinked .result) I U (w .0) (c .unlinked .ensures)) (w .1)
 
 pub subindex-block-spec : {M : Type 1} → statement M
 subindex-block-spec =

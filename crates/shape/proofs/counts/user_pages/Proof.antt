@@ -9,10 +9,10 @@ use Rattle.shape.proofs.counts.user_pages.Statement.{statement}
 use Rattle.shape.proofs.counts.user_pages.Tie as tie
 
 abbrev Inv-loop : tie.InvT-loop
-Inv-loop img u sum₀ i₀ sum i = (i ≤ 8) × (sum ≡ sumOf i (λ j. pagesAt (vol img) (8 * u + j))) × (sum ≤ i * 274877906944)
+Inv-loop img flags top u sum₀ i₀ sum i = (i ≤ 8) × (sum ≡ sumOf i (λ j. pagesAt (vol img) (8 * u + j))) × (sum ≤ i * 274877906944)
 
 abbrev μ-loop : tie.MeasureT-loop
-μ-loop img u sum₀ i₀ sum i = 8 - i
+μ-loop img flags top u sum₀ i₀ sum i = 8 - i
 
 loop-holds : tie.Need-loop-holds Inv-loop μ-loop
 loop-holds c = (omega arith, sym (sum-zero _), omega arith)

@@ -1,8 +1,9 @@
 use Prim.Native.Nat.{_+_, _-_, _*_, _≤_}
 use Rattle.book.specs.Image.{pages}
 use Rattle.book.specs.Words.{vol}
+use Rattle.tree.specs.Reach.{entryIn}
 use Rattle.shape.specs.Seen.{Known}
-use Rattle.shape.specs.Shapes.{FilesRight}
+use Rattle.shape.specs.Shapes.{EntryRight, FilesRight}
 use Rattle.shape.proofs.Memory.{judged-no, judged-yes, passed, failed}
 use Rattle.shape.proofs.Objects.{right-at, at-right, right-none, right-more}
 use native.Mathlib.Omega.{arith}
@@ -31,7 +32,7 @@ entry-ok-requires c κs =
 returns : tie.Need-returns Inv-loop μ-loop
 returns c =
     let l = c .before .before .before .before .loop in let s = c .before .before .before .before .before .before in let a = s .args in let v = vol (a .img .now) in let P = pages (a .img .now) in
-    judged-no _ _ _ (λ all. failed _ _ _ (c .before .entry-ok .result) (c .before .entry-ok .ensures) (c .if1 .taken) (at-right v (a .n) (l .k) (a .q) (omega arith) (s .pre .3) P (all (32 * a .n + l .k) (omega arith) (omega arith))))
+    judged-no _ _ _ (λ all. failed (a .img .now) (EntryRight P v (entryIn v (a .q) (32 * a .n + l .k))) _ (c .before .entry-ok .result) (c .before .entry-ok .ensures) (c .if1 .taken) (at-right v (a .n) (l .k) (a .q) (omega arith) (s .pre .3) P (all (32 * a .n + l .k) (omega arith) (omega arith))))
 
 add-k : tie.Need-add-k Inv-loop μ-loop
 add-k c = omega arith
@@ -42,7 +43,7 @@ loop-less c = omega arith
 loop-again : tie.Need-loop-again Inv-loop μ-loop
 loop-again c =
     let l = c .before .before .before .before .loop in let s = c .before .before .before .before .before .before in let a = s .args in let v = vol (a .img .now) in let P = pages (a .img .now) in
-    let w = passed _ _ _ (c .before .entry-ok .result) (c .before .entry-ok .ensures) (c .if1 .left) in
+    let w = passed (a .img .now) (EntryRight P v (entryIn v (a .q) (32 * a .n + l .k))) _ (c .before .entry-ok .result) (c .before .entry-ok .ensures) (c .if1 .left) in
     (omega arith, w .1, right-more P v (32 * a .n) (l .k) (l .inv .2) (right-at v (a .n) (l .k) (a .q) (omega arith) (s .pre .3) P (w .0)))
 
 returns-2 : tie.Need-returns-2 Inv-loop μ-loop
