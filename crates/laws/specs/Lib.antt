@@ -98,3 +98,4 @@ pub mod FreeCount
 pub mod Regroup
 pub mod Moved
 pub mod Granted
+pub mod Fields
