@@ -102,7 +102,7 @@ module _ (P : ℕ) (v : Vol) (u f e : ℕ) (name type : List ℕ) (created : ℕ
       let found : s ≡ highestRun P (place e) n = es ∙ ap (λ (z : ℕ). highestRun P (place z) n) (sym is) in
       let hx : x ≡ run e = ex ∙ ap₂ (λ (i : Vol) (j : ℕ). claimRun P i j n) a found in
       let hy : y ≡ entered e =
-          ey ∙ ap₂ (λ (i : Vol) (p : ℕ). putEntry i p e (objectEntry u e name type created n s)) hx (b ∙ ap (λ (i : Vol). objectPage i e) a)
-          ∙ ap (λ (j : ℕ). putEntry (run e) (objectPage (place e) e) e (objectEntry u e name type created n j)) found in
+      ey ∙ ap₂ (λ (i : Vol) (p : ℕ). putEntry i p e (objectEntry u e name type created n s)) hx (b ∙ ap (λ (i : Vol). objectPage i e) a)
+      ∙ ap (λ (j : ℕ). putEntry (run e) (objectPage (place e) e) e (objectEntry u e name type created n j)) found in
       ew ∙ ap₂ (λ (i j : ℕ). put2 y i (j + 16) (t + n)) (eo ∙ ap (λ (i : Vol). userPage i u) a) ek
       ∙ ap₂ (λ (i : Vol) (j : ℕ). put2 i (userPage (place e) u) (entryWord u + 16) (j + n)) hy (et ∙ ap (λ (i : Vol). usedPages (user i) u) a) ∙ ap made at

@@ -13,7 +13,7 @@ entry-number-requires : tie.Need-entry-number-requires
 entry-number-requires c κs = let s = c .before .before .before in (s .pre .1, s .pre .4)
 
 file-place-requires : tie.Need-file-place-requires
-file-place-requires c κs = let s = c .before .before .before .before .before in let i = s .args .img .now in (s .pre .0, c .before .entry-number .ensures .1, entry-reached i (s .pre .0) (s .args .u) (s .args .f) (c .before .entry-number .result) (s .pre .1) (s .pre .4) (s .pre .2) (c .before .entry-number .ensures .0) , entry-room i (s .pre .0) (s .args .u) (s .args .f) (c .before .entry-number .result) (s .pre .1) (s .pre .4) (s .pre .2) (c .before .entry-number .ensures .0) (s .pre .5))
+file-place-requires c κs = let s = c .before .before .before .before .before in let i = s .args .img .now in (s .pre .0, c .before .entry-number .ensures .1, entry-reached i (s .pre .0) (s .args .u) (s .args .f) (c .before .entry-number .result) (s .pre .1) (s .pre .4) (s .pre .2) (c .before .entry-number .ensures .0), entry-room i (s .pre .0) (s .args .u) (s .args .f) (c .before .entry-number .result) (s .pre .1) (s .pre .4) (s .pre .2) (c .before .entry-number .ensures .0) (s .pre .5))
 
 bit-page-requires : tie.Need-bit-page-requires
 bit-page-requires c κs = let s = c .before .before .before .before .before .before .before .before .before in let i = s .args .img .now in file-ready i (s .pre .0) (s .args .u) (s .args .f) (c .before .before .before .before .before .entry-number .result) (s .pre .1) (s .pre .4) (s .pre .2) (c .before .before .before .before .before .entry-number .ensures .0) (s .pre .5) _ (c .before .before .before .file-place .ensures) (omega arith)
@@ -54,7 +54,7 @@ same-length c = search needs
 returns : tie.Need-returns
 returns c = let s = c .before .before .before .before .before .before .before .before .before .before .before .before .before .before .before .before .before .before .before .before .before .before .before .before .before .before .before .before .before in let i = s .args .img .now in let a = s .args in create-contiguous-is (pages i) (vol i) (a .u) (a .f) (c .before .before .before .before .before .before .before .before .before .before .before .before .before .before .before .before .before .before .before .before .before .before .before .before .before .entry-number .result) (a .name .now) (a .kind .now) (a .created) (s .pre .3) (c .before .before .before .before .before .before .before .before .before .before .before .before .before .before .before .before .before .before .before .before .before .before .before .before .before .entry-number .ensures .0) (a .n) (a .s) (s .pre .8) _ _ _ _
     (c .before .before .before .before .before .before .before .before .before .before .before .before .before .before .before .before .before .object-page .result) (c .before .before .before .before .before .before .before .before .before .before .before .before .before .before .before .user-page .result) (c .before .before .before .before .before .before .before .before .before .before .before .before .of .result .word) (c .before .before .before .before .before .before .before .before .before .before .before .before .before .used-pages .result) (c .before .before .before .before .before .before .before .before .before .before .before .before .before .before .before .before .before .before .before .before .before .before .before .file-place .ensures) (c .before .before .before .before .before .before .before .before .before .before .before .before .before .before .before .before .before .object-page .ensures .0) (c .before .before .before .before .before .before .before .before .before .before .before .before .before .before .before .user-page .ensures .0) (c .before .before .before .before .before .before .before .before .before .before .before .before .of .ensures .1) (c .before .before .before .before .before .before .before .before .before .before .before .before .before .used-pages .ensures .0)
-    (c .before .before .before .before .before .before .before .before .before .before .claim-run .ensures (pages i) (bits-pages (pages i) _ _ _ (c .before .before .before .before .before .before .before .before .before .before .before .before .before .before .before .before .before .before .before .bit-page .ensures) (omega arith)) (run-inside (pages i) _ (s .args .n) (s .args .s) (s .pre .8) (s .pre .9))) (c .before .before .before .before .before .before .object-entry .ensures) (c .before .before .put-two .ensures)
+    (c .before .before .before .before .before .before .before .before .before .before .claim-run .ensures (pages i) (bits-pages (pages i) _ _ _ (c .before .before .before .before .before .before .before .before .before .before .before .before .before .before .before .before .before .before .before .bit-page .ensures) (omega (arith, c .before .before .before .before .before .before .before .before .before .before .before .before .before .before .before .before .before .before .before .before .before .before .before .file-place .kept .0))) (run-inside (pages i) _ (s .args .n) (s .args .s) (s .pre .8) (s .pre .9))) (c .before .before .before .before .before .before .object-entry .ensures) (c .before .before .put-two .ensures)
 
 pub create-contiguous-step-spec : {M : Type 1} → statement M
 create-contiguous-step-spec =

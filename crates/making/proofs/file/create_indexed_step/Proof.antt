@@ -12,7 +12,7 @@ entry-number-requires : tie.Need-entry-number-requires
 entry-number-requires c κs = let s = c .before .before .before in (s .pre .1, s .pre .4)
 
 file-place-requires : tie.Need-file-place-requires
-file-place-requires c κs = let s = c .before .before .before .before .before in let i = s .args .img .now in (s .pre .0, c .before .entry-number .ensures .1, entry-reached i (s .pre .0) (s .args .u) (s .args .f) (c .before .entry-number .result) (s .pre .1) (s .pre .4) (s .pre .2) (c .before .entry-number .ensures .0) , entry-room i (s .pre .0) (s .args .u) (s .args .f) (c .before .entry-number .result) (s .pre .1) (s .pre .4) (s .pre .2) (c .before .entry-number .ensures .0) (s .pre .5))
+file-place-requires c κs = let s = c .before .before .before .before .before in let i = s .args .img .now in (s .pre .0, c .before .entry-number .ensures .1, entry-reached i (s .pre .0) (s .args .u) (s .args .f) (c .before .entry-number .result) (s .pre .1) (s .pre .4) (s .pre .2) (c .before .entry-number .ensures .0), entry-room i (s .pre .0) (s .args .u) (s .args .f) (c .before .entry-number .result) (s .pre .1) (s .pre .4) (s .pre .2) (c .before .entry-number .ensures .0) (s .pre .5))
 
 object-page-requires : tie.Need-object-page-requires
 object-page-requires c κs = let s = c .before .before .before .before .before .before .before .before .before in let i = s .args .img .now in ready-objects _ (file-ready i (s .pre .0) (s .args .u) (s .args .f) (c .before .before .before .before .before .entry-number .result) (s .pre .1) (s .pre .4) (s .pre .2) (c .before .before .before .before .before .entry-number .ensures .0) (s .pre .5) _ (c .before .before .before .file-place .ensures) (omega arith))

@@ -12,7 +12,7 @@ with-index-requires : tie.Need-with-index-requires
 with-index-requires c κs = search needs
 
 with-object-page-requires : tie.Need-with-object-page-requires
-with-object-page-requires c κs = let s = c .before .before .before .before .before .before in let i = s .args .img .now in 
+with-object-page-requires c κs = let s = c .before .before .before .before .before .before in let i = s .args .img .now in
     let N = indexed-next i _ (s .args .e) (s .pre .0) _ (c .before .before .before .with-index .ensures) (with-index (pages i) (vol i) (s .args .e) (s .pre .0 .sound) (ready-some i (s .pre .0)) (s .pre .2) (s .pre .3)) (omega arith) in
     (N .0, s .pre .1, N .1, N .2, N .3)
 

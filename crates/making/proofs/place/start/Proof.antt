@@ -18,11 +18,11 @@ take-requires : tie.Need-take-requires
 take-requires c κs = let s = c .before .before .before .before .before .before in let i = s .args .img .now in (omega arith, c .before .before .before .bit-page .ensures, first-there (pages i) (vol i) (s .pre .0 .sound) (ready-some i (s .pre .0)) (s .pre .1) .0)
 
 take-requires-2 : tie.Need-take-requires-2
-take-requires-2 c κs = let s = c .before .before .before .before .before .before .before .before .before .before in let i = s .args .img .now in 
+take-requires-2 c κs = let s = c .before .before .before .before .before .before .before .before .before .before in let i = s .args .img .now in
     let B = second-take (pages i) (vol i) (s .pre .0 .sound) (ready-some i (s .pre .0)) (s .pre .1) (c .before .before .before .before .before .before .before .bit-page .result) (c .before .before .before .before .before .before .before .bit-page .ensures) _ (c .before .before .before .take .ensures .2) in (omega arith, B .0, B .1)
 
 take-requires-3 : tie.Need-take-requires-3
-take-requires-3 c κs = let s = c .before .before .before .before .before .before .before .before .before .before .before .before .before .before in let i = s .args .img .now in 
+take-requires-3 c κs = let s = c .before .before .before .before .before .before .before .before .before .before .before .before .before .before in let i = s .args .img .now in
     let B = third-take (pages i) (vol i) (s .pre .0 .sound) (ready-some i (s .pre .0)) (s .pre .1) (c .before .before .before .before .before .before .before .before .before .before .before .bit-page .result) (c .before .before .before .before .before .before .before .before .before .before .before .bit-page .ensures) _ _ (c .before .before .before .before .before .before .before .take .ensures .2) (c .before .before .before .take2 .ensures .2) in (omega arith, B .0, B .1)
 
 pointer-requires : tie.Need-pointer-requires

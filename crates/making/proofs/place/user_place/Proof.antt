@@ -31,7 +31,7 @@ with-user-page-requires : tie.Need-with-user-page-requires
 with-user-page-requires c κs = let s = c .before .before .before .before .before in let i = s .args .img .now in let h : 0 < page (vol i 0) 1018 = omega (arith, c .before .before .page-at .ensures .0) in (s .pre .0, s .pre .1, h, omega (arith, s .pre .2, need-later (vol i) (s .args .u) h))
 
 with-subindex-requires : tie.Need-with-subindex-requires
-with-subindex-requires c κs = let s = c .before .before .before .before .before .before .before .before .before in let i = s .args .img .now in let h : 0 < page (vol i 0) 1018 = omega (arith, c .before .before .before .before .before .before .page-at .ensures .0) in 
+with-subindex-requires c κs = let s = c .before .before .before .before .before .before .before .before .before in let i = s .args .img .now in let h : 0 < page (vol i 0) 1018 = omega (arith, c .before .before .before .before .before .before .page-at .ensures .0) in
     let W = with-page (pages i) (vol i) (s .pre .0 .sound) (ready-some i (s .pre .0)) (s .args .u) (s .pre .1) h (omega (arith, s .pre .2, need-later (vol i) (s .args .u) h)) in let E = c .before .before .before .with-user-page .ensures in
     (ready-next i _ (s .pre .0) _ E (W .sound) (omega arith), subst (λ (x : Vol). raises x (s .args .u) ≤ unreserved x) (sym E) (omega (arith, W .asks, W .left, s .pre .2, need-later (vol i) (s .args .u) h)))
 

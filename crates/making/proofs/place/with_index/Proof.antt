@@ -30,7 +30,7 @@ cast-top : tie.Need-cast-top
 cast-top c = search needs
 
 extend-requires : tie.Need-extend-requires
-extend-requires c κs = let s = c .before .before .before .before .before .before .before in let i = s .args .img .now in let z : objectIndex (vol i) (s .args .e) ≡ 0 = omega (arith, c .before .before .before .before .object-index .ensures .0) in 
+extend-requires c κs = let s = c .before .before .before .before .before .before .before in let i = s .args .img .now in let z : objectIndex (vol i) (s .args .e) ≡ 0 = omega (arith, c .before .before .before .before .object-index .ensures .0) in
     (s .pre .0, subst (λ (x : ℕ). Vacant (pages i) (vol i) x (entryPage (s .args .e) / 512)) (sym (c .before .page-at .ensures .0)) (top-vacant (pages i) (vol i) (s .pre .0 .sound) (s .args .e) (s .pre .2) z), need-one (pages i) (vol i) (s .args .e) (s .pre .0 .sound) (ready-some i (s .pre .0)) (s .pre .2) (s .pre .3) z)
 
 same-length-2 : tie.Need-same-length-2

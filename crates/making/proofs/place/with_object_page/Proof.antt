@@ -26,7 +26,7 @@ object-index-requires : tie.Need-object-index-requires
 object-index-requires c κs = search needs
 
 extend-requires : tie.Need-extend-requires
-extend-requires c κs = let s = c .before .before .before .before .before .before .before in let i = s .args .img .now in let z : objectPage (vol i) (s .args .e) ≡ 0 = omega (arith, c .before .before .before .before .object-page .ensures .0) in 
+extend-requires c κs = let s = c .before .before .before .before .before .before .before in let i = s .args .img .now in let z : objectPage (vol i) (s .args .e) ≡ 0 = omega (arith, c .before .before .before .before .object-page .ensures .0) in
     (s .pre .0, subst (λ (x : ℕ). Vacant (pages i) (vol i) x (entryPage (s .args .e) % 512)) (sym (c .before .object-index .ensures .0)) (index-vacant (pages i) (vol i) (s .pre .0 .sound) (s .args .e) (s .pre .2) (s .pre .3) z), omega (arith, z, s .pre .4))
 
 same-length-2 : tie.Need-same-length-2
