@@ -101,3 +101,4 @@ pub mod Charge
 pub mod Indexes
 pub mod Sequence
 pub mod Aside
+pub mod Fields
