@@ -69,3 +69,5 @@ pub mod Return
 pub mod Counts
 pub mod Space
 pub mod Around
+pub mod Freed
+pub mod Charged
