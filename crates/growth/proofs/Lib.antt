@@ -1,0 +1,3 @@
+-- Laws that proofs of this crate cite.
+pub mod Ready
+pub mod Heads
