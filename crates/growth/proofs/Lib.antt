@@ -1,3 +1,6 @@
 -- Laws that proofs of this crate cite.
 pub mod Ready
 pub mod Heads
+pub mod Blocks
+pub mod Files
+pub mod Phases

@@ -126,3 +126,22 @@ pub(crate) fn finish(
     put_two(img, entry, w + POINTER, pointer);
     put_two(img, owner, z + USED, used);
 }
+
+// The entries of file f of user u become those of a file of n pages, with these flags and this page in its pointer, and an owner who has used so many.
+pub(crate) fn enter(
+    img: &mut [u16],
+    u: usize,
+    f: usize,
+    h: Head,
+    n: usize,
+    flags: u16,
+    top: usize,
+    used: usize,
+)
+    requires { ⌜ (u < 256) × (f < 256) × (h .owner < pages (now img)) × (h .entry < pages (now img)) × (n < 2097152) × (flags < 4) × (top < 1073741824) × (used < 4294967296) ⌝ }
+    ensures { λ _. ⌜ vol (now (img .exit)) ≡ finishOf (vol (now (img .entry))) (h .owner) (h .entry) u (fileEntry u f) n (pointer flags top) used ⌝ }
+{
+    let e = entry_of(u, f);
+    let p = pointer_to(flags, top);
+    finish(img, h.owner, h.entry, u, e, n as u32, p, used as u32);
+}
