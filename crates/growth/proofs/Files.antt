@@ -95,6 +95,20 @@ module _ (img : List ℕ) (u f : ℕ) (h : Head) (a : FileHead img u f h) where
   unfolding userPage
   file-owner-pos = omega (arith, a .head .ownerAt, isU P v (λ p. 0) (good P v (a .ready .sound)) (ready-some img (a .ready)) (omega (arith, a .ready .whole .most)) u f (a .user) (a .file) (a .there))
 
+  -- its entries can be written, with m pages, flags x, page t and y used pages
+  pub can-enter : (Q m x t y : ℕ) → Q ≡ P → m < 2097152 → x < 4 → t < P → y < P + 4
+      → (u < 256) × (f < 256) × (h .owner < Q) × (h .entry < Q) × (m < 2097152) × (x < 4) × (t < 1073741824) × (y < 4294967296)
+  can-enter Q m x t y q i j k l = (
+    a .user,
+    a .file,
+    omega (arith, a .head .ownerIn),
+    omega (arith, a .head .entryIn),
+    i,
+    j,
+    omega (arith, a .ready .whole .most),
+    omega (arith, a .ready .whole .most),
+  )
+
   -- a file that is no run
   module _ (k : Grows v e) where
     pub run-none : h .flags ≡ 0 → h .count ≡ 0

@@ -225,10 +225,14 @@ module _ (img : List ℕ) (u f : ℕ) (h : Head) (g : Growing img u f h) where
     pub onward-is : (i : ℕ) (w₂ w₃ : Vol) → i ≡ indexOf v (h .flags) (h .top) (h .count) → w₂ ≡ setSlot w₁ i (h .count % 512) d′
         → w₃ ≡ finish w₂ (h .owner) (h .entry) u e (h .count + 1) (pointer (h .flags) (h .top)) (h .used + 1) → Grown onward d′ w₃
     unfolding growTo
-    onward-is i w₂ w₃ ei e₂ e₃ = (t₁ .0, t₁ .1, e₃ ∙ ap (λ (x : Vol). finish x (h .owner) (h .entry) u e (h .count + 1) (pointer (h .flags) (h .top)) (h .used + 1)) slots
-        ∙ ap (λ (k : ℕ). finish (setSlot v₁ (indexOf v₁ (h .flags) (h .top) (h .count)) (h .count % 512) d) (h .owner) (h .entry) u e k (pointer (h .flags) (h .top)) (h .used + 1)) (add-one (h .count))
-        ∙ sym (entered-is v₁ still₁ _ _ _ _ ∙ ap₂ (λ (x t : ℕ). F x t (pageCount (object v₁ e)) (usedPages (user v₁) u)) (flags-is v₁ still₁) (top-is v₁ still₁)
-        ∙ ap₂ (λ (m y : ℕ). F (h .flags) (h .top) m y) (pages-is v₁ still₁) (used-is v₁ still₁)))
+    onward-is i w₂ w₃ ei e₂ e₃ = (
+      t₁ .0,
+      t₁ .1,
+      e₃ ∙ ap (λ (x : Vol). finish x (h .owner) (h .entry) u e (h .count + 1) (pointer (h .flags) (h .top)) (h .used + 1)) slots
+          ∙ ap (λ (k : ℕ). finish (setSlot v₁ (indexOf v₁ (h .flags) (h .top) (h .count)) (h .count % 512) d) (h .owner) (h .entry) u e k (pointer (h .flags) (h .top)) (h .used + 1)) (add-one (h .count))
+          ∙ sym (entered-is v₁ still₁ _ _ _ _ ∙ ap₂ (λ (x t : ℕ). F x t (pageCount (object v₁ e)) (usedPages (user v₁) u)) (flags-is v₁ still₁) (top-is v₁ still₁)
+          ∙ ap₂ (λ (m y : ℕ). F (h .flags) (h .top) m y) (pages-is v₁ still₁) (used-is v₁ still₁)),
+    )
       where
         F : ℕ → ℕ → ℕ → ℕ → Vol
         F x t m y = finish (setSlot v₁ (indexOf v₁ x t m) (m % 512) d) (h .owner) (h .entry) u e (suc m) (pointer x t) (y + 1)
@@ -246,10 +250,14 @@ module _ (img : List ℕ) (u f : ℕ) (h : Head) (g : Growing img u f h) where
 
       pub first-is : h .count ≡ 0 → (w₃ w₄ : Vol) → w₃ ≡ setSlot w₂ b′ 0 d′ → w₄ ≡ finish w₃ (h .owner) (h .entry) u e 1 (pointer 1 b′) (h .used + 2) → Grown first d′ w₄
       unfolding growTo
-      first-is z w₃ w₄ e₃ e₄ = (t₁ .0, t₁ .1, e₄
-          ∙ ap (λ (x : Vol). finish x (h .owner) (h .entry) u e 1 (pointer 1 b′) (h .used + 2)) (e₃ ∙ ap₂ (λ (x : Vol) (y : ℕ). setSlot x b′ 0 y) e₂ (t₁ .0))
-          ∙ ap (λ (y : ℕ). finish (setSlot v₂ y 0 d) (h .owner) (h .entry) u e 1 (pointer 1 y) (h .used + 2)) eb
-          ∙ sym (entered-is v₂ T _ _ _ _ ∙ ap (λ (y : ℕ). finish (setSlot v₂ b 0 d) (h .owner) (h .entry) u e 1 (pointer 1 b) (y + 2)) (used-is v₂ T)))
+      first-is z w₃ w₄ e₃ e₄ = (
+        t₁ .0,
+        t₁ .1,
+        e₄
+            ∙ ap (λ (x : Vol). finish x (h .owner) (h .entry) u e 1 (pointer 1 b′) (h .used + 2)) (e₃ ∙ ap₂ (λ (x : Vol) (y : ℕ). setSlot x b′ 0 y) e₂ (t₁ .0))
+            ∙ ap (λ (y : ℕ). finish (setSlot v₂ y 0 d) (h .owner) (h .entry) u e 1 (pointer 1 y) (h .used + 2)) eb
+            ∙ sym (entered-is v₂ T _ _ _ _ ∙ ap (λ (y : ℕ). finish (setSlot v₂ b 0 d) (h .owner) (h .entry) u e 1 (pointer 1 b) (y + 2)) (used-is v₂ T)),
+      )
         where
           T : Still P v v₂
           T = still₂ (need-first z)
@@ -257,10 +265,14 @@ module _ (img : List ℕ) (u f : ℕ) (h : Head) (g : Growing img u f h) where
       pub block-is : h .count % 512 ≡ 0 → 512 < h .count → (w₃ w₄ w₅ : Vol) → w₃ ≡ setSlot w₂ (h .top) (h .count / 512) b′ → w₄ ≡ setSlot w₃ b′ 0 d′
           → w₅ ≡ finish w₄ (h .owner) (h .entry) u e (h .count + 1) (pointer 2 (h .top)) (h .used + 2) → Grown block d′ w₅
       unfolding growTo
-      block-is z i w₃ w₄ w₅ e₃ e₄ e₅ = (t₁ .0, t₁ .1, e₅
-          ∙ ap (λ (x : Vol). finish x (h .owner) (h .entry) u e (h .count + 1) (pointer 2 (h .top)) (h .used + 2)) slots
-          ∙ ap (λ (k : ℕ). finish (setSlot (setSlot v₂ (h .top) (h .count / 512) b) b 0 d) (h .owner) (h .entry) u e k (pointer 2 (h .top)) (h .used + 2)) (add-one (h .count))
-          ∙ sym (entered-is v₂ T _ _ _ _ ∙ ap₂ (λ (m y : ℕ). F (page (object v₂ e) 30) m y) (pages-is v₂ T) (used-is v₂ T) ∙ ap (λ (t : ℕ). F t (h .count) (h .used)) (top-is v₂ T)))
+      block-is z i w₃ w₄ w₅ e₃ e₄ e₅ = (
+        t₁ .0,
+        t₁ .1,
+        e₅
+            ∙ ap (λ (x : Vol). finish x (h .owner) (h .entry) u e (h .count + 1) (pointer 2 (h .top)) (h .used + 2)) slots
+            ∙ ap (λ (k : ℕ). finish (setSlot (setSlot v₂ (h .top) (h .count / 512) b) b 0 d) (h .owner) (h .entry) u e k (pointer 2 (h .top)) (h .used + 2)) (add-one (h .count))
+            ∙ sym (entered-is v₂ T _ _ _ _ ∙ ap₂ (λ (m y : ℕ). F (page (object v₂ e) 30) m y) (pages-is v₂ T) (used-is v₂ T) ∙ ap (λ (t : ℕ). F t (h .count) (h .used)) (top-is v₂ T)),
+      )
         where
           T : Still P v v₂
           T = still₂ (need-more z i)
@@ -277,10 +289,14 @@ module _ (img : List ℕ) (u f : ℕ) (h : Head) (g : Growing img u f h) where
         pub raise-is : h .count ≡ 512 → (w₄ w₅ w₆ w₇ : Vol) → w₄ ≡ setSlot w₃ s′ 0 (h .top) → w₅ ≡ setSlot w₄ s′ 1 b′ → w₆ ≡ setSlot w₅ b′ 0 d′
             → w₇ ≡ finish w₆ (h .owner) (h .entry) u e 513 (pointer 2 s′) (h .used + 3) → Grown raise d′ w₇
         unfolding growTo
-        raise-is z w₄ w₅ w₆ w₇ e₄ e₅ e₆ e₇ = (t₁ .0, t₁ .1, e₇
-            ∙ ap (λ (x : Vol). finish x (h .owner) (h .entry) u e 513 (pointer 2 s′) (h .used + 3)) slots
-            ∙ ap (λ (y : ℕ). finish (F y (h .top)) (h .owner) (h .entry) u e 513 (pointer 2 y) (h .used + 3)) es
-            ∙ sym (entered-is v₃ T _ _ _ _ ∙ ap₂ (λ (t y : ℕ). finish (F s t) (h .owner) (h .entry) u e 513 (pointer 2 s) (y + 3)) (top-is v₃ T) (used-is v₃ T)))
+        raise-is z w₄ w₅ w₆ w₇ e₄ e₅ e₆ e₇ = (
+          t₁ .0,
+          t₁ .1,
+          e₇
+              ∙ ap (λ (x : Vol). finish x (h .owner) (h .entry) u e 513 (pointer 2 s′) (h .used + 3)) slots
+              ∙ ap (λ (y : ℕ). finish (F y (h .top)) (h .owner) (h .entry) u e 513 (pointer 2 y) (h .used + 3)) es
+              ∙ sym (entered-is v₃ T _ _ _ _ ∙ ap₂ (λ (t y : ℕ). finish (F s t) (h .owner) (h .entry) u e 513 (pointer 2 s) (y + 3)) (top-is v₃ T) (used-is v₃ T)),
+        )
           where
             T : Still P v v₃
             T = still₃ (need-top z)

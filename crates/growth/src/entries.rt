@@ -19,8 +19,11 @@ ghost use Rattle.growth.specs.Head.{HeadOf};
 
 // Where pages, bytes and the pointer stand in a file's entry, and used pages in a user's.
 const PAGES: usize = 26;
+
 const BYTES: usize = 28;
+
 const POINTER: usize = 30;
+
 const USED: usize = 16;
 
 // The bit file's pointer in the master page.
@@ -28,6 +31,7 @@ const BITS: usize = 1020;
 
 // The flags of a pointer to an index block, and to a subindex block.
 pub(crate) const INDEXED: u16 = 1;
+
 pub(crate) const SUBINDEXED: u16 = 2;
 
 // The bytes of a page.
