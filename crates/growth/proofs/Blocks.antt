@@ -1,5 +1,5 @@
 -- The index block that holds a position of an indexed file, and the page there: both are pages of the volume. Assumes nothing.
-use mathlib.Core.Path.{_≡_, refl}
+use mathlib.Core.Path.{_≡_, refl, subst}
 use Prim.Native.Nat.{ℕ, zero, suc, _-_, _*_, _/_, _%_, _<_, min}
 use native.Mathlib.Nat.{mod-lt}
 use native.Mathlib.Omega.{arith}
@@ -39,3 +39,12 @@ module _ (P : ℕ) (v : Vol) (t n : ℕ) (some : 0 < n) where
   index-pos m h (suc zero) s k = s .2 .0 some
   index-pos m h (suc (suc zero)) s k = s .2 .2 (m / 512) (omega (arith, s .1)) .0 (omega arith)
   index-pos m h (suc (suc (suc x))) s k = absurd s
+
+-- a pointer of the one block, and of the two blocks
+pub slot-one : (P : ℕ) (v : Vol) (x t n : ℕ) → Shape P v x t n → x ≡ 1 → (k : ℕ) → k < 512 → slot v t k < P
+unfolding Shape Below
+slot-one P v x t n s e k h = subst (λ (y : ℕ). Shape P v y t n) e s .3 .1 k h
+
+pub slot-two : (P : ℕ) (v : Vol) (x t n : ℕ) → Shape P v x t n → x ≡ 2 → (k j : ℕ) → k < 512 → j < 512 → (slot v t k < P) × (slot v (slot v t k) j < P)
+unfolding Shape Below
+slot-two P v x t n s e k j h i = let b : Shape P v 2 t n = subst (λ (y : ℕ). Shape P v y t n) e s in (b .3 .1 k h .0, b .3 .1 k h .1 j i)

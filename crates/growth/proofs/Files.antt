@@ -25,7 +25,7 @@ use Rattle.laws.specs.Kinds.{grows-kind, kind-low, kind-high}
 use Rattle.laws.specs.Reach.{file-used}
 use Rattle.growth.specs.declared.entries.Head.{Head}
 use Rattle.growth.specs.Head.{FileHead, heldBy}
-use Rattle.growth.proofs.Blocks.{top-in, index-lt, page-lt, index-pos}
+use Rattle.growth.proofs.Blocks.{top-in, index-lt, page-lt, index-pos, slot-one, slot-two}
 use Rattle.growth.proofs.Ready.{ready-some}
 
 -- a file holds at least its pages
@@ -35,6 +35,11 @@ held-le x n = elim (eq-zero-or-pos x) [
   | inl z ↦ omega (arith, pick-no x (cost n) n z)
   | inr p ↦ omega (arith, pick-yes x (cost n) n p)
 ]
+
+-- and a block, if it has one
+held-more : (x n : ℕ) → 0 < x → 0 < n → n < heldBy x n
+unfolding heldBy cost
+held-more x n p h = omega (arith, pick-yes x (cost n) n p)
 
 module _ (img : List ℕ) (u f : ℕ) (h : Head) (a : FileHead img u f h) where
   abbrev P : ℕ
@@ -139,3 +144,14 @@ module _ (img : List ℕ) (u f : ℕ) (h : Head) (a : FileHead img u f h) where
 
       pub file-index-pos : (m : ℕ) → m < h .count → 0 < indexOf v (h .flags) (h .top) m
       file-index-pos m i = index-pos P v (h .top) (h .count) some m i (h .flags) file-shape run-none
+
+      -- the pages that its pointers name
+      pub file-one : h .count ≤ 512 → (k : ℕ) → k < 512 → slot v (h .top) k < P
+      file-one i k l = slot-one P v (h .flags) (h .top) (h .count) file-shape (flags-low some i) k l
+
+      pub file-two : 512 < h .count → (k j : ℕ) → k < 512 → j < 512 → (slot v (h .top) k < P) × (slot v (slot v (h .top) k) j < P)
+      file-two i k j l m = slot-two P v (h .flags) (h .top) (h .count) file-shape (flags-high i) k j l m
+
+      -- its owner is charged with its pages, and with a block at least
+      pub file-paid : h .count < h .used
+      file-paid = omega (arith, held-more (h .flags) (h .count) (flags-in .0) some, file-charged)

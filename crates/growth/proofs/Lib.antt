@@ -4,3 +4,5 @@ pub mod Heads
 pub mod Blocks
 pub mod Files
 pub mod Phases
+pub mod Places
+pub mod Shrinks
