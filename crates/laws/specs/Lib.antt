@@ -102,3 +102,5 @@ pub mod Indexes
 pub mod Sequence
 pub mod Aside
 pub mod Fields
+pub mod Freed
+pub mod Charged
