@@ -40,7 +40,7 @@ returns-2 c =
 -- src/change.rt:157:5
 format-step-requires : tie.Need-format-step-requires
 format-step-requires c κs =
-    let W = holds (c .before .before .before .before .whole .result) _ (c .before .before .before .before .whole .ensures) (c .before .before .before .if1 .left) in let a = holds (c .before .before .format-args .result) _ (c .before .before .format-args .ensures) (c .before .if2 .left) in (W, a .0, bit-arg _ _ _ W _ (omega arith) (a .1) (a .2))
+    let W = holds (c .before .before .before .before .whole .result) _ (c .before .before .before .before .whole .ensures) (c .before .before .before .if1 .left) in let a = holds (c .before .before .format-args .result) _ (c .before .before .format-args .ensures) (c .before .if2 .left) in (W, a .0, bit-arg _ _ W _ (omega arith) (a .1) (a .2))
 
 -- src/change.rt:145:1
 same-length-3 : tie.Need-same-length-3
