@@ -1,3 +1,3 @@
 // The calls of document 01: refusals in the order of their numbers, then the step. None has a `requires`.
 mod args;
-pub mod ask;
+pub mod change;
