@@ -48,7 +48,7 @@ module _ (img : List ℕ) (u f : ℕ) (h : Head) (g : Shrinking img u f h) where
   kept : h .flags ≡ flags (object v e) 30
   kept = g .at .head .kind
 
-  some : 0 < h .count
+  pub some : 0 < h .count
   some = omega (arith, g .at .head .length, g .kind .1)
 
   bits : BitsAt P v (h .bits)
@@ -82,6 +82,28 @@ module _ (img : List ℕ) (u f : ℕ) (h : Head) (g : Shrinking img u f h) where
     bits-mark P z (h .bits) d′ 0 l B,
   )
 
+  -- ---- the pages read are pages of the volume
+
+  pub last-small : last < 262144
+  last-small = omega (arith, file-count-lt img u f h (g .at), g .at .ready .whole .most)
+
+  pub onward-lt : (i d : ℕ) → i ≡ indexOf v (h .flags) t last → d ≡ slot v i (last % 512) → (i < P) × (d < P)
+  onward-lt i d ei ed = (
+    omega (arith, file-index-lt img u f h (g .at) (g .kind .0) some last last-small),
+    omega (arith, file-page-lt img u f h (g .at) (g .kind .0) some last last-small, ap (λ (j : ℕ). slot v j (last % 512)) ei),
+  )
+
+  pub first-lt : h .count ≡ 1 → (d : ℕ) → d ≡ slot v t 0 → d < P
+  first-lt n d ed = omega (arith, file-one img u f h (g .at) (g .kind .0) some (omega arith) 0 (omega arith))
+
+  -- index block k and its first page
+  pub block-lt : 512 < h .count → (k b d : ℕ) → k < 512 → b ≡ slot v t k → d ≡ slot v b 0 → (b < P) × (d < P)
+  block-lt n k b d i eb ed =
+      let lt = file-two img u f h (g .at) (g .kind .0) some n k 0 i (omega arith) in (omega (arith, lt .0), omega (arith, lt .1, ap (λ (j : ℕ). slot v j 0) eb))
+
+  pub top-lt : t < P
+  top-lt = file-top img u f h (g .at) (g .kind .0) some .1
+
   -- ---- the phases
 
   pub onward-is : (i d : ℕ) (w₁ w₂ w₃ : Vol) → i ≡ indexOf v (h .flags) t last → d ≡ slot v i (last % 512) → w₁ ≡ setSlot v i (last % 512) 0
@@ -90,13 +112,10 @@ module _ (img : List ℕ) (u f : ℕ) (h : Head) (g : Shrinking img u f h) where
   onward-is i d w₁ w₂ w₃ ei ed e₁ e₂ F =
       one-freed w₂ w₃ z d (slot v I (last % 512)) (e₂ ∙ ap (λ (x : Vol). enters x last (pointer (h .flags) t) (h .used - 1)) (e₁ ∙ ap (λ (j : ℕ). setSlot v j (last % 512) 0) ei))
       (bits-entered _ _ _ _ (bits-slot P v (h .bits) bits I (last % 512) 0 (file-index-pos img u f h (g .at) (g .kind .0) some last (omega (arith, some)))))
-      (ed ∙ ap (λ (j : ℕ). slot v j (last % 512)) ei) (file-page-lt img u f h (g .at) (g .kind .0) some last small) F .0
+      (ed ∙ ap (λ (j : ℕ). slot v j (last % 512)) ei) (file-page-lt img u f h (g .at) (g .kind .0) some last last-small) F .0
       ∙ sym (ap₂ (λ (x : Vol) (y : ℕ). mark P x y 0) (entered-is _ _ _ _) refl
       ∙ ap₂ (λ (x y : ℕ). F′ x y (pageCount (object v e) - 1) (usedPages (user v) u)) (sym kept) top-is ∙ ap₂ (F′ (h .flags) t) last-is used-is)
     where
-      small : last < 262144
-      small = omega (arith, file-count-lt img u f h (g .at), g .at .ready .whole .most)
-
       I : ℕ
       I = indexOf v (h .flags) t last
 
