@@ -4,3 +4,4 @@ pub mod Fields
 pub mod Taking
 pub mod Between
 pub mod Made
+pub mod Needs

@@ -1,4 +1,4 @@
-// Creating an indexed file, growing a file.
+// Creating an indexed file; growing and shrinking a file by one page.
 use book::Answer;
 use book::Gate;
 use book::Refusal;
@@ -12,7 +12,7 @@ ghost use Rattle.book.specs.Image.{Ready};
 ghost use Rattle.nord.specs.Fresh.{Fresh};
 ghost use Rattle.book.specs.Answers.{numbers};
 ghost use Rattle.book.specs.Outcome.{Outcome};
-ghost use Rattle.book.specs.Calls.{createIndexedCall, growCall};
+ghost use Rattle.book.specs.Calls.{createIndexedCall, growCall, shrinkCall};
 
 // Numbers 4, 5 and 8 of the calls that create a file, then the user's lowest unused index.
 fn new_file(img: &[u16], user: usize, name: &[u8], kind: &[u8]) -> Answer
@@ -90,4 +90,28 @@ pub fn grow(img: &mut [u16], user: usize, file: usize) -> Answer
     }
     let value = growth::grow::grow_step(img, user, file);
     Answer::Done { value }
+}
+
+// Shrinks an indexed file by its last page.
+pub fn shrink(img: &mut [u16], user: usize, file: usize) -> Answer
+    ensures { λ r. ⌜ Outcome (shrinkCall (now (img .entry)) user file) (now (img .entry)) (numbers r) (now (img .exit)) ⌝ }
+{
+    let ok = file_args(user, file);
+    let g = sound::gate(img, ok);
+    if let Gate::Shut { why } = g {
+        return Answer::Refused { why };
+    }
+    if !seek::files::has_file(img, user, file) {
+        return Answer::Refused {
+            why: Refusal::Missing,
+        };
+    }
+    let e = seek::files::entry_number(user, file);
+    if !seek::files::shrinks(img, e) {
+        return Answer::Refused {
+            why: Refusal::Kind,
+        };
+    }
+    growth::shrink::shrink_step(img, user, file);
+    Answer::Done { value: 0 }
 }

@@ -7,7 +7,7 @@ use Rattle.book.specs.Pointers.{page}
 use Rattle.book.specs.Words.{vol, Vol}
 use Rattle.making.proofs.Between.{with-page, place-first, place-later}
 use Rattle.making.proofs.Ready.{ready-next}
-use Rattle.seek.proofs.Pages.{need-first, need-later}
+use Rattle.making.proofs.Needs.{need-first, need-later}
 use Rattle.seek.proofs.Ready.{ready-some}
 use borrow.Author.Needs.{needs}
 use mathlib.Core.Path.{sym, subst, _≡_}
