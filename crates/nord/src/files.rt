@@ -1,10 +1,10 @@
 // Creating an indexed file; growing and shrinking a file by one page.
-use book::Answer;
-use book::Gate;
-use book::Refusal;
 use crate::args::file_args;
 use crate::args::name_args;
 use crate::users::index;
+use book::Answer;
+use book::Gate;
+use book::Refusal;
 use seek::Found;
 ghost use Prim.Native.Nat.{_<_};
 ghost use Rattle.book.specs.Words.{vol};
@@ -32,15 +32,19 @@ fn new_file(img: &[u16], user: usize, name: &[u8], kind: &[u8]) -> Answer
     }
     let f = seek::free::free_file(img, user);
     if 255 < f {
-        return Answer::Refused {
-            why: Refusal::Full,
-        };
+        return Answer::Refused { why: Refusal::Full };
     }
     Answer::Done { value: index(f) }
 }
 
 // Creates an empty indexed file of that name and type, at the user's lowest unused index.
-pub fn create_indexed(img: &mut [u16], user: usize, name: &[u8], kind: &[u8], created: u32) -> Answer
+pub fn create_indexed(
+    img: &mut [u16],
+    user: usize,
+    name: &[u8],
+    kind: &[u8],
+    created: u32,
+) -> Answer
     ensures { λ r. ⌜ Outcome (createIndexedCall (now (img .entry)) user (now (name .entry)) (now (kind .entry)) created) (now (img .entry)) (numbers r) (now (img .exit)) ⌝ }
 {
     let ok = name_args(user, name, kind);
@@ -79,9 +83,7 @@ pub fn grow(img: &mut [u16], user: usize, file: usize) -> Answer
     }
     let e = seek::files::entry_number(user, file);
     if !seek::files::grows(img, e) {
-        return Answer::Refused {
-            why: Refusal::Kind,
-        };
+        return Answer::Refused { why: Refusal::Kind };
     }
     if seek::users::spare(img, user) < seek::needs::need(seek::files::page_count(img, e)) {
         return Answer::Refused {
@@ -108,9 +110,7 @@ pub fn shrink(img: &mut [u16], user: usize, file: usize) -> Answer
     }
     let e = seek::files::entry_number(user, file);
     if !seek::files::shrinks(img, e) {
-        return Answer::Refused {
-            why: Refusal::Kind,
-        };
+        return Answer::Refused { why: Refusal::Kind };
     }
     growth::shrink::shrink_step(img, user, file);
     Answer::Done { value: 0 }

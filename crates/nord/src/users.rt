@@ -33,9 +33,7 @@ pub fn create_user(img: &mut [u16], name: &[u8]) -> Answer
     }
     let u = seek::free::free_user(img);
     if 255 < u {
-        return Answer::Refused {
-            why: Refusal::Full,
-        };
+        return Answer::Refused { why: Refusal::Full };
     }
     if seek::users::unreserved(img) < seek::needs::user_need(img, u) {
         return Answer::Refused {
