@@ -6,3 +6,4 @@ pub mod Files
 pub mod Phases
 pub mod Places
 pub mod Shrinks
+pub mod Walks
