@@ -108,6 +108,10 @@ module _ (img : List ℕ) (b : ℕ) (F : Freeing img b) where
       apart = blocks-frame v (vol img′) (hit b) agree l t (A .apart) (hit b) ∙ A .apart;
     }
 
+    -- of a level that code has one lower
+    pub apart-under : (l m t : ℕ) → l ≡ suc m → Apart P v b l t → Apart (pages img′) (vol img′) b (suc m) t
+    apart-under l m t e A = subst (λ (x : ℕ). Apart (pages img′) (vol img′) b x t) e (apart-next l t A)
+
     pub slot-next : (l t : ℕ) → Apart P v b (suc l) t → (k : ℕ) → slot (vol img′) t k ≡ slot v t k
     unfolding blocks Agree
     slot-next l t A k = slot-same v (vol img′) t (agree t (omega (arith, A .apart))) k
