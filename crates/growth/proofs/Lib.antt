@@ -7,3 +7,4 @@ pub mod Phases
 pub mod Places
 pub mod Shrinks
 pub mod Walks
+pub mod Deletes
