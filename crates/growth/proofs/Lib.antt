@@ -1,6 +1,7 @@
 -- Laws that proofs of this crate cite.
 pub mod Ready
 pub mod Heads
+pub mod Held
 pub mod Blocks
 pub mod Files
 pub mod Phases

@@ -1,3 +1,5 @@
+use native.Mathlib.Omega.{arith}
+use Rattle.growth.proofs.Held.{held-run, held-low, held-high}
 use borrow.Author.Needs.{needs}
 use Rattle.growth.proofs.delete.held.Statement.{statement}
 use Rattle.growth.proofs.delete.held.Tie as tie
@@ -6,7 +8,7 @@ use Rattle.growth.proofs.delete.held.Lts as lts
 
 -- src/delete.rt:20:9
 returns : tie.Need-returns
-returns c = ?
+returns c = held-run _ _ (c .if1 .taken)
 
 -- src/delete.rt:22:20
 add-indexes : tie.Need-add-indexes
@@ -18,7 +20,7 @@ add-result c = search needs
 
 -- src/delete.rt:24:9
 returns-2 : tie.Need-returns-2
-returns-2 c = ?
+returns-2 c = held-low _ _ (c .before .if1 .left) (c .if2 .taken)
 
 -- src/delete.rt:26:5
 add-result-2 : tie.Need-add-result-2
@@ -30,7 +32,7 @@ add-result-3 c = search needs
 
 -- src/delete.rt:15:1
 returns-3 : tie.Need-returns-3
-returns-3 c = ?
+returns-3 c = held-high _ _ (c .before .if1 .left) (omega arith)
 
 pub held-spec : {M : Type 1} → statement M
 held-spec =

@@ -1,3 +1,4 @@
+use Rattle.growth.proofs.Heads.{erase-is}
 use borrow.Author.Needs.{needs}
 use Rattle.growth.proofs.entries.erase.Statement.{statement}
 use Rattle.growth.proofs.entries.erase.Tie as tie
@@ -42,7 +43,8 @@ same-length c = search needs
 
 -- src/entries.rt:155:1
 returns : tie.Need-returns
-returns c = ?
+returns c =
+    erase-is _ _ _ _ _ _ _ (c .before .before .before .before .before .before .before .before .before .before .entry-of .result) _ _ _ (c .before .before .before .before .before .before .before .before .before .before .entry-of .ensures) (c .before .before .before .before .before .before .before .before .before .of .ensures .1) (c .before .before .before .before .before .before .before .before .of2 .ensures .1) (c .before .before .before .before .before .before .clear-entry .ensures) (c .before .before .put-two .ensures)
 
 pub erase-spec : {M : Type 1} → statement M
 erase-spec =
