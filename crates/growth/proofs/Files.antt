@@ -25,21 +25,9 @@ use Rattle.laws.specs.Kinds.{grows-kind, kind-low, kind-high}
 use Rattle.laws.specs.Reach.{file-used}
 use Rattle.growth.specs.declared.entries.Head.{Head}
 use Rattle.growth.specs.Head.{FileHead, heldBy}
+use Rattle.growth.proofs.Held.{held-le, held-more}
 use Rattle.growth.proofs.Blocks.{top-in, index-lt, page-lt, index-pos, slot-one, slot-two}
 use Rattle.growth.proofs.Ready.{ready-some}
-
--- a file holds at least its pages
-held-le : (x n : ℕ) → n ≤ heldBy x n
-unfolding heldBy cost
-held-le x n = elim (eq-zero-or-pos x) [
-  | inl z ↦ omega (arith, pick-no x (cost n) n z)
-  | inr p ↦ omega (arith, pick-yes x (cost n) n p)
-]
-
--- and a block, if it has one
-held-more : (x n : ℕ) → 0 < x → 0 < n → n < heldBy x n
-unfolding heldBy cost
-held-more x n p h = omega (arith, pick-yes x (cost n) n p)
 
 module _ (img : List ℕ) (u f : ℕ) (h : Head) (a : FileHead img u f h) where
   abbrev P : ℕ

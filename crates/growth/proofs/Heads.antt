@@ -4,9 +4,9 @@ use mathlib.Core.Logic.{_≢_}
 use Prim.Native.Nat.{ℕ, zero, suc, _+_, _/_, _<_}
 use native.Mathlib.Nat.{not-suc-le-zero}
 use native.Mathlib.Omega.{arith}
-use Rattle.book.specs.Words.{Vol, put2}
+use Rattle.book.specs.Words.{Vol, put2, putWords, zeros}
 use Rattle.book.specs.Pointers.{slot}
-use Rattle.book.specs.Entries.{entryWord}
+use Rattle.book.specs.Entries.{entryWord, putEntry}
 use Rattle.book.specs.Files.{bytesOf}
 use Rattle.book.specs.Grow.{finish, indexOf}
 
@@ -28,3 +28,9 @@ unfolding finish
 finish-is v v₁ v₂ v₃ v₄ U O a e n ptr x w z ew ez e₁ e₂ e₃ e₄ =
     e₄ ∙ ap₂ (λ (y : Vol) (k : ℕ). put2 y U (k + 16) x)
     (e₃ ∙ ap₂ (λ (y : Vol) (k : ℕ). put2 y O (k + 30) ptr) (e₂ ∙ ap₂ (λ (y : Vol) (k : ℕ). put2 y O (k + 28) (bytesOf n)) (e₁ ∙ ap (λ (k : ℕ). put2 v O (k + 26) n) ew) ew) ew) ez
+
+-- the entry, which code has as number i, becomes zeros
+pub erase-is : (v v₁ v₂ : Vol) (U O a e i x w z : ℕ) → i ≡ e → w ≡ entryWord i → z ≡ entryWord a
+    → v₁ ≡ putWords v O w 32 zeros → v₂ ≡ put2 v₁ U (z + 16) x → v₂ ≡ put2 (putEntry v O e zeros) U (entryWord a + 16) x
+erase-is v v₁ v₂ U O a e i x w z ei ew ez e₁ e₂ =
+    e₂ ∙ ap₂ (λ (y : Vol) (k : ℕ). put2 y U (k + 16) x) (e₁ ∙ ap (λ (k : ℕ). putWords v O k 32 zeros) (ew ∙ ap entryWord ei)) ez

@@ -1,5 +1,6 @@
 // The entries of a file and of its owner: what they say before a step, and what they become.
 use page::entry::EntryPlace;
+use page::entry::clear_entry;
 use page::read::page_at;
 use page::read::slot_at;
 use page::write::put_two;
@@ -10,9 +11,9 @@ use tree::root::object_page;
 use tree::root::user_page;
 ghost use mathlib.Core.Path.{_≡_};
 ghost use Prim.Native.Nat.{ℕ, _*_, _+_, _≤_, _<_};
-ghost use Rattle.book.specs.Words.{vol};
+ghost use Rattle.book.specs.Words.{vol, put2, zeros};
 ghost use Rattle.book.specs.Pointers.{pointer, setSlot};
-ghost use Rattle.book.specs.Entries.{fileEntry};
+ghost use Rattle.book.specs.Entries.{fileEntry, entryWord, putEntry};
 ghost use Rattle.book.specs.Image.{pages, Ready};
 ghost use Rattle.book.specs.Grow.{finish as finishOf, indexOf};
 ghost use Rattle.growth.specs.Head.{HeadOf};
@@ -148,4 +149,17 @@ pub(crate) fn enter(
     let e = entry_of(u, f);
     let p = pointer_to(flags, top);
     finish(img, h.owner, h.entry, u, e, n as u32, p, used as u32);
+}
+
+// The entry of file f of user u becomes zeros, and its owner has used so many.
+pub(crate) fn erase(img: &mut [u16], u: usize, f: usize, h: Head, used: usize)
+    requires { ⌜ (u < 256) × (f < 256) × (h .owner < pages (now img)) × (h .entry < pages (now img)) × (used < 4294967296) ⌝ }
+    ensures { λ _. ⌜ vol (now (img .exit)) ≡ put2 (putEntry (vol (now (img .entry))) (h .entry) (fileEntry u f) zeros) (h .owner) (entryWord u + 16) used ⌝ }
+{
+    let file = EntryPlace::of(entry_of(u, f));
+    let w = file.word;
+    let user = EntryPlace::of(u);
+    let z = user.word;
+    clear_entry(img, h.entry, w);
+    put_two(img, h.owner, z + USED, used as u32);
 }
