@@ -4,3 +4,5 @@ pub mod Fields
 pub mod Taking
 pub mod Between
 pub mod Made
+pub mod Beside
+pub mod Seen
