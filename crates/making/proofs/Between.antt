@@ -14,13 +14,13 @@ use Rattle.book.specs.Pointers.{flags, page, slot, Zero, Inside}
 use Rattle.book.specs.Bits.{lowestFree}
 use Rattle.book.specs.Entries.{userPage, objectPage, entryPage, unreserved}
 use Rattle.book.specs.Rules.{Rule2, Sound}
-use Rattle.book.specs.Create.{extend, started, raised, raises, userNeed, withUserPage, withSubindex, userPlace, objectIndex, fileNeed, withIndex, withObjectPage, filePlace}
+use Rattle.book.specs.Create.{extend, started, raised, raises, withUserPage, withSubindex, userPlace, objectIndex, fileNeed, withIndex, withObjectPage, filePlace}
 use Rattle.laws.specs.Choose.{lowest-chooser}
-use Rattle.laws.specs.Extend.{Placed, extend-pos, extend-master, extend-slot, extend-placed}
+use Rattle.laws.specs.Extend.{Placed, extend-pos, extend-master, extend-slot, extend-bare, extend-placed}
 use Rattle.laws.specs.Join.{SlotWords, Vacant}
 use Rattle.laws.specs.Places.{UnreservedWords, Either}
 use Rattle.laws.specs.Rules.{flags-ext, page-ext}
-use Rattle.laws.specs.Vacant.{Reached, reached-kept, index-one, index-two, object-none, user-vacant, top-vacant}
+use Rattle.laws.specs.Vacant.{Reached, reached-kept, index-one, index-two, object-slot, object-none, user-vacant, top-vacant}
 use Rattle.making.proofs.Ready.{same-pages, ready-next}
 
 -- ---- users
@@ -160,9 +160,13 @@ module _ (P : ℕ) (v : Vol) (e : ℕ) where
           ∙ ap (λ (t : ℕ). slot w t i) (page-ext (w 0) (v 0) 1016 (mast 1016 (omega arith)) (mast 1017 (omega arith)))
           ∙ extend-slot (lowestFree P) P (lowest-chooser P) v S pos o i N (need-one z)
 
-      absent : Indexed w
+      pub page-unmade : objectPage (extend (lowestFree P) P v (page (v 0) 1016) (entryPage e / 512)) e ≡ 0
+      page-unmade = object-slot P w (T .sound) e R₁ ∙ ap (λ (x : ℕ). slot w x (entryPage e % 512)) index₁
+          ∙ extend-bare (lowestFree P) P (lowest-chooser P) v S pos o i N (need-one z) (entryPage e % 512)
+
+      pub index-made : Indexed (extend (lowestFree P) P v (page (v 0) 1016) (entryPage e / 512))
       unfolding fileNeed
-      absent = record {
+      index-made = record {
         sound = T .sound;
         reached = R₁;
         index = omega (arith, index₁, extend-pos (lowestFree P) P (lowest-chooser P) v S pos o i N (need-one z));
@@ -173,7 +177,7 @@ module _ (P : ℕ) (v : Vol) (e : ℕ) where
     unfolding withIndex fileNeed
     with-index = elim (eq-zero-or-pos (objectIndex v e)) [
       | inr p ↦ subst Indexed (sym (pick-yes (objectIndex v e) v _ p)) (record { sound = S; reached = R; index = p; room = omega (arith, have) })
-      | inl z ↦ subst Indexed (sym (pick-no (objectIndex v e) v _ z)) (absent z)
+      | inl z ↦ subst Indexed (sym (pick-no (objectIndex v e) v _ z)) (index-made z)
     ]
 
 -- so the image is ready for the page

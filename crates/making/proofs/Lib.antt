@@ -5,3 +5,5 @@ pub mod Taking
 pub mod Between
 pub mod Made
 pub mod Needs
+pub mod Beside
+pub mod Seen

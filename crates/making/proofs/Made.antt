@@ -6,7 +6,7 @@ use native.Mathlib.Omega.{arith}
 use lib.ListN.{length}
 use Rattle.book.specs.Words.{Vol, vol, put2}
 use Rattle.book.specs.Bits.{lowestFree, claimRun, highestRun}
-use Rattle.book.specs.Entries.{Table, user, used, given, usedPages, spare, unreserved, userPage, objectPage, putEntry, entryWord, fileEntry, newUser, newFile}
+use Rattle.book.specs.Entries.{Table, user, used, usedPages, spare, unreserved, userPage, objectPage, putEntry, entryWord, fileEntry, newUser, newFile}
 use Rattle.book.specs.Image.{pages, Ready}
 use Rattle.book.specs.Rules.{Rule4}
 use Rattle.book.specs.Create.{userEntry, objectEntry, userNeed, fileNeed, userPlace, filePlace, createUser, createIndexed, createContiguous}

@@ -2,6 +2,7 @@
 pub mod entry;
 pub mod file;
 pub mod place;
+pub mod run;
 pub mod user;
 
 // Where the pointers and unreserved stand in the master page.
