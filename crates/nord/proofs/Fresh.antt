@@ -1,11 +1,13 @@
 -- From numbers 4, 5 and 8 to the outcome of a call that creates a file. Assumes nothing.
-use mathlib.Core.Path.{_≡_, refl, sym, subst}
+use mathlib.Core.Path.{_≡_, refl, sym, ap, subst}
 use mathlib.Core.Logic.{inl, inr}
 use mathlib.Core.List.{List}
 use Prim.Native.Nat.{ℕ, _<_}
 use native.Mathlib.Omega.{arith}
 use Rattle.book.specs.Words.{Vol, vol}
-use Rattle.book.specs.Entries.{newFile}
+use Rattle.book.specs.Bits.{lowestFree, highestRun}
+use Rattle.book.specs.Create.{filePlace}
+use Rattle.book.specs.Entries.{newFile, fileEntry}
 use Rattle.book.specs.Rows.{Rows, row, Lowest}
 use Rattle.book.specs.Image.{Ready}
 use Rattle.book.specs.Answers.{refusedWith, numbers}
@@ -46,3 +48,7 @@ pub stale-as : (img : List ℕ) (args : Type 0) (more : Rows) (gives : ℕ → T
 stale-as img args more gives after u name type R a r w e h =
     subst (λ (x : Answer). Outcome (asking img args (row 4 (HasUser (vol img) u) (row 5 ((f : ℕ) → IsFile (vol img) u name type f → ⊥) (row 8 (newFile (vol img) u < 256) more))) 0 gives after) img (numbers x) img) (sym e)
     (stale img args more gives after u name type R a w (fresh-refused (vol img) u name type r h w e))
+
+-- the run beside the place of the file's entry, by the index that was found
+pub run-of : (P : ℕ) (v : Vol) (u n f d : ℕ) → f ≡ d → highestRun P (filePlace (lowestFree P) P v (fileEntry u f)) n ≡ highestRun P (filePlace (lowestFree P) P v (fileEntry u d)) n
+run-of P v u n f d e = ap (λ (x : ℕ). highestRun P (filePlace (lowestFree P) P v (fileEntry u x)) n) e

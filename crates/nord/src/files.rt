@@ -1,6 +1,7 @@
-// Creating an indexed file; growing and shrinking a file by one page.
+// Creating a file, indexed or contiguous; growing and shrinking it by one page; deleting it.
 use crate::args::file_args;
 use crate::args::name_args;
+use crate::args::run_args;
 use crate::users::index;
 use book::Answer;
 use book::Gate;
@@ -12,7 +13,7 @@ ghost use Rattle.book.specs.Image.{Ready};
 ghost use Rattle.nord.specs.Fresh.{Fresh};
 ghost use Rattle.book.specs.Answers.{numbers};
 ghost use Rattle.book.specs.Outcome.{Outcome};
-ghost use Rattle.book.specs.Calls.{createIndexedCall, growCall, shrinkCall};
+ghost use Rattle.book.specs.Calls.{createIndexedCall, createContiguousCall, growCall, shrinkCall, deleteFileCall};
 
 // Numbers 4, 5 and 8 of the calls that create a file, then the user's lowest unused index.
 fn new_file(img: &[u16], user: usize, name: &[u8], kind: &[u8]) -> Answer
@@ -67,6 +68,48 @@ pub fn create_indexed(
     Answer::Done { value }
 }
 
+// Creates a contiguous file of that many pages, at the highest run that the system pages leave.
+pub fn create_contiguous(
+    img: &mut [u16],
+    user: usize,
+    name: &[u8],
+    kind: &[u8],
+    created: u32,
+    count: u32,
+) -> Answer
+    ensures { λ r. ⌜ Outcome (createContiguousCall (now (img .entry)) user (now (name .entry)) (now (kind .entry)) created count) (now (img .entry)) (numbers r) (now (img .exit)) ⌝ }
+{
+    let ok = run_args(user, name, kind, count);
+    let g = sound::gate(img, ok);
+    if let Gate::Shut { why } = g {
+        return Answer::Refused { why };
+    }
+    let fresh = new_file(img, user, name, kind);
+    let Answer::Done { value } = fresh else {
+        return fresh;
+    };
+    let f = value as usize;
+    if seek::users::spare(img, user) < count {
+        return Answer::Refused {
+            why: Refusal::Allowance,
+        };
+    }
+    let e = seek::files::entry_number(user, f);
+    if seek::users::unreserved(img) < seek::needs::file_need(img, e) {
+        return Answer::Refused {
+            why: Refusal::Unreserved,
+        };
+    }
+    let s = making::run::find_run(img, user, f, count);
+    if s == 0 {
+        return Answer::Refused {
+            why: Refusal::NoRun,
+        };
+    }
+    making::file::create_contiguous_step(img, user, f, name, kind, created, count, s);
+    Answer::Done { value }
+}
+
 // Grows an indexed file by one page: done with the page's number.
 pub fn grow(img: &mut [u16], user: usize, file: usize) -> Answer
     ensures { λ r. ⌜ Outcome (growCall (now (img .entry)) user file) (now (img .entry)) (numbers r) (now (img .exit)) ⌝ }
@@ -90,8 +133,8 @@ pub fn grow(img: &mut [u16], user: usize, file: usize) -> Answer
             why: Refusal::Allowance,
         };
     }
-    let value = growth::grow::grow_step(img, user, file);
-    Answer::Done { value }
+    let page = growth::grow::grow_step(img, user, file);
+    Answer::Done { value: page }
 }
 
 // Shrinks an indexed file by its last page.
@@ -113,5 +156,23 @@ pub fn shrink(img: &mut [u16], user: usize, file: usize) -> Answer
         return Answer::Refused { why: Refusal::Kind };
     }
     growth::shrink::shrink_step(img, user, file);
+    Answer::Done { value: 0 }
+}
+
+// Deletes a file: its entry is cleared and its pages are freed.
+pub fn delete_file(img: &mut [u16], user: usize, file: usize) -> Answer
+    ensures { λ r. ⌜ Outcome (deleteFileCall (now (img .entry)) user file) (now (img .entry)) (numbers r) (now (img .exit)) ⌝ }
+{
+    let ok = file_args(user, file);
+    let g = sound::gate(img, ok);
+    if let Gate::Shut { why } = g {
+        return Answer::Refused { why };
+    }
+    if !seek::files::has_file(img, user, file) {
+        return Answer::Refused {
+            why: Refusal::Missing,
+        };
+    }
+    growth::delete::delete_file_step(img, user, file);
     Answer::Done { value: 0 }
 }
