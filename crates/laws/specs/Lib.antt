@@ -101,3 +101,6 @@ pub mod Charge
 pub mod Indexes
 pub mod Sequence
 pub mod Aside
+pub mod Fields
+pub mod Freed
+pub mod Charged

@@ -1,0 +1,161 @@
+-- System pages as the code takes them: the lowest free page, its links, the payment. Assumes nothing.
+use mathlib.Core.Path.{_≡_, sym, ap, ap₂, _∙_, subst}
+use Prim.Native.Nat.{ℕ, _+_, _-_, _*_, _≤_, _<_}
+use native.Mathlib.Omega.{arith}
+use Rattle.book.specs.Words.{Vol, put2}
+use Rattle.book.specs.Written.{put2-page, put2-word}
+use Rattle.book.specs.Pointers.{page, pointer, setSlot}
+use Rattle.book.specs.Bits.{bit, lowestFree, claim}
+use Rattle.book.specs.Entries.{unreserved}
+use Rattle.book.specs.Holders.{hit}
+use Rattle.book.specs.Rules.{Sound}
+use Rattle.book.specs.Create.{pay, extend, started, raised}
+use Rattle.laws.specs.Choose.{lowest-chooser}
+use Rattle.laws.specs.Claim.{free-pos, claim-good, claim-master, claim-free}
+use Rattle.laws.specs.Count.{Good, good, free}
+use Rattle.laws.specs.Room.{system-room, chosen}
+use Rattle.laws.specs.Tree.{two-ext}
+use Rattle.bits.specs.File.{BitsAt}
+use Rattle.bits.proofs.Places.{bits-claim}
+
+-- ---- writes that leave unreserved
+
+unreserved-page : (v : Vol) (q j x : ℕ) → 0 < q → unreserved (put2 v q j x) ≡ unreserved v
+unfolding unreserved
+unreserved-page v q j x h = two-ext (put2 v q j x 0) (v 0) 1022 (put2-page v q j x 0 1022 (omega arith)) (put2-page v q j x 0 1023 (omega arith))
+
+unreserved-below : (v : Vol) (q j x : ℕ) → j < 1021 → unreserved (put2 v q j x) ≡ unreserved v
+unfolding unreserved
+unreserved-below v q j x h = two-ext (put2 v q j x 0) (v 0) 1022 (put2-word v q j x 0 1022 (omega arith) (omega arith)) (put2-word v q j x 0 1023 (omega arith) (omega arith))
+
+unreserved-claim : (P : ℕ) (v : Vol) (hand : ℕ → ℕ) → Good P v hand → (d : ℕ) → d < P → bit P v d ≡ 0 → unreserved (claim P v d) ≡ unreserved v
+unfolding unreserved
+unreserved-claim P v hand G d h f = two-ext (claim P v d 0) (v 0) 1022 (claim-master P v hand G d h f 1022) (claim-master P v hand G d h f 1023)
+
+pay-is : (w : Vol) (s n : ℕ) → s ≡ unreserved w → put2 w 0 1022 (s - n) ≡ pay w n
+unfolding pay
+pay-is w s n e = ap (λ (x : ℕ). put2 w 0 1022 (x - n)) e
+
+-- a page is taken, from the volume as it is
+abbrev taken : ℕ → Vol → Vol
+taken P v = claim P v (lowestFree P v)
+
+-- ---- one page
+
+module _ (P : ℕ) (v : Vol) (S : Sound P v) (pos : 0 < P) (have : 1 ≤ unreserved v) where
+  abbrev D : ℕ
+  D = lowestFree P v
+
+  pub lowest-there : (lowestFree P v < P) × (bit P v (lowestFree P v) ≡ 0)
+  lowest-there = chosen (lowestFree P) P (lowest-chooser P) v (omega (arith, have, system-room P v S pos))
+
+  G : Good P v (λ p. 0)
+  G = good P v S
+
+  pub lowest-pos : 0 < lowestFree P v
+  lowest-pos = free-pos P v (λ p. 0) G D (lowest-there .0) (lowest-there .1)
+
+  pub unreserved-taken : unreserved (claim P v (lowestFree P v)) ≡ unreserved v
+  unreserved-taken = unreserved-claim P v (λ p. 0) G D (lowest-there .0) (lowest-there .1)
+
+  pub extend-is : (X k : ℕ) → 0 < X → (v₁ v₂ w : Vol) (d s : ℕ) → d ≡ lowestFree P v → s ≡ unreserved v → v₁ ≡ claim P v (lowestFree P v)
+      → v₂ ≡ put2 v₁ X (2 * k) d → w ≡ put2 v₂ 0 1022 (s - 1) → w ≡ extend (lowestFree P) P v X k
+  unfolding extend setSlot
+  extend-is X k hx v₁ v₂ w d s ed es e₁ e₂ e₃ =
+      let y : Vol = put2 (taken P v) X (2 * k) D in
+      e₃ ∙ ap (λ (x : Vol). put2 x 0 1022 (s - 1)) (e₂ ∙ ap₂ (λ (x : Vol) (z : ℕ). put2 x X (2 * k) z) e₁ ed)
+      ∙ pay-is y s 1 (es ∙ sym (unreserved-page (taken P v) X (2 * k) D hx ∙ unreserved-taken))
+
+  pub raise-is : (v₁ v₂ v₃ w : Vol) (d s t p : ℕ) → d ≡ lowestFree P v → s ≡ unreserved v → t ≡ page (v 0) 1016 → p ≡ pointer 2 d → v₁ ≡ claim P v (lowestFree P v)
+      → v₂ ≡ put2 v₁ d 0 t → v₃ ≡ put2 v₂ 0 1016 p → w ≡ put2 v₃ 0 1022 (s - 1) → w ≡ raised (lowestFree P) P v
+  unfolding raised setSlot
+  raise-is v₁ v₂ v₃ w d s t p ed es et ep e₁ e₂ e₃ e₄ =
+      let T : ℕ = page (v 0) 1016 in
+      let y₂ : Vol = put2 (taken P v) D 0 T in
+      let y₃ : Vol = put2 y₂ 0 1016 (pointer 2 D) in
+      let a₂ : v₂ ≡ y₂ = e₂ ∙ ap (λ (x : Vol). put2 x d 0 t) e₁ ∙ ap₂ (λ (a b : ℕ). put2 (taken P v) a 0 b) ed et in
+      let a₃ : v₃ ≡ y₃ = e₃ ∙ ap₂ (λ (x : Vol) (z : ℕ). put2 x 0 1016 z) a₂ (ep ∙ ap (pointer 2) ed) in
+      e₄ ∙ ap (λ (x : Vol). put2 x 0 1022 (s - 1)) a₃
+      ∙ pay-is y₃ s 1 (es ∙ sym (unreserved-below y₂ 0 1016 (pointer 2 D) (omega arith) ∙ unreserved-page (taken P v) D 0 T lowest-pos ∙ unreserved-taken))
+
+-- ---- three pages
+
+module _ (P : ℕ) (v : Vol) (S : Sound P v) (pos : 0 < P) (have : 3 ≤ unreserved v) where
+  abbrev D₁ : ℕ
+  D₁ = lowestFree P v
+
+  abbrev V₁ : Vol
+  V₁ = claim P v D₁
+
+  abbrev D₂ : ℕ
+  D₂ = lowestFree P V₁
+
+  abbrev V₂ : Vol
+  V₂ = claim P V₁ D₂
+
+  abbrev D₃ : ℕ
+  D₃ = lowestFree P V₂
+
+  abbrev V₃ : Vol
+  V₃ = claim P V₂ D₃
+
+  rooms : 3 ≤ free P v
+  rooms = omega (arith, have, system-room P v S pos)
+
+  pub first-there : (lowestFree P v < P) × (bit P v (lowestFree P v) ≡ 0)
+  first-there = lowest-there P v S pos (omega (arith, have))
+
+  H₀ : Good P v (λ p. 0)
+  H₀ = good P v S
+
+  H₁ : Good P V₁ (λ p. 0 + hit D₁ p)
+  H₁ = claim-good P v (λ p. 0) H₀ D₁ (first-there .0) (first-there .1)
+
+  second-there : (D₂ < P) × (bit P V₁ D₂ ≡ 0)
+  second-there = chosen (lowestFree P) P (lowest-chooser P) V₁ (omega (arith, rooms, claim-free P v (λ p. 0) H₀ D₁ (first-there .0) (first-there .1)))
+
+  H₂ : Good P V₂ (λ p. 0 + hit D₁ p + hit D₂ p)
+  H₂ = claim-good P V₁ (λ p. 0 + hit D₁ p) H₁ D₂ (second-there .0) (second-there .1)
+
+  third-there : (D₃ < P) × (bit P V₂ D₃ ≡ 0)
+  third-there = chosen (lowestFree P) P (lowest-chooser P) V₂ (omega (
+    arith,
+    rooms,
+    claim-free P v (λ p. 0) H₀ D₁ (first-there .0) (first-there .1),
+    claim-free P V₁ (λ p. 0 + hit D₁ p) H₁ D₂ (second-there .0) (second-there .1),
+  ))
+
+  pos₁ : 0 < D₁
+  pos₁ = free-pos P v (λ p. 0) H₀ D₁ (first-there .0) (first-there .1)
+
+  pos₂ : 0 < D₂
+  pos₂ = free-pos P V₁ (λ p. 0 + hit D₁ p) H₁ D₂ (second-there .0) (second-there .1)
+
+  pub second-take : (b : ℕ) → BitsAt P v b → (w : Vol) → w ≡ claim P v (lowestFree P v) → BitsAt P w b × (lowestFree P w < P)
+  second-take b B w e = subst (λ (x : Vol). BitsAt P x b × (lowestFree P x < P)) (sym e) (bits-claim P v b D₁ pos₁ (first-there .0) B, second-there .0)
+
+  again : (w x : Vol) → w ≡ V₁ → x ≡ claim P w (lowestFree P w) → x ≡ V₂
+  again w x e f = f ∙ ap (taken P) e
+
+  pub third-take : (b : ℕ) → BitsAt P v b → (w x : Vol) → w ≡ claim P v (lowestFree P v) → x ≡ claim P w (lowestFree P w) → BitsAt P x b × (lowestFree P x < P)
+  third-take b B w x e f = subst (λ (y : Vol). BitsAt P y b × (lowestFree P y < P)) (sym (again w x e f))
+      (bits-claim P V₁ b D₂ pos₂ (second-there .0) (bits-claim P v b D₁ pos₁ (first-there .0) B), third-there .0)
+
+  pub start-is : (w₁ w₂ w₃ x₁ x₂ x₃ w : Vol) (i q o s p r : ℕ) → i ≡ lowestFree P v → q ≡ lowestFree P w₁ → o ≡ lowestFree P w₂ → s ≡ unreserved v → p ≡ pointer 1 i → r ≡ pointer 1 o
+      → w₁ ≡ claim P v (lowestFree P v) → w₂ ≡ claim P w₁ (lowestFree P w₁) → w₃ ≡ claim P w₂ (lowestFree P w₂)
+      → x₁ ≡ put2 w₃ 0 1018 p → x₂ ≡ put2 x₁ 0 1016 r → x₃ ≡ put2 x₂ i 0 q → w ≡ put2 x₃ 0 1022 (s - 3) → w ≡ started (lowestFree P) P v
+  unfolding started setSlot
+  start-is w₁ w₂ w₃ x₁ x₂ x₃ w i q o s p r ei eq eo es ep er e₁ e₂ e₃ f₁ f₂ f₃ f₄ =
+      let y₁ : Vol = put2 V₃ 0 1018 (pointer 1 D₁) in
+      let y₂ : Vol = put2 y₁ 0 1016 (pointer 1 D₃) in
+      let y₃ : Vol = put2 y₂ D₁ 0 D₂ in
+      let a₂ : w₂ ≡ V₂ = again w₁ w₂ e₁ e₂ in
+      let a₃ : w₃ ≡ V₃ = e₃ ∙ ap (taken P) a₂ in
+      let b₁ : x₁ ≡ y₁ = f₁ ∙ ap₂ (λ (x : Vol) (z : ℕ). put2 x 0 1018 z) a₃ (ep ∙ ap (pointer 1) ei) in
+      let b₂ : x₂ ≡ y₂ = f₂ ∙ ap₂ (λ (x : Vol) (z : ℕ). put2 x 0 1016 z) b₁ (er ∙ ap (pointer 1) (eo ∙ ap (lowestFree P) a₂)) in
+      let b₃ : x₃ ≡ y₃ = f₃ ∙ ap (λ (x : Vol). put2 x i 0 q) b₂ ∙ ap₂ (λ (a c : ℕ). put2 y₂ a 0 c) ei (eq ∙ ap (lowestFree P) e₁) in
+      let u₁ : unreserved V₁ ≡ unreserved v = unreserved-claim P v (λ p. 0) H₀ D₁ (first-there .0) (first-there .1) in
+      let u₂ : unreserved V₂ ≡ unreserved V₁ = unreserved-claim P V₁ (λ p. 0 + hit D₁ p) H₁ D₂ (second-there .0) (second-there .1) in
+      let u₃ : unreserved V₃ ≡ unreserved V₂ = unreserved-claim P V₂ (λ p. 0 + hit D₁ p + hit D₂ p) H₂ D₃ (third-there .0) (third-there .1) in
+      f₄ ∙ ap (λ (x : Vol). put2 x 0 1022 (s - 3)) b₃
+      ∙ pay-is y₃ s 3 (es ∙ sym (unreserved-page y₂ D₁ 0 D₂ pos₁ ∙ unreserved-below y₁ 0 1016 (pointer 1 D₃) (omega arith) ∙ unreserved-below V₃ 0 1018 (pointer 1 D₁) (omega arith) ∙ u₃ ∙ u₂ ∙ u₁))

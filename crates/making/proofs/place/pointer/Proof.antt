@@ -1,0 +1,22 @@
+-- `making::place::pointer` meets its contract. Assumes nothing.
+use Rattle.book.specs.Pointers.{pointer}
+use borrow.Author.Needs.{needs}
+use native.Mathlib.Omega.{arith}
+use Rattle.making.proofs.place.pointer.Statement.{statement}
+use Rattle.making.proofs.place.pointer.Tie as tie
+
+mul-result : tie.Need-mul-result
+mul-result c = search needs
+
+cast-result : tie.Need-cast-result
+cast-result c = search needs
+
+add-result : tie.Need-add-result
+add-result c = search needs
+
+returns : tie.Need-returns
+unfolding pointer
+returns c = omega arith
+
+pub pointer-spec : {M : Type 1} → statement M
+pointer-spec = tie.close (tie.spec mul-result cast-result add-result returns)

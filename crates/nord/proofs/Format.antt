@@ -1,0 +1,48 @@
+-- How format comes back: refused with 1 or 2, or done. Assumes nothing.
+use mathlib.Core.Path.{_≡_, refl}
+use mathlib.Core.Logic.{inl, inr}
+use mathlib.Core.List.{List}
+use Prim.Native.Nat.{ℕ, _<_}
+use native.Mathlib.Omega.{arith}
+use lib.ListN.{length}
+use Rattle.book.specs.Words.{vol}
+use Rattle.book.specs.Bits.{bitPages}
+use Rattle.book.specs.Names.{NameText}
+use Rattle.book.specs.Format.{format}
+use Rattle.book.specs.Image.{pages, Whole, BitArg}
+use Rattle.book.specs.Rows.{Lowest, Clear}
+use Rattle.book.specs.Answers.{doneWith, refusedWith}
+use Rattle.book.specs.Outcome.{Outcome, RuleFor}
+use Rattle.book.specs.Calls.{formatCall}
+use Rattle.book.specs.declared.Refusal.the-variants.{Size, Argument}
+
+-- the bit file is one page
+module _ (img : List ℕ) (b : ℕ) (W : Whole img) (P : ℕ) (p : P ≡ pages img) where
+  pub bit-arg : 0 < b → b < P → BitArg (pages img) b
+  unfolding bitPages
+  bit-arg h k = (h, omega (arith, W .most, W .least, p, k))
+
+  bit-low : BitArg (pages img) b → b < P
+  unfolding bitPages
+  bit-low a = omega (arith, W .most, W .least, p, a .1)
+
+module _ (img name : List ℕ) (b : ℕ) where
+  pub format-size : (Whole img → ⊥) → Outcome (formatCall img name b) img (refusedWith 0 Size) img
+  unfolding Outcome RuleFor formatCall Lowest
+  format-size h = inl record { number = inl (refl, h); value = refl; rule = (λ e. let z : ⊥ = omega (arith, e) in absurd z, λ e. refl); image = refl }
+
+  module _ (W : Whole img) (P : ℕ) (p : P ≡ pages img) where
+    pub format-argument : (NameText name × (0 < b) × (b < P) → ⊥) → Outcome (formatCall img name b) img (refusedWith 0 Argument) img
+    unfolding Outcome RuleFor formatCall Lowest
+    format-argument h =
+        inl record {
+          number = inr (W, inl (refl, λ a. h (a .0, a .1 .0, bit-low img b W P p (a .1))));
+          value = refl;
+          rule = (λ e. let z : ⊥ = omega (arith, e) in absurd z, λ e. refl);
+          image = refl;
+        }
+
+    pub format-done :
+        NameText name × (0 < b) × (b < P) → (img′ : List ℕ) → vol img′ ≡ format (pages img) (vol img) name b → length img′ ≡ length img → Outcome (formatCall img name b) img (doneWith 0) img′
+    unfolding Outcome formatCall Clear
+    format-done a img′ e l = inr record { number = refl; clear = (W, ((a .0, bit-arg img b W P p (a .1) (a .2)), tt)); value = refl; rule = refl; image = e; size = l }
