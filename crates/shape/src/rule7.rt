@@ -12,13 +12,13 @@ ghost use Rattle.book.specs.Image.{pages, Whole};
 ghost use Rattle.book.specs.Rules.{Rule2, Rule5, Rule7};
 ghost use Rattle.book.specs.Words.{vol};
 ghost use Rattle.shape.specs.Objects.{ObjectsAt, Positions};
-ghost use Rattle.shape.specs.Seen.{Judging, Judged};
+ghost use Rattle.shape.specs.Seen.{Testing, Tested};
 ghost use Rattle.shape.specs.Shapes.{FilesRight};
 
 // Whether the files are right whose entries are on object page q, the one at position n.
 fn page_ok(img: &[u16], total: usize, seen: &mut [u16; 1024], q: usize, n: usize) -> bool
-    requires { ⌜ Judging (now img) total (now seen) × (q < pages (now img)) × (n < 2048) × (q ≡ objectPage (vol (now img)) (32 * n)) ⌝ }
-    ensures { λ r. ⌜ Judged (now (img .entry)) (FilesRight (pages (now (img .entry))) (vol (now (img .entry))) (32 * n) (32 * n + 32)) (now (seen .exit)) r ⌝ }
+    requires { ⌜ Testing (now img) total (now seen) × (q < pages (now img)) × (n < 2048) × (q ≡ objectPage (vol (now img)) (32 * n)) ⌝ }
+    ensures { λ r. ⌜ Tested (now (img .entry)) (FilesRight (pages (now (img .entry))) (vol (now (img .entry))) (32 * n) (32 * n + 32)) (now (seen .exit)) r ⌝ }
 {
     let e = 32 * n;
     let mut k: usize = 0;
@@ -40,8 +40,8 @@ fn position_ok(
     top: usize,
     n: usize,
 ) -> bool
-    requires { ⌜ Judging (now img) total (now seen) × ObjectsAt (now img) flags top × (n < 2048) ⌝ }
-    ensures { λ r. ⌜ Judged (now (img .entry)) (FilesRight (pages (now (img .entry))) (vol (now (img .entry))) (32 * n) (32 * n + 32)) (now (seen .exit)) r ⌝ }
+    requires { ⌜ Testing (now img) total (now seen) × ObjectsAt (now img) flags top × (n < 2048) ⌝ }
+    ensures { λ r. ⌜ Tested (now (img .entry)) (FilesRight (pages (now (img .entry))) (vol (now (img .entry))) (32 * n) (32 * n + 32)) (now (seen .exit)) r ⌝ }
 {
     let q = root_page(img, flags, top, 0, n);
     if q == 0 {
