@@ -5,7 +5,7 @@ use Prim.Native.Nat.{ℕ, zero, suc, _+_, _*_, _<_}
 use native.Mathlib.Nat.{eq-zero-or-pos}
 use native.Mathlib.Omega.{arith}
 use Rattle.sums.specs.Search.{pick, pick-yes, pick-no}
-use Rattle.sums.specs.Sum.{sum, sum-zero, sum-none, sum-ext, sum-const}
+use Rattle.sums.specs.Sum.{sum, sum-zero, sum-none, sum-ext}
 use Rattle.book.specs.Entries.{object, used, pageCount, filePointer}
 use Rattle.book.specs.Files.{cost, fileAt, Shape, FileShape}
 use Rattle.book.specs.Holders.{some, mine}
@@ -15,9 +15,9 @@ use Rattle.book.specs.Trees.{Root, rootAt, rootBy, weighR}
 use Rattle.book.specs.Words.{Words, Vol}
 use Rattle.laws.specs.Cost.{fill-1, fill-2}
 use Rattle.laws.specs.Count.{file-unused}
+use Rattle.laws.specs.Counts.{run-count}
 use Rattle.laws.specs.Reach.{file-used}
 use Rattle.laws.specs.Several.{sum-rows}
-use Rattle.laws.specs.Tree.{some-pos}
 
 -- the pages of a file of n pages, by the flags of its pointer: a run has no blocks
 unfoldable pub charge : ℕ → ℕ → ℕ
@@ -32,7 +32,7 @@ module _ (P : ℕ) (v : Vol) where
   pub shape-pages : (x t n : ℕ) → Shape P v x t n → weighR v (rootBy x t n) some ≡ charge x n
   unfolding Shape rootBy weighR charge cost
   shape-pages zero t n (inl a) = sum-none n (λ i. some (t + i)) (λ i h. absurd (let z : ⊥ = omega (arith, a) in z)) ∙ sym (a .0)
-  shape-pages zero t n (inr a) = sum-ext n (λ i. some (t + i)) (λ i. 1) (λ i h. some-pos (t + i) (omega (arith, a .1))) ∙ omega (arith, sum-const n 1)
+  shape-pages zero t n (inr a) = run-count v t n (a .1)
   shape-pages (suc zero) t n a = fill-1 v t n (a .1) (a .2) ∙ omega (arith, a .0, a .1)
   shape-pages (suc (suc zero)) t n a = fill-2 v t n (a .0) (a .1) (a .2)
   shape-pages (suc (suc (suc x))) t n a = absurd a

@@ -13,7 +13,7 @@ use Rattle.book.specs.Decides.{Decides, holds, fails}
 use Rattle.book.specs.Image.{pages}
 use Rattle.book.specs.Words.{Vol, vol}
 use Rattle.book.specs.Written.{digit-le, digit-other}
-use Rattle.shape.specs.Seen.{noted, Noting, Known, Judged}
+use Rattle.shape.specs.Seen.{noted, Noting, Known, Tested}
 use Rattle.shape.specs.Shapes.{Filled}
 
 -- ---- nothing noted
@@ -81,38 +81,38 @@ clash : (A : Type 0) → _≡_ {A = Bool} false true → A
 clash A e = let z : _≡_ {A = ℕ} 0 1 = cc in absurd (omega arith)
 
 module _ (img : List ℕ) (A : Type 0) (after : List ℕ) where
-  pub judged-no : (A → ⊥) → Judged img A after false
-  judged-no h = record { decides = h; kept = clash _ }
+  pub tested-no : (A → ⊥) → Tested img A after false
+  tested-no h = record { decides = h; kept = clash _ }
 
-  pub judged-yes : A → Known (pages img) (vol img) after → Judged img A after true
-  judged-yes a k = record { decides = a; kept = λ e. k }
+  pub tested-yes : A → Known (pages img) (vol img) after → Tested img A after true
+  tested-yes a k = record { decides = a; kept = λ e. k }
 
   module _ (r : Bool) where
     -- the memory is right whatever is answered
-    pub judged-by : Decides r A → Known (pages img) (vol img) after → Judged img A after r
-    judged-by d k = record { decides = d; kept = λ e. k }
+    pub tested-by : Decides r A → Known (pages img) (vol img) after → Tested img A after r
+    tested-by d k = record { decides = d; kept = λ e. k }
 
     -- after `if !test { return .. }`, and within it
-    pub passed : Judged img A after r → not r ≡ false → A × Known (pages img) (vol img) after
+    pub passed : Tested img A after r → not r ≡ false → A × Known (pages img) (vol img) after
     passed d e = (holds r A (d .decides) e, d .kept (not-false r e))
 
-    pub failed : Judged img A after r → not r ≡ true → A → ⊥
+    pub failed : Tested img A after r → not r ≡ true → A → ⊥
     failed d e = fails r A (d .decides) e
 
     -- a test of one fact that decides another
-    pub judged-as : (B : Type 0) → (Decides r A → Decides r B) → Judged img A after r → Judged img B after r
-    judged-as B f d = record { decides = f (d .decides); kept = d .kept }
+    pub tested-as : (B : Type 0) → (Decides r A → Decides r B) → Tested img A after r → Tested img B after r
+    tested-as B f d = record { decides = f (d .decides); kept = d .kept }
 
 -- a full index block, noted before it is read
 module _ (img : List ℕ) (b n : ℕ) (full : n ≡ 512) (seen after : List ℕ) (s : Bool) (k : Known (pages img) (vol img) seen) (d : Noting seen b after s) where
   abbrev Index : ℕ → Type 0
   Index m = Filled (pages img) (vol img) 1 b m
 
-  pub once-old : not s ≡ true → Judged img (Index n) after true
+  pub once-old : not s ≡ true → Tested img (Index n) after true
   once-old e =
       let f : Index 512 = known-old _ _ seen b after s k d e in
-      judged-yes img (Index n) after (subst Index (sym full) f) (known-more _ _ seen b after s k d f)
+      tested-yes img (Index n) after (subst Index (sym full) f) (known-more _ _ seen b after s k d f)
 
-  pub once-new : (r : Bool) → Decides r (Index n) → Judged img (Index n) after r
-  once-new true f = judged-yes img (Index n) after f (known-more _ _ seen b after s k d (subst Index full f))
-  once-new false f = judged-no img (Index n) after f
+  pub once-new : (r : Bool) → Decides r (Index n) → Tested img (Index n) after r
+  once-new true f = tested-yes img (Index n) after f (known-more _ _ seen b after s k d (subst Index full f))
+  once-new false f = tested-no img (Index n) after f

@@ -15,7 +15,7 @@ use Rattle.laws.specs.Reach.{below-objects}
 use Rattle.tree.specs.Reach.{entryIn}
 use Rattle.tree.proofs.Entries.{object-in, absent-word}
 use Rattle.tree.proofs.Reach.{reach-same, root-read, page-read}
-use Rattle.shape.specs.Objects.{ObjectsAt}
+use Rattle.shape.specs.Objects.{ObjectsAt, Positions}
 use Rattle.shape.specs.Shapes.{EntryRight, FilesRight}
 
 -- as code reads its pointer: flags x and page t
@@ -74,10 +74,16 @@ module _ (P : ℕ) (v : Vol) where
     | no l ↦ g e (omega arith) (omega arith)
   ]
 
-  pub right-all : FilesRight P v 0 65536 → Rule7 P v
-  unfolding Rule7
-  right-all f e h = f e h zero-le
-
   pub all-right : Rule7 P v → (a z : ℕ) → z ≤ 65536 → FilesRight P v a z
   unfolding Rule7
   all-right r a z m e h i = r e (omega arith)
+
+-- the files of the positions that an object file can have are all
+pub right-all : (img : List ℕ) (x t m : ℕ) → ObjectsAt img x t → Positions x m → FilesRight (pages img) (vol img) 0 (32 * m) → Rule7 (pages img) (vol img)
+unfolding Rule7
+right-all img x t m o p f e h = elim (decLt e (32 * m)) [
+  | yes l ↦ f e l zero-le
+  | no l ↦
+      let n : ℕ = e / 32 in
+      right-absent (pages img) (vol img) n _ (object-page-at img x t o n (pageAt (vol img) (rootBy x t 0) n) refl) (p .1 (vol img) t n (omega arith) (omega arith)) e (omega arith) (omega arith)
+]

@@ -27,12 +27,12 @@ pub record Known (P : ℕ) (v : Vol) (seen : List ℕ) : Type 0 where
 -- ---- tests with a memory
 
 -- what they ask: an image of `total` whole pages, and a memory that is right
-pub record Judging (img : List ℕ) (total : ℕ) (seen : List ℕ) : Type 0 where
+pub record Testing (img : List ℕ) (total : ℕ) (seen : List ℕ) : Type 0 where
   pub whole : Whole img
   pub count : total ≡ pages img
   pub known : Known (pages img) (vol img) seen
 
 -- what they answer: r decides A, and where it is yes the memory afterwards is right
-pub record Judged (img : List ℕ) (A : Type 0) (after : List ℕ) (r : Bool) : Type 0 where
+pub record Tested (img : List ℕ) (A : Type 0) (after : List ℕ) (r : Bool) : Type 0 where
   pub decides : Decides r A
   pub kept : r ≡ true → Known (pages img) (vol img) after

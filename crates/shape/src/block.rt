@@ -8,7 +8,7 @@ ghost use lib.ListN.{length};
 ghost use Rattle.book.specs.Decides.{Decides};
 ghost use Rattle.book.specs.Image.{pages, Whole};
 ghost use Rattle.book.specs.Words.{vol};
-ghost use Rattle.shape.specs.Seen.{Judging, Judged};
+ghost use Rattle.shape.specs.Seen.{Testing, Tested};
 ghost use Rattle.shape.specs.Shapes.{Filled, Linked, Unlinked, Indexes, shareOf};
 
 // Whether a page number is in 1..total-1.
@@ -95,8 +95,8 @@ fn share(n: usize, k: usize) -> usize
 
 // Whether page b is an index block of n pages; a full one that was found right before is not read again.
 pub fn index_once(img: &[u16], total: usize, seen: &mut [u16; 1024], b: usize, n: usize) -> bool
-    requires { ⌜ Judging (now img) total (now seen) × (0 < n) × (n ≤ 512) ⌝ }
-    ensures { λ r. ⌜ Judged (now (img .entry)) (Filled (pages (now (img .entry))) (vol (now (img .entry))) 1 b n) (now (seen .exit)) r ⌝ }
+    requires { ⌜ Testing (now img) total (now seen) × (0 < n) × (n ≤ 512) ⌝ }
+    ensures { λ r. ⌜ Tested (now (img .entry)) (Filled (pages (now (img .entry))) (vol (now (img .entry))) 1 b n) (now (seen .exit)) r ⌝ }
 {
     if n < 512 {
         return index_ok(img, total, b, n);
@@ -119,8 +119,8 @@ fn indexes_ok(
     n: usize,
     m: usize,
 ) -> bool
-    requires { ⌜ Judging (now img) total (now seen) × (length (now block) ≡ 1024) × (n ≤ 262144) × (m ≡ (n + 511) / 512) ⌝ }
-    ensures { λ r. ⌜ Judged (now (img .entry)) (Indexes (pages (now (img .entry))) (vol (now (img .entry))) (now (block .entry)) n m) (now (seen .exit)) r ⌝ }
+    requires { ⌜ Testing (now img) total (now seen) × (length (now block) ≡ 1024) × (n ≤ 262144) × (m ≡ (n + 511) / 512) ⌝ }
+    ensures { λ r. ⌜ Tested (now (img .entry)) (Indexes (pages (now (img .entry))) (vol (now (img .entry))) (now (block .entry)) n m) (now (seen .exit)) r ⌝ }
 {
     let mut k: usize = 0;
     while k < m {
@@ -140,8 +140,8 @@ fn subindex_block(
     block: &[u16],
     n: usize,
 ) -> bool
-    requires { ⌜ Judging (now img) total (now seen) × (length (now block) ≡ 1024) × (n ≤ 262144) ⌝ }
-    ensures { λ r. ⌜ Judged (now (img .entry)) (Indexes (pages (now (img .entry))) (vol (now (img .entry))) (now (block .entry)) n ((n + 511) / 512)
+    requires { ⌜ Testing (now img) total (now seen) × (length (now block) ≡ 1024) × (n ≤ 262144) ⌝ }
+    ensures { λ r. ⌜ Tested (now (img .entry)) (Indexes (pages (now (img .entry))) (vol (now (img .entry))) (now (block .entry)) n ((n + 511) / 512)
         × Unlinked (now (block .entry)) ((n + 511) / 512) 512) (now (seen .exit)) r ⌝ }
 {
     let m = (n + 511) / 512;
@@ -153,8 +153,8 @@ fn subindex_block(
 
 // Whether page t is a subindex block of n pages.
 pub fn subindex_ok(img: &[u16], total: usize, seen: &mut [u16; 1024], t: usize, n: usize) -> bool
-    requires { ⌜ Judging (now img) total (now seen) × (512 < n) × (n ≤ 262144) ⌝ }
-    ensures { λ r. ⌜ Judged (now (img .entry)) (Filled (pages (now (img .entry))) (vol (now (img .entry))) 2 t n) (now (seen .exit)) r ⌝ }
+    requires { ⌜ Testing (now img) total (now seen) × (512 < n) × (n ≤ 262144) ⌝ }
+    ensures { λ r. ⌜ Tested (now (img .entry)) (Filled (pages (now (img .entry))) (vol (now (img .entry))) 2 t n) (now (seen .exit)) r ⌝ }
 {
     if t == 0 {
         return false;

@@ -13,7 +13,7 @@ ghost use Rattle.book.specs.Files.{Shape, Empty, Contiguous, Indexed, Subindexe
 ghost use Rattle.book.specs.Image.{pages};
 ghost use Rattle.book.specs.Words.{vol};
 ghost use Rattle.tree.specs.Reach.{entryIn};
-ghost use Rattle.shape.specs.Seen.{Judging, Judged};
+ghost use Rattle.shape.specs.Seen.{Testing, Tested};
 ghost use Rattle.shape.specs.Shapes.{Shaped, EntryRight};
 
 // Whether a pointer without flags to page t is that of a file of n pages: an empty or a contiguous one.
@@ -32,8 +32,8 @@ fn run_ok(total: usize, t: usize, n: usize) -> bool
 
 // Whether page t is the index block of a file of n pages.
 fn indexed_ok(img: &[u16], total: usize, seen: &mut [u16; 1024], t: usize, n: usize) -> bool
-    requires { ⌜ Judging (now img) total (now seen) ⌝ }
-    ensures { λ r. ⌜ Judged (now (img .entry)) (Indexed (pages (now (img .entry))) (vol (now (img .entry))) t n) (now (seen .exit)) r ⌝ }
+    requires { ⌜ Testing (now img) total (now seen) ⌝ }
+    ensures { λ r. ⌜ Tested (now (img .entry)) (Indexed (pages (now (img .entry))) (vol (now (img .entry))) t n) (now (seen .exit)) r ⌝ }
 {
     if n == 0 {
         return false;
@@ -46,8 +46,8 @@ fn indexed_ok(img: &[u16], total: usize, seen: &mut [u16; 1024], t: usize, n: us
 
 // Whether page t is the subindex block of a file of n pages.
 fn subindexed_ok(img: &[u16], total: usize, seen: &mut [u16; 1024], t: usize, n: usize) -> bool
-    requires { ⌜ Judging (now img) total (now seen) ⌝ }
-    ensures { λ r. ⌜ Judged (now (img .entry)) (Subindexed (pages (now (img .entry))) (vol (now (img .entry))) t n) (now (seen .exit)) r ⌝ }
+    requires { ⌜ Testing (now img) total (now seen) ⌝ }
+    ensures { λ r. ⌜ Tested (now (img .entry)) (Subindexed (pages (now (img .entry))) (vol (now (img .entry))) t n) (now (seen .exit)) r ⌝ }
 {
     if n <= 512 {
         return false;
@@ -67,8 +67,8 @@ fn shape_ok(
     t: usize,
     n: usize,
 ) -> bool
-    requires { ⌜ Judging (now img) total (now seen) × (t < 4294967296) × (n < 4294967296) ⌝ }
-    ensures { λ r. ⌜ Judged (now (img .entry)) (Shape (pages (now (img .entry))) (vol (now (img .entry))) flags t n) (now (seen .exit)) r ⌝ }
+    requires { ⌜ Testing (now img) total (now seen) × (t < 4294967296) × (n < 4294967296) ⌝ }
+    ensures { λ r. ⌜ Tested (now (img .entry)) (Shape (pages (now (img .entry))) (vol (now (img .entry))) flags t n) (now (seen .exit)) r ⌝ }
 {
     if flags == 0 {
         return run_ok(total, t, n);
@@ -91,8 +91,8 @@ fn bytes_ok(n: u32, bytes: u32) -> bool
 
 // Whether the file in entry e on page q has one of the shapes, its bytes right, all its pages in 1..total-1.
 fn file_ok(img: &[u16], total: usize, seen: &mut [u16; 1024], q: usize, e: usize) -> bool
-    requires { ⌜ Judging (now img) total (now seen) × (q < pages (now img)) ⌝ }
-    ensures { λ r. ⌜ Judged (now (img .entry)) (Shaped (pages (now (img .entry))) (vol (now (img .entry))) (entryIn (vol (now (img .entry))) q e)) (now (seen .exit)) r ⌝ }
+    requires { ⌜ Testing (now img) total (now seen) × (q < pages (now img)) ⌝ }
+    ensures { λ r. ⌜ Tested (now (img .entry)) (Shaped (pages (now (img .entry))) (vol (now (img .entry))) (entryIn (vol (now (img .entry))) q e)) (now (seen .exit)) r ⌝ }
 {
     let n = entry_two(img, q, e, 26);
     if !bytes_ok(n, entry_two(img, q, e, 28)) {
@@ -105,8 +105,8 @@ fn file_ok(img: &[u16], total: usize, seen: &mut [u16; 1024], q: usize, e: usize
 
 // Whether entry e on page q is unused, or its file is right.
 pub fn entry_ok(img: &[u16], total: usize, seen: &mut [u16; 1024], q: usize, e: usize) -> bool
-    requires { ⌜ Judging (now img) total (now seen) × (q < pages (now img)) ⌝ }
-    ensures { λ r. ⌜ Judged (now (img .entry)) (EntryRight (pages (now (img .entry))) (vol (now (img .entry))) (entryIn (vol (now (img .entry))) q e)) (now (seen .exit)) r ⌝ }
+    requires { ⌜ Testing (now img) total (now seen) × (q < pages (now img)) ⌝ }
+    ensures { λ r. ⌜ Tested (now (img .entry)) (EntryRight (pages (now (img .entry))) (vol (now (img .entry))) (entryIn (vol (now (img .entry))) q e)) (now (seen .exit)) r ⌝ }
 {
     if !entry_used(img, q, e) {
         return true;

@@ -11,14 +11,14 @@ ghost use Rattle.book.specs.Entries.{objectPage};
 ghost use Rattle.book.specs.Image.{pages, Whole};
 ghost use Rattle.book.specs.Rules.{Rule2, Rule5, Rule7};
 ghost use Rattle.book.specs.Words.{vol};
-ghost use Rattle.shape.specs.Objects.{ObjectsAt};
-ghost use Rattle.shape.specs.Seen.{Judging, Judged};
+ghost use Rattle.shape.specs.Objects.{ObjectsAt, Positions};
+ghost use Rattle.shape.specs.Seen.{Testing, Tested};
 ghost use Rattle.shape.specs.Shapes.{FilesRight};
 
 // Whether the files are right whose entries are on object page q, the one at position n.
 fn page_ok(img: &[u16], total: usize, seen: &mut [u16; 1024], q: usize, n: usize) -> bool
-    requires { ⌜ Judging (now img) total (now seen) × (q < pages (now img)) × (n < 2048) × (q ≡ objectPage (vol (now img)) (32 * n)) ⌝ }
-    ensures { λ r. ⌜ Judged (now (img .entry)) (FilesRight (pages (now (img .entry))) (vol (now (img .entry))) (32 * n) (32 * n + 32)) (now (seen .exit)) r ⌝ }
+    requires { ⌜ Testing (now img) total (now seen) × (q < pages (now img)) × (n < 2048) × (q ≡ objectPage (vol (now img)) (32 * n)) ⌝ }
+    ensures { λ r. ⌜ Tested (now (img .entry)) (FilesRight (pages (now (img .entry))) (vol (now (img .entry))) (32 * n) (32 * n + 32)) (now (seen .exit)) r ⌝ }
 {
     let e = 32 * n;
     let mut k: usize = 0;
@@ -40,14 +40,27 @@ fn position_ok(
     top: usize,
     n: usize,
 ) -> bool
-    requires { ⌜ Judging (now img) total (now seen) × ObjectsAt (now img) flags top × (n < 2048) ⌝ }
-    ensures { λ r. ⌜ Judged (now (img .entry)) (FilesRight (pages (now (img .entry))) (vol (now (img .entry))) (32 * n) (32 * n + 32)) (now (seen .exit)) r ⌝ }
+    requires { ⌜ Testing (now img) total (now seen) × ObjectsAt (now img) flags top × (n < 2048) ⌝ }
+    ensures { λ r. ⌜ Tested (now (img .entry)) (FilesRight (pages (now (img .entry))) (vol (now (img .entry))) (32 * n) (32 * n + 32)) (now (seen .exit)) r ⌝ }
 {
     let q = root_page(img, flags, top, 0, n);
     if q == 0 {
         return true;
     }
     page_ok(img, total, seen, q, n)
+}
+
+// How many pages an object file whose pointer has these flags can have.
+fn positions(flags: u16) -> usize
+    ensures { λ r. ⌜ Positions flags r ⌝ }
+{
+    if flags == 0 {
+        return 0;
+    }
+    if flags == 1 {
+        return 512;
+    }
+    2048
 }
 
 // Whether rule 7 holds.
@@ -57,9 +70,10 @@ pub fn rule7(img: &[u16], total: usize) -> bool
 {
     let flags = flags_at(img, 0, 1016);
     let top = page_at(img, 0, 1016) as usize;
+    let end = positions(flags);
     let mut seen = no_blocks();
     let mut n: usize = 0;
-    while n < 2048 {
+    while n < end {
         if !position_ok(img, total, &mut seen, flags, top, n) {
             return false;
         }

@@ -2,7 +2,7 @@ use Rattle.book.specs.Image.{pages}
 use Rattle.book.specs.Words.{vol}
 use Rattle.shape.specs.Shapes.{Filled}
 use Rattle.shape.proofs.Blocks.{filled-top}
-use Rattle.shape.proofs.Memory.{judged-no, once-old, once-new}
+use Rattle.shape.proofs.Memory.{tested-no, once-old, once-new}
 use native.Mathlib.Omega.{arith}
 use borrow.Author.Needs.{needs}
 use Rattle.shape.proofs.block.index_once.Statement.{statement}
@@ -17,7 +17,7 @@ returns c = search needs
 returns-2 : tie.Need-returns-2
 returns-2 c =
     let a = c .before .before .before .args in
-    judged-no (a .img .now) (Filled (pages (a .img .now)) (vol (a .img .now)) 1 (a .b) (a .n)) _ (λ f. omega (arith, filled-top _ (vol (a .img .now)) (a .n) (omega arith) 1 (a .b) f .1))
+    tested-no (a .img .now) (Filled (pages (a .img .now)) (vol (a .img .now)) 1 (a .b) (a .n)) _ (λ f. omega (arith, filled-top _ (vol (a .img .now)) (a .n) (omega arith) 1 (a .b) f .1))
 
 note-requires : tie.Need-note-requires
 note-requires c κs = search needs

@@ -6,7 +6,7 @@ use Rattle.book.specs.Words.{vol}
 use Rattle.shape.specs.Seen.{Known}
 use Rattle.shape.specs.Shapes.{Filled, Indexes}
 use Rattle.shape.proofs.Blocks.{pointer-read}
-use Rattle.shape.proofs.Memory.{judged-no, judged-yes, passed, failed}
+use Rattle.shape.proofs.Memory.{tested-no, tested-yes, passed, failed}
 use native.Mathlib.Omega.{arith}
 use Rattle.shape.proofs.block.indexes_ok.Statement.{statement}
 use Rattle.shape.proofs.block.indexes_ok.Tie as tie
@@ -41,7 +41,7 @@ returns : tie.Need-returns Inv-loop μ-loop
 returns c =
     let l = c .before .before .before .before .before .before .loop in let a = c .before .before .before .before .before .before .before .before .before .args in let P = pages (a .img .now) in let v = vol (a .img .now) in
     let x = pointer-read (a .block .now) (l .k) _ (c .before .before .before .dword .ensures .0) in let y = c .before .before .share .ensures .0 in
-    judged-no (a .img .now) (Indexes P v (a .block .now) (a .n) (a .m)) _ (λ all.
+    tested-no (a .img .now) (Indexes P v (a .block .now) (a .n) (a .m)) _ (λ all.
     failed _ _ _ (c .before .index-once .result) (c .before .index-once .ensures) (c .if1 .taken) (subst₂ (λ (p q : ℕ). Filled P v 1 p q) (sym x) (sym y) (all (l .k) (omega arith))))
 
 add-k : tie.Need-add-k Inv-loop μ-loop
@@ -60,7 +60,7 @@ loop-again c =
 returns-2 : tie.Need-returns-2 Inv-loop μ-loop
 returns-2 c =
     let l = c .before .loop in let a = c .before .before .before .before .args in
-    judged-yes (a .img .now) (Indexes (pages (a .img .now)) (vol (a .img .now)) (a .block .now) (a .n) (a .m)) _ (λ k h. l .inv .2 k (omega arith)) (l .inv .1)
+    tested-yes (a .img .now) (Indexes (pages (a .img .now)) (vol (a .img .now)) (a .block .now) (a .n) (a .m)) _ (λ k h. l .inv .2 k (omega arith)) (l .inv .1)
 
 pub indexes-ok-spec : {M : Type 1} → statement M
 indexes-ok-spec =

@@ -1,6 +1,6 @@
 use Rattle.book.specs.Decides.{holds, fails}
 use Rattle.page.proofs.Deciding.{decides-iff}
-use Rattle.shape.proofs.Memory.{judged-yes, judged-as}
+use Rattle.shape.proofs.Memory.{tested-yes, tested-as}
 use borrow.Author.Needs.{needs}
 use Rattle.shape.proofs.file.entry_ok.Statement.{statement}
 use Rattle.shape.proofs.file.entry_ok.Tie as tie
@@ -9,14 +9,14 @@ entry-used-requires : tie.Need-entry-used-requires
 entry-used-requires c κs = search needs
 
 returns : tie.Need-returns
-returns c = judged-yes _ _ _ (λ h. absurd (fails (c .before .entry-used .result) _ (c .before .entry-used .ensures) (c .if1 .taken) h)) (c .before .before .before .pre .0 .known)
+returns c = tested-yes _ _ _ (λ h. absurd (fails (c .before .entry-used .result) _ (c .before .entry-used .ensures) (c .if1 .taken) h)) (c .before .before .before .pre .0 .known)
 
 file-ok-requires : tie.Need-file-ok-requires
 file-ok-requires c κs = search needs
 
 returns-2 : tie.Need-returns-2
 returns-2 c =
-    judged-as _ _ _ (c .file-ok .result) _
+    tested-as _ _ _ (c .file-ok .result) _
     (decides-iff (c .file-ok .result) _ _ (λ s h. s) (λ s. s (holds (c .before .before .before .entry-used .result) _ (c .before .before .before .entry-used .ensures) (c .before .before .if1 .left)))) (c .file-ok .ensures)
 
 pub entry-ok-spec : {M : Type 1} → statement M

@@ -4,7 +4,7 @@ use Rattle.book.specs.Image.{pages}
 use Rattle.book.specs.Words.{vol}
 use Rattle.tree.specs.Reach.{entryIn}
 use Rattle.shape.proofs.Files.{wrong-bytes, decides-shaped}
-use Rattle.shape.proofs.Memory.{judged-no, judged-as}
+use Rattle.shape.proofs.Memory.{tested-no, tested-as}
 use borrow.Author.Needs.{needs}
 use Rattle.shape.proofs.file.file_ok.Statement.{statement}
 use Rattle.shape.proofs.file.file_ok.Tie as tie
@@ -21,7 +21,7 @@ bytes-ok-requires c κs = search needs
 returns : tie.Need-returns
 returns c =
     let a = c .before .before .before .before .before .args in let v = vol (a .img .now) in
-    judged-no _ _ _ (wrong-bytes (pages (a .img .now)) v (entryIn v (a .q) (a .e)) _ _ _ _ refl refl (c .before .before .before .entry-two .ensures .0) (c .before .before .entry-two2 .ensures .0)
+    tested-no _ _ _ (wrong-bytes (pages (a .img .now)) v (entryIn v (a .q) (a .e)) _ _ _ _ refl refl (c .before .before .before .entry-two .ensures .0) (c .before .before .entry-two2 .ensures .0)
     (fails (c .before .bytes-ok .result) _ (c .before .bytes-ok .ensures) (c .if1 .taken)))
 
 entry-flags-requires : tie.Need-entry-flags-requires
@@ -39,7 +39,7 @@ shape-ok-requires c κs = search needs
 returns-2 : tie.Need-returns-2
 returns-2 c =
     let a = c .before .before .before .before .before .before .before .before .before .args in let v = vol (a .img .now) in
-    judged-as _ _ _ (c .shape-ok .result) _ (decides-shaped (pages (a .img .now)) v (entryIn v (a .q) (a .e)) _ _ _ _ (c .before .before .before .entry-flags .ensures .0) (c .before .before .entry-page .ensures .0)
+    tested-as _ _ _ (c .shape-ok .result) _ (decides-shaped (pages (a .img .now)) v (entryIn v (a .q) (a .e)) _ _ _ _ (c .before .before .before .entry-flags .ensures .0) (c .before .before .entry-page .ensures .0)
     (c .before .before .before .before .before .before .before .entry-two .ensures .0) (c .before .before .before .before .before .before .entry-two2 .ensures .0) (c .shape-ok .result)
     (holds (c .before .before .before .before .before .bytes-ok .result) _ (c .before .before .before .before .before .bytes-ok .ensures) (c .before .before .before .before .if1 .left))) (c .shape-ok .ensures)
 

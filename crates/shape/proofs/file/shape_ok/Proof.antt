@@ -6,7 +6,7 @@ use Rattle.book.specs.Files.{Empty, Contiguous}
 use Rattle.book.specs.Image.{pages}
 use Rattle.book.specs.Words.{vol}
 use Rattle.shape.proofs.Files.{shape-0, shape-1, shape-2, shape-wrong}
-use Rattle.shape.proofs.Memory.{judged-no, judged-by, judged-as}
+use Rattle.shape.proofs.Memory.{tested-no, tested-by, tested-as}
 use native.Mathlib.Omega.{arith}
 use borrow.Author.Needs.{needs}
 use Rattle.shape.proofs.file.shape_ok.Statement.{statement}
@@ -18,7 +18,7 @@ run-ok-requires c κs = search needs
 returns : tie.Need-returns
 returns c =
     let s = c .before .before .before in let a = s .args in
-    judged-by _ _ _ (c .run-ok .result) (shape-0 (pages (a .img .now)) (vol (a .img .now)) (a .flags) (a .t) (a .n) (c .run-ok .result) (c .before .if1 .taken)
+    tested-by _ _ _ (c .run-ok .result) (shape-0 (pages (a .img .now)) (vol (a .img .now)) (a .flags) (a .t) (a .n) (c .run-ok .result) (c .before .if1 .taken)
     (subst (λ (P : ℕ). Decides (c .run-ok .result) (Empty (a .t) (a .n) ⊎ Contiguous P (a .t) (a .n))) (s .pre .0 .count) (c .run-ok .ensures))) (s .pre .0 .known)
 
 indexed-ok-requires : tie.Need-indexed-ok-requires
@@ -27,7 +27,7 @@ indexed-ok-requires c κs = search needs
 returns-2 : tie.Need-returns-2
 returns-2 c =
     let a = c .before .before .before .before .before .args in
-    judged-as _ _ _ (c .indexed-ok .result) _ (shape-1 (pages (a .img .now)) (vol (a .img .now)) (a .flags) (a .t) (a .n) (c .indexed-ok .result) (c .before .before .if2 .taken)) (c .indexed-ok .ensures)
+    tested-as _ _ _ (c .indexed-ok .result) _ (shape-1 (pages (a .img .now)) (vol (a .img .now)) (a .flags) (a .t) (a .n) (c .indexed-ok .result) (c .before .before .if2 .taken)) (c .indexed-ok .ensures)
 
 subindexed-ok-requires : tie.Need-subindexed-ok-requires
 subindexed-ok-requires c κs = search needs
@@ -35,12 +35,12 @@ subindexed-ok-requires c κs = search needs
 returns-3 : tie.Need-returns-3
 returns-3 c =
     let a = c .before .before .before .before .before .before .args in
-    judged-as _ _ _ (c .subindexed-ok .result) _ (shape-2 (pages (a .img .now)) (vol (a .img .now)) (a .flags) (a .t) (a .n) (c .subindexed-ok .result) (c .before .before .if3 .taken)) (c .subindexed-ok .ensures)
+    tested-as _ _ _ (c .subindexed-ok .result) _ (shape-2 (pages (a .img .now)) (vol (a .img .now)) (a .flags) (a .t) (a .n) (c .subindexed-ok .result) (c .before .before .if3 .taken)) (c .subindexed-ok .ensures)
 
 returns-4 : tie.Need-returns-4
 returns-4 c =
     let a = c .before .before .before .before .args in
-    judged-no _ _ _ (shape-wrong (pages (a .img .now)) (vol (a .img .now)) (a .flags) (a .t) (a .n) (omega arith))
+    tested-no _ _ _ (shape-wrong (pages (a .img .now)) (vol (a .img .now)) (a .flags) (a .t) (a .n) (omega arith))
 
 pub shape-ok-spec : {M : Type 1} → statement M
 shape-ok-spec =

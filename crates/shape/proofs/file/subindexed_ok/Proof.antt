@@ -1,5 +1,5 @@
 use Rattle.page.proofs.Deciding.{decides-iff}
-use Rattle.shape.proofs.Memory.{judged-as}
+use Rattle.shape.proofs.Memory.{tested-as}
 use native.Mathlib.Omega.{arith}
 use borrow.Author.Needs.{needs}
 use Rattle.shape.proofs.file.subindexed_ok.Statement.{statement}
@@ -16,7 +16,7 @@ subindex-ok-requires c κs = search needs
 
 returns-3 : tie.Need-returns-3
 returns-3 c =
-    judged-as _ _ _ (c .subindex-ok .result) _ (decides-iff (c .subindex-ok .result) _ _ (λ h. (omega arith, omega arith, h .0, h .1)) (λ h. (h .2, h .3))) (c .subindex-ok .ensures)
+    tested-as _ _ _ (c .subindex-ok .result) _ (decides-iff (c .subindex-ok .result) _ _ (λ h. (omega arith, omega arith, h .0, h .1)) (λ h. (h .2, h .3))) (c .subindex-ok .ensures)
 
 pub subindexed-ok-spec : {M : Type 1} → statement M
 subindexed-ok-spec = tie.close (tie.spec returns returns-2 subindex-ok-requires returns-3)

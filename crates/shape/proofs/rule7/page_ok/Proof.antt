@@ -4,7 +4,7 @@ use Rattle.book.specs.Words.{vol}
 use Rattle.tree.specs.Reach.{entryIn}
 use Rattle.shape.specs.Seen.{Known}
 use Rattle.shape.specs.Shapes.{EntryRight, FilesRight}
-use Rattle.shape.proofs.Memory.{judged-no, judged-yes, passed, failed}
+use Rattle.shape.proofs.Memory.{tested-no, tested-yes, passed, failed}
 use Rattle.shape.proofs.Objects.{right-at, at-right, right-none, right-more}
 use native.Mathlib.Omega.{arith}
 use Rattle.shape.proofs.rule7.page_ok.Statement.{statement}
@@ -32,7 +32,7 @@ entry-ok-requires c κs =
 returns : tie.Need-returns Inv-loop μ-loop
 returns c =
     let l = c .before .before .before .before .loop in let s = c .before .before .before .before .before .before in let a = s .args in let v = vol (a .img .now) in let P = pages (a .img .now) in
-    judged-no _ _ _ (λ all. failed (a .img .now) (EntryRight P v (entryIn v (a .q) (32 * a .n + l .k))) _ (c .before .entry-ok .result) (c .before .entry-ok .ensures) (c .if1 .taken) (at-right v (a .n) (l .k) (a .q) (omega arith) (s .pre .3) P (all (32 * a .n + l .k) (omega arith) (omega arith))))
+    tested-no _ _ _ (λ all. failed (a .img .now) (EntryRight P v (entryIn v (a .q) (32 * a .n + l .k))) _ (c .before .entry-ok .result) (c .before .entry-ok .ensures) (c .if1 .taken) (at-right v (a .n) (l .k) (a .q) (omega arith) (s .pre .3) P (all (32 * a .n + l .k) (omega arith) (omega arith))))
 
 add-k : tie.Need-add-k Inv-loop μ-loop
 add-k c = omega arith
@@ -47,7 +47,7 @@ loop-again c =
     (omega arith, w .1, right-more P v (32 * a .n) (l .k) (l .inv .2) (right-at v (a .n) (l .k) (a .q) (omega arith) (s .pre .3) P (w .0)))
 
 returns-2 : tie.Need-returns-2 Inv-loop μ-loop
-returns-2 c = judged-yes _ _ _ (λ e h. c .before .loop .inv .2 e (omega arith)) (c .before .loop .inv .1)
+returns-2 c = tested-yes _ _ _ (λ e h. c .before .loop .inv .2 e (omega arith)) (c .before .loop .inv .1)
 
 pub page-ok-spec : {M : Type 1} → statement M
 page-ok-spec =

@@ -1,4 +1,4 @@
-use Rattle.shape.proofs.Memory.{judged-yes}
+use Rattle.shape.proofs.Memory.{tested-yes}
 use Rattle.shape.proofs.Objects.{object-page-at, right-absent}
 use borrow.Author.Needs.{needs}
 use Rattle.shape.proofs.rule7.position_ok.Statement.{statement}
@@ -10,7 +10,7 @@ root-page-requires c κs = search needs
 returns : tie.Need-returns
 returns c =
     let s = c .before .before .before in
-    judged-yes _ _ _ (right-absent _ _ (s .args .n) (c .before .root-page .result) (object-page-at (s .args .img .now) (s .args .flags) (s .args .top) (s .pre .1) (s .args .n) (c .before .root-page .result) (c .before .root-page .ensures .0)) (c .if1 .taken)) (s .pre .0 .known)
+    tested-yes _ _ _ (right-absent _ _ (s .args .n) (c .before .root-page .result) (object-page-at (s .args .img .now) (s .args .flags) (s .args .top) (s .pre .1) (s .args .n) (c .before .root-page .result) (c .before .root-page .ensures .0)) (c .if1 .taken)) (s .pre .0 .known)
 
 page-ok-requires : tie.Need-page-ok-requires
 page-ok-requires c κs =
