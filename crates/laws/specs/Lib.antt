@@ -104,3 +104,4 @@ pub mod Aside
 pub mod Fields
 pub mod Freed
 pub mod Charged
+pub mod Passes
