@@ -1,0 +1,57 @@
+// The calls that change nothing.
+use crate::spell::HolderReply;
+use crate::spell::Part;
+use crate::spell::Reply;
+use crate::spell::holding_of;
+use crate::spell::part_of;
+use crate::spell::reply_of;
+ghost use Rattle.edge.specs.Replied.{Replied, Held, Lies};
+ghost use Rattle.book.specs.Calls.{checkCall, findUserCall, findFileCall, addressCall, whoCall};
+
+// Judges the image: done with the pages visited.
+#[no_mangle]
+pub extern "C" fn nord_check(img: &[u16]) -> Reply
+    ensures { λ r. ⌜ Replied (checkCall (now (img .entry))) (now (img .entry)) r (now (img .entry)) ⌝ }
+{
+    reply_of(nord::ask::check(img))
+}
+
+// The index of the user of that name.
+#[no_mangle]
+pub extern "C" fn nord_find_user(img: &[u16], name: &[u8]) -> Reply
+    ensures { λ r. ⌜ Replied (findUserCall (now (img .entry)) (now (name .entry))) (now (img .entry)) r (now (img .entry)) ⌝ }
+{
+    reply_of(nord::ask::find_user(img, name))
+}
+
+// The index of the user's file of that name and type.
+#[no_mangle]
+pub extern "C" fn nord_find_file(img: &[u16], user: usize, name: &[u8], kind: &[u8]) -> Reply
+    ensures { λ r. ⌜ Replied (findFileCall (now (img .entry)) user (now (name .entry)) (now (kind .entry))) (now (img .entry)) r (now (img .entry)) ⌝ }
+{
+    reply_of(nord::ask::find_file(img, user, name, kind))
+}
+
+// The page at that position of the user's file.
+#[no_mangle]
+pub extern "C" fn nord_address(img: &[u16], user: usize, file: usize, position: usize) -> Reply
+    ensures { λ r. ⌜ Replied (addressCall (now (img .entry)) user file position) (now (img .entry)) r (now (img .entry)) ⌝ }
+{
+    reply_of(nord::ask::address(img, user, file, position))
+}
+
+// Who holds a page, or that it is free.
+#[no_mangle]
+pub extern "C" fn nord_who_holds(img: &[u16], page: usize) -> HolderReply
+    ensures { λ r. ⌜ Held (whoCall (now (img .entry)) page) (now (img .entry)) r ⌝ }
+{
+    holding_of(nord::ask::who_holds(img, page))
+}
+
+// Where the page at that position of the user's file lies in the image.
+#[no_mangle]
+pub extern "C" fn nord_read_page(img: &[u16], user: usize, file: usize, position: usize) -> Part
+    ensures { λ r. ⌜ Lies (addressCall (now (img .entry)) user file position) (now (img .entry)) r ⌝ }
+{
+    part_of(nord::ask::address(img, user, file, position))
+}
