@@ -1,0 +1,4 @@
+//! What the program `nord` is made of, for itself and for its tests.
+
+pub mod volume;
+pub mod volume_json;
