@@ -101,3 +101,42 @@ impl Dice {
         (self.0 >> 33) % end
     }
 }
+
+/// A full-size volume with twelve users: long runs, files grown by turns, a subindexed file and gaps where files were deleted.
+pub fn full() -> Vec<u16> {
+    const NAMES: [&str; 12] = [
+        "SYSTEM",
+        "DOCK",
+        "CRANE",
+        "GATE",
+        "WEIGH-BRIDGE",
+        "LIBRARY",
+        "PAYROLL",
+        "SURVEY",
+        "COBOL-TEAM",
+        "FORTRAN-PROJECT1",
+        "ARCHIVE",
+        "GUEST",
+    ];
+    let mut image = volume("HARBOUR-MAIN-01", 16_384);
+    let users: Vec<u32> = NAMES.iter().map(|name| user(&mut image, name, 1360)).collect();
+    for round in 0..4 {
+        for user in &users {
+            run(&mut image, *user, &format!("RUN{round}"), 40 + (user * 37 + round * 91) % 160);
+            if user % 3 == 0 {
+                grown(&mut image, *user, &format!("TEXT{round}"), 20 + (user * 13 + round * 7) % 40);
+            }
+        }
+    }
+    grown(&mut image, 10, "TAPE-COPY", 700);
+    let turns: Vec<u32> = users.iter().map(|user| grown(&mut image, *user, "LOG", 1)).collect();
+    for turn in 0..360 {
+        let user = users[turn * 7 % users.len()];
+        done(proved::grow(&mut image, user, turns[user as usize]));
+    }
+    for user in [1, 4, 6, 9] {
+        let old = done(proved::find_file(&image, user, b"RUN1", b""));
+        done(proved::delete_file(&mut image, user, old));
+    }
+    image
+}
