@@ -61,7 +61,7 @@ fn from_hue(hue: f64, saturation: f64, lightness: f64) -> Colour {
     let reach = saturation * f64::min(lightness, 1.0 - lightness);
     let part = |turn: f64| {
         let k = (turn + hue / 30.0) % 12.0;
-        let level = lightness - reach * f64::max(-1.0, f64::min(f64::min(k - 3.0, 9.0 - k), 1.0));
+        let level = lightness - reach * f64::min(k - 3.0, 9.0 - k).clamp(-1.0, 1.0);
         (level * 255.0).round() as u8
     };
     Colour {

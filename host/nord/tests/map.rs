@@ -7,6 +7,7 @@ use made::*;
 use nord::map::{svg, text};
 use nord::volume::{holders, read};
 use std::collections::HashSet;
+use std::sync::OnceLock;
 use xml::{elements, Element};
 
 fn picture(image: &[u16]) -> Vec<Element> {
@@ -20,8 +21,10 @@ fn lines(image: &[u16], width: usize, colour: bool) -> Vec<String> {
         .collect()
 }
 
-fn volumes() -> Vec<Vec<u16>> {
-    vec![volume("EMPTY", 8), yard16(), yard154(), many_users(), big_file(), full()]
+/// Volumes of all sizes, made once.
+fn volumes() -> &'static [Vec<u16>] {
+    static VOLUMES: OnceLock<Vec<Vec<u16>>> = OnceLock::new();
+    VOLUMES.get_or_init(|| vec![volume("EMPTY", 8), yard16(), yard154(), many_users(), big_file(), full(), crowd()])
 }
 
 /// A number with its commas.
@@ -32,8 +35,8 @@ fn number(text: &str) -> usize {
 #[test]
 fn each_page_has_one_cell() {
     for image in volumes() {
-        let (volume, held) = (read(&image), holders(&image));
-        let elements = picture(&image);
+        let (volume, held) = (read(image), holders(image));
+        let elements = picture(image);
         let cells: Vec<&Element> = elements.iter().filter(|element| element.get("class") == "page").collect();
         assert_eq!(cells.len(), held.len());
         let places: HashSet<(&str, &str)> = cells.iter().map(|cell| (cell.get("x"), cell.get("y"))).collect();
@@ -47,7 +50,7 @@ fn each_page_has_one_cell() {
 #[test]
 fn cells_lie_within_the_picture_and_not_over_one_another() {
     for image in volumes() {
-        let elements = picture(&image);
+        let elements = picture(image);
         let size = |element: &Element, name: &str| element.get(name).parse::<f64>().unwrap();
         let (width, height) = (size(&elements[0], "width"), size(&elements[0], "height"));
         let mut end = (0.0, 0.0);
@@ -63,7 +66,7 @@ fn cells_lie_within_the_picture_and_not_over_one_another() {
 #[test]
 fn pages_of_the_legend_are_the_volumes() {
     for image in volumes() {
-        let elements = picture(&image);
+        let elements = picture(image);
         let counts = elements
             .iter()
             .filter(|element| element.within == "legend" && element.get("text-anchor") == "end");
@@ -161,7 +164,7 @@ fn rows_of_text_have_a_character_for_each_page() {
     for image in volumes() {
         let pages = image.len() / proved::PAGE;
         for width in [0, 12, 40, 80, 132, 400] {
-            let lines = lines(&image, width, false);
+            let lines = lines(image, width, false);
             let rows = page_rows(&lines);
             let (last, whole) = rows.split_last().unwrap();
             let columns = rows[0].1.len();
@@ -185,7 +188,7 @@ fn characters_are_the_holders() {
 #[test]
 fn the_texts_legend_adds_up() {
     for image in volumes() {
-        let lines = lines(&image, 20, false);
+        let lines = lines(image, 20, false);
         let legend = lines
             .iter()
             .skip_while(|line| !line.is_empty())
@@ -198,9 +201,9 @@ fn the_texts_legend_adds_up() {
 #[test]
 fn colour_codes_only_where_they_are_asked_for() {
     for image in volumes() {
-        let plain = lines(&image, 100, false);
+        let plain = lines(image, 100, false);
         assert!(plain.iter().all(|line| !line.contains('\x1b')));
-        let coloured = lines(&image, 100, true);
+        let coloured = lines(image, 100, true);
         assert!(coloured.iter().any(|line| line.contains("\x1b[48;5;")));
         assert_eq!(coloured.iter().map(|line| without_codes(line)).collect::<Vec<String>>(), plain);
         assert!(coloured
@@ -221,13 +224,14 @@ fn without_codes(line: &str) -> String {
 #[ignore]
 fn pictures_to_look_at() {
     let folder = std::path::Path::new(env!("CARGO_TARGET_TMPDIR"));
-    for (name, image) in [
+    let small = [
+        ("8", volume("EMPTY", 8)),
         ("16", yard16()),
         ("154", yard154()),
         ("300", many_users()),
         ("600", big_file()),
-        ("16384", full()),
-    ] {
+    ];
+    for (name, image) in small.into_iter().chain([("full", full()), ("crowd", crowd())]) {
         let (volume, held) = (read(&image), holders(&image));
         std::fs::write(folder.join(format!("{name}.svg")), svg(&volume, &held)).unwrap();
         std::fs::write(folder.join(format!("{name}.txt")), text(&volume, &held, 100, false)).unwrap();

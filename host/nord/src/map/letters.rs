@@ -48,4 +48,9 @@ impl Letters {
             Part::Index | Part::Subindex => small.to_ascii_uppercase(),
         }
     }
+
+    /// A group's letter in a picture, where the blocks have other marks.
+    pub fn capital(&self, group: Group) -> String {
+        self.letter(group, Part::Page).to_ascii_uppercase().to_string()
+    }
 }

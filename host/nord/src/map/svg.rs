@@ -52,6 +52,11 @@ impl Plan {
         self.top + self.height
     }
 
+    /// Whether a cell has room for a letter.
+    fn has_letters(&self) -> bool {
+        self.cell >= 16
+    }
+
     /// The upper left corner of a page's cell.
     fn corner(&self, page: usize) -> (usize, usize) {
         (self.left + page % self.side * self.cell, self.top + page / self.side * self.cell)

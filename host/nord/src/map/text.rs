@@ -66,7 +66,7 @@ fn paint(behind: Option<Colour>) -> String {
 
 /// The legend in as many columns as the width has place for.
 fn key(letters: &Letters, rows: &[Row], width: usize, coloured: bool) -> Vec<String> {
-    let items: Vec<String> = rows.iter().map(|row| item(row)).collect();
+    let items: Vec<String> = rows.iter().map(item).collect();
     let longest = items.iter().map(String::len).max().unwrap_or(0);
     let across = (width / (longest + 7)).max(1);
     let down = items.len().div_ceil(across);

@@ -140,3 +140,13 @@ pub fn full() -> Vec<u16> {
     }
     image
 }
+
+/// A full-size volume with all 256 users, each with a run of his own.
+pub fn crowd() -> Vec<u16> {
+    let mut image = volume("CROWD", 16_384);
+    for n in 0..256 {
+        let user = user(&mut image, &format!("PERSON-{n}"), 56);
+        run(&mut image, user, "OWN", 20 + (n * 7) % 36);
+    }
+    image
+}

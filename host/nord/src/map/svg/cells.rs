@@ -51,7 +51,7 @@ fn mark(plan: &Plan, page: usize, part: Part) -> String {
 
 /// A group's letter in a cell, where there is room for one.
 fn letter(plan: &Plan, page: usize, group: Group, letters: &Letters) -> String {
-    if plan.cell < 16 || group == Group::Free {
+    if !plan.has_letters() || group == Group::Free {
         return String::new();
     }
     let size = plan.cell * 45 / 100;
@@ -63,12 +63,7 @@ fn letter(plan: &Plan, page: usize, group: Group, letters: &Letters) -> String {
         fill: &group.colour().ink().hex(),
         anchor: "middle",
     };
-    label(
-        x + half,
-        y + half + size * 37 / 100,
-        &look,
-        &letters.letter(group, Part::Page).to_ascii_uppercase().to_string(),
-    )
+    label(x + half, y + half + size * 37 / 100, &look, &letters.capital(group))
 }
 
 /// Page numbers: of the rows at the left, and what is to be added for a column above.

@@ -24,7 +24,8 @@ enum Line<'a> {
 /// The lines with their places, in up to three columns where they are many.
 pub struct Key<'a> {
     lines: Vec<Line<'a>>,
-    letters: &'a Letters,
+    /// The letters, where the cells have them.
+    letters: Option<&'a Letters>,
     left: usize,
     top: usize,
     /// Lines to a column, and a column's width.
@@ -57,7 +58,7 @@ impl Key<'_> {
         let down = (plan.height / LINE).max(18).max(lines.len().div_ceil(3));
         Key {
             lines,
-            letters,
+            letters: plan.has_letters().then_some(letters),
             left: plan.right() + 36,
             top: plan.top,
             down,
@@ -99,23 +100,21 @@ impl Key<'_> {
     /// A group's colour and letter, its name and its pages; for a user also the pages given.
     fn row(&self, x: usize, y: usize, row: &Row) -> String {
         let (colour, end) = (row.group.colour(), x + self.wide - GIVEN);
-        let letter = self
-            .letters
-            .letter(row.group, Part::Page)
-            .to_ascii_uppercase()
-            .to_string()
-            .replace('.', "");
-        let in_swatch = Text {
-            size: 11,
-            bold: true,
-            fill: &colour.ink().hex(),
-            anchor: "middle",
-        };
+        let mut line = swatch(x, y, &colour.hex());
+        if let (Some(letters), true) = (self.letters, row.group != Group::Free) {
+            let look = Text {
+                size: 11,
+                bold: true,
+                fill: &colour.ink().hex(),
+                anchor: "middle",
+            };
+            line.push_str(&label(x + SWATCH / 2, y + 12, &look, &letters.capital(row.group)));
+        }
+        line.push_str(&words(x, y, &row.name));
         let count = Text {
             anchor: "end",
             ..Text::default()
         };
-        let mut line = swatch(x, y, &colour.hex()) + &label(x + SWATCH / 2, y + 12, &in_swatch, &letter) + &words(x, y, &row.name);
         line.push_str(&label(end, y + 13, &count, &grouped(row.pages as usize)));
         if let Some(given) = row.given {
             line.push_str(&label(end + 6, y + 13, &grey(), &format!("of {} given", grouped(given as usize))));
