@@ -1,7 +1,7 @@
 //! How many pages make a row of a map, and how large a cell is.
 
-/// Pages to a row of a picture: the power of two that makes it about square, so that rows start at even page numbers. From 16 pages on a
-/// row is whole words of the bit file.
+/// Pages to a row of a picture: the power of two that makes it about square, so that rows start at round page numbers. Rows of 16 and
+/// more are whole words of the bit file.
 pub fn side(pages: usize) -> usize {
     let mut side = 8;
     while side * side < pages {

@@ -79,7 +79,8 @@ pub fn numbers(plan: &Plan, pages: usize) -> String {
         anchor: "middle",
         ..beside
     };
-    let rows = (1..).map(|turn| 1 << turn >> 1).find(|rows| rows * plan.cell >= 16).unwrap_or(1);
+    // a number at every row, or at every second, fourth, ..., so that they do not touch
+    let rows = [1, 2, 4, 8].into_iter().find(|rows| rows * plan.cell >= 16).unwrap_or(16);
     for row in (0..pages.div_ceil(plan.side)).step_by(rows) {
         let y = plan.top + row * plan.cell + plan.cell / 2 + 3;
         numbers.push_str(&label(plan.left - 8, y, &beside, &(row * plan.side).to_string()));
