@@ -20,7 +20,7 @@ use Rattle.walk.specs.declared.Walk.{Walk}
 use Rattle.walk.specs.declared.Walk.the-variants.{On, Met}
 use Rattle.walk.specs.Marks.{marked, Unmarked, Newly, Marking}
 use Rattle.walk.specs.Walked.{Walking, Walked}
-use Rattle.walk.specs.Files.{FilesBelow}
+use Rattle.walk.specs.Files.{FilesFit}
 use Rattle.walk.specs.Held.{Held, Volume}
 use Rattle.walk.proofs.Marked.{marks-more}
 use Rattle.walk.proofs.Walks.{Counts, rowOf, walked-same}
@@ -43,14 +43,9 @@ module _ (P : ℕ) (v : Vol) (s n : ℕ) (es : s ≡ page (v 0) 1020) (en : n �
 
 -- ---- the user file and the object file
 
-module _ (v : Vol) (x t : ℕ) where
-  pub users-read : x ≡ flags (v 0) 1018 → t ≡ page (v 0) 1018 → userFile v ≡ rootBy x t 0
-  unfolding userFile
-  users-read a b = root-read (v 0) 1018 0 x t 0 a b refl
-
-  pub objects-read : x ≡ flags (v 0) 1016 → t ≡ page (v 0) 1016 → objectFile v ≡ rootBy x t 0
-  unfolding objectFile
-  objects-read a b = root-read (v 0) 1016 0 x t 0 a b refl
+pub user-root : (v : Vol) (x t : ℕ) → x ≡ flags (v 0) 1018 → t ≡ page (v 0) 1018 → userFile v ≡ rootBy x t 0
+unfolding userFile
+user-root v x t a b = root-read (v 0) 1018 0 x t 0 a b refl
 
 pub below-same : (v : Vol) (P : ℕ) (r s : Root) → r ≡ s → BelowR v P r → BelowR v P s
 below-same v P r s e b = subst (λ (x : Root). BelowR v P x) e b
@@ -77,8 +72,8 @@ module _ (img : List ℕ) (w : Volume img) where
   pub objects-reach : Reach img (objectFile (vol img))
   objects-reach = record { some = omega (arith, w .whole .least); below = w .within .objs }
 
-  pub files-below : FilesBelow img
-  files-below = record { each = λ e h. subst (λ (x : ℕ). BelowR (vol img) (pages img) (fileAt (vol img) x)) (let q : 256 * (e / 256) + e % 256 ≡ e = omega arith in q) (w .within .files (e / 256) (e % 256) (omega arith) (omega arith)) }
+  pub files-fit : FilesFit img
+  files-fit = record { short = w .short .files; below = λ e h. subst (λ (x : ℕ). BelowR (vol img) (pages img) (fileAt (vol img) x)) (let q : 256 * (e / 256) + e % 256 ≡ e = omega arith in q) (w .within .files (e / 256) (e % 256) (omega arith) (omega arith)) }
 
 -- ---- all, from no marks on
 
