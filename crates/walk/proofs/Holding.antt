@@ -4,7 +4,7 @@ use mathlib.Core.List.{List}
 use mathlib.Core.Bool.{Bool, true, false}
 use Prim.Native.Nat.{ℕ, _+_, _*_, _/_, _%_, _≤_}
 use native.Mathlib.Omega.{arith}
-use Rattle.sums.specs.Sum.{sum, is, is-sym}
+use Rattle.sums.specs.Sum.{sum, is, is-same, is-sym}
 use Rattle.book.specs.Words.{Vol, vol}
 use Rattle.book.specs.Pointers.{flags, page}
 use Rattle.book.specs.Trees.{Root, run, rootBy, weighR}
@@ -81,11 +81,11 @@ module _ (m : List ℕ) (u : Unmarked m) (m′ : List ℕ) where
   -- the master page's mark
   pub first-mark : (r : Bool) → Marking m 0 m′ r → Newly m 0 m′
   first-mark true d = d
-  first-mark false d = absurd (let z : ⊥ = omega (arith, d, u .none 0) in z)
+  first-mark false d = absurd (let z : ⊥ = omega (arith, d .0, u .none 0) in z)
 
   module _ (d : Newly m 0 m′) where
     pub first-walking : (img : List ℕ) → Volume img → Walking img m′ 1
-    first-walking img w = record { size = d .kept ∙ u .size; few = w .whole .most; counted = omega (arith, marks-more (pages img) m 0 m′ d (omega (arith, w .whole .least))) }
+    first-walking img w = record { size = d .kept ∙ u .size; few = w .whole .most; some = omega (arith, w .whole .least); master = omega (arith, d .more 0, u .none 0, is-same 0); counted = omega (arith, marks-more (pages img) m 0 m′ d (omega (arith, w .whole .least))) }
 
     at-first : (p : ℕ) → marked m′ p ≡ is p 0
     at-first p = omega (arith, d .more p, u .none p, is-sym 0 p)

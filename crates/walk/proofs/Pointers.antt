@@ -19,7 +19,7 @@ use Rattle.walk.specs.declared.Walk.the-variants.{On, Met}
 use Rattle.walk.specs.Marks.{marked, Newly}
 use Rattle.walk.specs.Walked.{Weigher, Walking, WalkedOn, Walked, slotOf}
 use Rattle.walk.specs.Short.{Short, share, PointersBelow, Pointers}
-use Rattle.walk.proofs.Marked.{marks-more, marks-room}
+use Rattle.walk.proofs.Marked.{marked-le, marks-more, marks-room}
 use Rattle.walk.proofs.Walks.{Counts, rowOf, row-counts, walking-on, walked-none, walked-same, walked-then, row-past}
 
 pub below-top : (v : Vol) (P l t : ℕ) → Below v P l t → t < P
@@ -46,6 +46,11 @@ pub power : (l k : ℕ) → l ≡ k → 512 ^ l ≡ 512 ^ k
 power l k e = ap (λ (x : ℕ). 512 ^ x) e
 
 -- ---- a page's part, handed over as a block
+
+-- pointer n as code reads it where it is small: its less significant word
+pub low-read : (b : List ℕ) (n x : ℕ) → slotOf b n < 65536 → x ≡ getD b (2 * n + 1) 0 → x ≡ slotOf b n
+unfolding slotOf two
+low-read b n x h e = let k : 2 * n + 1 ≡ suc (2 * n) = omega arith in omega (arith, h, e, ap (λ (j : ℕ). getD b j 0) k)
 
 -- pointer n as code reads it
 pub slot-read : (b : List ℕ) (n k x : ℕ) → k ≡ 2 * n → x ≡ getD b k 0 * 65536 + getD b (k + 1) 0 → x ≡ slotOf b n
@@ -119,7 +124,7 @@ module _ (img m : List ℕ) (v t : ℕ) (m′ : List ℕ) (d : Newly m t m′) (
   mark-fits = omega (arith, marks-room (pages img) m t m′ d i, w .counted, w .few)
 
   pub mark-walking : Walking img m′ (v + 1)
-  mark-walking = record { size = d .kept ∙ w .size; few = w .few; counted = omega (arith, marks-more (pages img) m t m′ d i, w .counted) }
+  mark-walking = record { size = d .kept ∙ w .size; few = w .few; some = w .some; master = omega (arith, d .more 0, w .master, marked-le m′ 0); counted = omega (arith, marks-more (pages img) m t m′ d i, w .counted) }
 
 -- ---- a block: the row of its pointers
 

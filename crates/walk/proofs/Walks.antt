@@ -13,6 +13,7 @@ use Rattle.laws.specs.Tree.{hit-zero, some-zero}
 use Rattle.walk.specs.declared.Walk.{Walk}
 use Rattle.walk.specs.declared.Walk.the-variants.{On, Met}
 use Rattle.walk.specs.Marks.{marked}
+use Rattle.walk.proofs.Marked.{marked-le}
 use Rattle.walk.specs.Walked.{Weigher, Walking, WalkedOn, Walked}
 
 -- W counts each page below P as often as it weighs it
@@ -26,7 +27,13 @@ unfolding Counts
 walking-on img m v W m′ x d c k =
     let s : sum (pages img) (marked m′) ≡ sum (pages img) (marked m) + sum (pages img) (λ p. W (hit p)) =
     sum-ext (pages img) (marked m′) (λ p. marked m p + W (hit p)) (k .more) ∙ sum-add (pages img) (marked m) (λ p. W (hit p)) in
-    record { size = k .kept ∙ d .size; few = d .few; counted = omega (arith, s, c, k .count, d .counted) }
+    record {
+      size = k .kept ∙ d .size;
+      few = d .few;
+      some = d .some;
+      master = omega (arith, k .more 0 (d .some), d .master, marked-le m′ 0);
+      counted = omega (arith, s, c, k .count, d .counted);
+    }
 
 module _ (P : ℕ) (m : List ℕ) (v : ℕ) where
   -- nothing to walk over

@@ -6,6 +6,7 @@ use page::WORDS;
 use page::read::dword;
 ghost use mathlib.Core.Path.{_≡_};
 ghost use Prim.Native.Nat.{ℕ, _-_, _*_, _^_, _≤_, _<_, min};
+ghost use lib.ListN.{length};
 ghost use Rattle.sums.specs.Sum.{sum};
 ghost use Rattle.book.specs.Words.{vol};
 ghost use Rattle.book.specs.Trees.{weigh, Below};
@@ -13,20 +14,34 @@ ghost use Rattle.book.specs.Image.{pages};
 ghost use Rattle.walk.specs.Walked.{Walking, Walked, slotOf};
 ghost use Rattle.walk.specs.Short.{Short, share, Pointers, PointersBelow};
 
-// Marks one page; page 0 is none.
+// Marks one page; page 0 is none. That the master page is marked spares each other page a test for 0.
 pub fn mark_page(img: &[u16], marks: &mut [u16; 1024], page: usize, visited: u32) -> Walk
     requires { ⌜ Walking (now img) (now marks) visited × Below (vol (now img)) (pages (now img)) 0 page ⌝ }
     ensures { λ r. ⌜ Walked (pages (now (img .entry))) (now (marks .entry)) visited (weigh (vol (now (img .entry))) 0 page) (now (marks .exit)) r ⌝ }
 {
-    if page == 0 {
-        return Walk::On { visited };
-    }
     if !mark(marks, page) {
+        if page == 0 {
+            return Walk::On { visited };
+        }
         return Walk::Met;
     }
     Walk::On {
         visited: visited + 1,
     }
+}
+
+fn wide(x: u16) -> usize
+    ensures { λ r. ⌜ r ≡ x ⌝ }
+{
+    x as usize
+}
+
+// What pointer i of a block names where that is a page: the more significant word is zero then, and is not read.
+fn page_of(block: &[u16], i: usize) -> usize
+    requires { ⌜ (length (now block) ≡ 1024) × (i < 512) × (slotOf (now block) i < 65536) ⌝ }
+    ensures { λ r. ⌜ r ≡ slotOf (now (block .entry)) i ⌝ }
+{
+    wide(block[2 * i + 1])
 }
 
 // Marks the pages that a block's first n pointers name.
@@ -37,7 +52,7 @@ fn mark_pages(img: &[u16], marks: &mut [u16; 1024], block: &[u16], n: usize, vis
     let mut v = visited;
     let mut i: usize = 0;
     while i < n {
-        let p = dword(block, 2 * i) as usize;
+        let p = page_of(block, i);
         match mark_page(img, marks, p, v) {
             Walk::On { visited: x } => {
                 v = x;

@@ -168,7 +168,7 @@ mark-pointer-mark-requires t c κs =
 mark-pointer-returns-2 : (t : ℕ) → mark-pointer-lts.Need-returns-2 (pointer-calls t) (mark-pointer-at t) mark-pointer.Post
 mark-pointer-returns-2 t c =
     let s = c .before .before .before .before .before in let a = s .args in let img = a .img .now in
-    pointer-met img _ _ (a .visited) _ _ (omega arith) (below-top _ _ _ _ (s .pre .1 .1)) (marking-old _ _ _ (c .before .mark .result) (c .before .mark .ensures) (c .if2 .taken)) (a .marks .now)
+    pointer-met img _ _ (a .visited) _ _ (omega arith) (below-top _ _ _ _ (s .pre .1 .1)) (marking-old _ _ _ (c .before .mark .result) (c .before .mark .ensures) (c .if2 .taken) .0) (a .marks .now)
 
 mark-pointer-mul-a : (t : ℕ) → mark-pointer-lts.Need-mul-a (pointer-calls t) (mark-pointer-at t) mark-pointer.Post
 mark-pointer-mul-a t c =

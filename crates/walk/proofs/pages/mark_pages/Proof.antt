@@ -1,11 +1,11 @@
 use borrow.Author.Needs.{needs}
-use mathlib.Core.Path.{_≡_, refl}
-use Prim.Native.Nat.{_-_, _≤_}
+use mathlib.Core.Path.{_≡_}
+use Prim.Native.Nat.{_-_, _≤_, _<_}
 use native.Mathlib.Omega.{arith}
 use Rattle.book.specs.Image.{pages}
 use Rattle.walk.specs.Walked.{WalkedOn}
 use Rattle.walk.proofs.Walks.{rowOf, row-start, row-on, row-met, row-end}
-use Rattle.walk.proofs.Pointers.{slotsOf, slot-read, slot-below, slot-weigh, block-walking}
+use Rattle.walk.proofs.Pointers.{below-top, slotsOf, slot-below, slot-weigh, block-walking}
 use Rattle.walk.proofs.pages.mark_pages.Statement.{statement}
 use Rattle.walk.proofs.pages.mark_pages.Tie as tie
 
@@ -18,20 +18,16 @@ abbrev μ-loop : tie.MeasureT-loop
 loop-holds : tie.Need-loop-holds Inv-loop μ-loop
 loop-holds c = (omega arith, row-start _ _ _ _)
 
-mul-dword : tie.Need-mul-dword Inv-loop μ-loop
-mul-dword c = search needs
-
-dword-requires : tie.Need-dword-requires Inv-loop μ-loop
-dword-requires c κs = omega arith
-
-cast-p : tie.Need-cast-p Inv-loop μ-loop
-cast-p c = search needs
+page-of-requires : tie.Need-page-of-requires Inv-loop μ-loop
+page-of-requires c κs =
+    let s = c .before .before .before .before in let l = c .before .loop in let i : l .i < 512 = omega arith in
+    (s .pre .1 .size, i, omega (arith, s .pre .0 .few, below-top _ _ 0 _ (s .pre .1 .below (l .i) i)))
 
 mark-page-requires : tie.Need-mark-page-requires Inv-loop μ-loop
 mark-page-requires c κs =
     let s = c .before .before .before .before .before .before in let a = s .args in let img = a .img .now in let bk = a .block .now in let l = c .before .before .before .loop in (
       block-walking img bk 0 (s .pre .1) (l .i) (omega arith) _ _ _ _ (s .pre .0) (l .inv .1),
-      slot-below img bk 0 (s .pre .1) (l .i) (omega arith) _ (slot-read bk (l .i) _ (c .before .dword .result) refl (c .before .dword .ensures .0)),
+      slot-below img bk 0 (s .pre .1) (l .i) (omega arith) _ (c .before .page-of .ensures),
     )
 
 enum-known-x : tie.Need-enum-known-x Inv-loop μ-loop
@@ -43,7 +39,7 @@ enum-told c = c .match .keys2
 returns : tie.Need-returns Inv-loop μ-loop
 returns c =
     let s = c .before .before .before .before .before .before .before .before .before in let a = s .args in let img = a .img .now in let bk = a .block .now in let l = c .before .before .before .before .before .before .loop in
-    row-met _ _ _ (slotsOf img 0 bk) (l .i) _ _ (l .inv .1) _ (slot-weigh img bk 0 (s .pre .1) (l .i) _ (slot-read bk (l .i) _ (c .before .before .before .before .dword .result) refl (c .before .before .before .before .dword .ensures .0))) _ _
+    row-met _ _ _ (slotsOf img 0 bk) (l .i) _ _ (l .inv .1) _ (slot-weigh img bk 0 (s .pre .1) (l .i) _ (c .before .before .before .before .page-of .ensures)) _ _
     (c .before .before .mark-page .ensures) (c .enum-told .given .1) (a .n) (omega arith) (a .marks .now)
 
 add-i : tie.Need-add-i Inv-loop μ-loop
@@ -56,8 +52,7 @@ loop-again : tie.Need-loop-again Inv-loop μ-loop
 loop-again c =
     let s = c .before .before .before .before .before .before .before .before .before .before in let a = s .args in let img = a .img .now in let bk = a .block .now in let l = c .before .before .before .before .before .before .before .loop in (
       omega arith,
-      row-on _ _ _ (slotsOf img 0 bk) (l .i) _ _ (l .inv .1) _ (slot-weigh img bk 0 (s .pre .1) (l .i) _ (slot-read bk (l .i) _ (c .before .before .before .before .before .dword .result) refl (c .before .before .before .before .before .dword .ensures .0))) _ _
-          (c .before .before .before .mark-page .ensures) _ (c .before .x .given .1),
+      row-on _ _ _ (slotsOf img 0 bk) (l .i) _ _ (l .inv .1) _ (slot-weigh img bk 0 (s .pre .1) (l .i) _ (c .before .before .before .before .before .page-of .ensures)) _ _ (c .before .before .before .mark-page .ensures) _ (c .before .x .given .1),
     )
 
 returns-2 : tie.Need-returns-2 Inv-loop μ-loop
@@ -72,9 +67,7 @@ mark-pages-spec =
     Inv-loop
     μ-loop
     loop-holds
-    mul-dword
-    dword-requires
-    cast-p
+    page-of-requires
     mark-page-requires
     enum-known-x
     enum-told
