@@ -1,5 +1,5 @@
 -- Blocks as parts of 1,024 words. Assumes nothing.
-use mathlib.Core.Path.{_≡_, sym, ap, _∙_}
+use mathlib.Core.Path.{_≡_, refl, sym, ap, _∙_, subst}
 use mathlib.Core.Bool.{Bool}
 use mathlib.Core.List.{List}
 use Prim.Native.Nat.{ℕ, suc, _+_, _-_, _*_, _/_, _≤_, _<_}
@@ -15,7 +15,7 @@ use Rattle.book.specs.Pointers.{slot}
 use Rattle.book.specs.Words.{vol, two}
 use Rattle.page.proofs.Deciding.{decides-iff}
 use Rattle.page.proofs.Slots.{slot-two}
-use Rattle.tree.specs.Blocks.{Blank, Either, pointerIn, Unlinked, End}
+use Rattle.tree.specs.Blocks.{Blank, Either, pointerIn, Wrong, Unlinked, End}
 
 pub either-is : (a b : ℕ) → Either a b (bitOr a b)
 either-is a b = record {
@@ -29,6 +29,9 @@ either-is a b = record {
 pub pointer-read : (block : List ℕ) (i r : ℕ) → r ≡ getD block (2 * i) 0 * 65536 + getD block (2 * i + 1) 0 → r ≡ pointerIn block i
 unfolding two
 pointer-read block i r e = e ∙ ap (λ (k : ℕ). getD block (2 * i) 0 * 65536 + getD block k 0) (add-one (2 * i))
+
+pub wrong-at : (block : List ℕ) (i least P r : ℕ) → Wrong (getD block (2 * i) 0 * 65536 + getD block (2 * i + 1) 0) least P r → Wrong (pointerIn block i) least P r
+wrong-at block i least P r w = subst (λ (p : ℕ). Wrong p least P r) (pointer-read block i _ refl) w
 
 -- it is zero where its words are
 pointer-zero : (block : List ℕ) (i : ℕ) → getD block (2 * i) 0 ≡ 0 → getD block (suc (2 * i)) 0 ≡ 0 → pointerIn block i ≡ 0

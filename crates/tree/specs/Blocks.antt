@@ -18,6 +18,16 @@ pub record Either (a b r : ℕ) : Type 0 where
 abbrev pub pointerIn : List ℕ → ℕ → ℕ
 pointerIn block i = two (λ k. getD block k 0) (2 * i)
 
+-- pointers 0 to n - 1 are in least..P-1
+abbrev pub Linked : ℕ → ℕ → List ℕ → ℕ → Type 0
+Linked least P block n = (i : ℕ) → i < n → (least ≤ pointerIn block i) × (pointerIn block i < P)
+
+-- 0 exactly where p is in least..P-1, else 1
+pub record Wrong (p least P r : ℕ) : Type 0 where
+  pub most : r ≤ 1
+  pub none : least ≤ p → p < P → r ≡ 0
+  pub right : r ≡ 0 → (least ≤ p) × (p < P)
+
 -- pointers n to z - 1 are zero
 abbrev pub Unlinked : List ℕ → ℕ → ℕ → Type 0
 Unlinked block n z = (i : ℕ) → i < z → n ≤ i → pointerIn block i ≡ 0

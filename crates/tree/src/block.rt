@@ -2,10 +2,10 @@
 // a compiler turns such a loop into vector instructions.
 use page::read::dword;
 ghost use mathlib.Core.Path.{_≡_};
-ghost use Prim.Native.Nat.{_*_, _≤_, _<_};
+ghost use Prim.Native.Nat.{_+_, _*_, _≤_, _<_};
 ghost use lib.ListN.{length};
 ghost use Rattle.book.specs.Decides.{Decides};
-ghost use Rattle.tree.specs.Blocks.{Blank, Unlinked, Either, End};
+ghost use Rattle.tree.specs.Blocks.{Blank, Linked, Unlinked, Either, Wrong, End};
 
 // A word that is zero exactly where both words are.
 fn either(a: u16, b: u16) -> u16
@@ -38,6 +38,50 @@ pub fn unlinked(block: &[u16], n: usize, z: usize) -> bool
     let a = 2 * n;
     let e = 2 * z;
     blank(&block[a..e])
+}
+
+// 1 where the pointer of two words is not in least..total-1, and 0 where it is.
+fn wrong(high: u16, low: u16, least: u16, total: u16) -> u16
+    ensures { λ r. ⌜ Wrong (high * 65536 + low) least total r ⌝ }
+{
+    if high != 0 {
+        return 1;
+    }
+    if low < least {
+        return 1;
+    }
+    if total <= low {
+        return 1;
+    }
+    0
+}
+
+// Whether pointers 0 to n - 1 of a block are in least..total-1.
+fn linked(block: &[u16], n: usize, least: u16, total: u16) -> bool
+    requires { ⌜ (length (now block) ≡ 1024) × (n ≤ 512) ⌝ }
+    ensures { λ r. ⌜ Decides r (Linked least total (now (block .entry)) n) ⌝ }
+{
+    let mut bad: u16 = 0;
+    let mut i: usize = 0;
+    while i < n {
+        bad += wrong(block[2 * i], block[2 * i + 1], least, total);
+        i += 1;
+    }
+    if bad != 0 {
+        return false;
+    }
+    true
+}
+
+// Whether pointers 0 to n - 1 of a block are in least..total-1 and the others zero.
+pub fn filled(block: &[u16], n: usize, least: u16, total: usize) -> bool
+    requires { ⌜ (length (now block) ≡ 1024) × (n ≤ 512) × (total < 65536) ⌝ }
+    ensures { λ r. ⌜ Decides r (Linked least total (now (block .entry)) n × Unlinked (now (block .entry)) n 512) ⌝ }
+{
+    if !linked(block, n, least, total as u16) {
+        return false;
+    }
+    unlinked(block, n, 512)
 }
 
 // A multiple of 16 from which on a block has no pointers.
