@@ -53,10 +53,10 @@ pub fn judge(img: &[u16]) -> Verdict
         return Verdict::Broken { rule: 5 };
     }
     let ends = tree::root::object_ends(img);
-    if !heads::objects::rule6(img) {
+    if !heads::objects::rule6(img, ends) {
         return Verdict::Broken { rule: 6 };
     }
-    if !shape::rule7::rule7(img, total) {
+    if !shape::rule7::rule7(img, total, ends) {
         return Verdict::Broken { rule: 7 };
     }
     judge_held(img, total, ends)

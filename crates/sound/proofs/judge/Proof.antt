@@ -74,6 +74,7 @@ rule6-requires c κs = (
   (holds (c .before .before .before .before .before .before .before .before .rule2 .result) _ (c .before .before .before .before .before .before .before .before .rule2 .ensures) (c .before .before .before .before .before .before .before .if2 .left)),
   (holds (c .before .before .before .before .before .before .rule3 .result) _ (c .before .before .before .before .before .before .rule3 .ensures) (c .before .before .before .before .before .if3 .left)),
   (holds (c .before .before .rule5 .result) _ (c .before .before .rule5 .ensures) (c .before .if5 .left)),
+  c .object-ends .ensures,
 )
 
 returns-6 : tie.Need-returns-6
@@ -92,6 +93,7 @@ rule7-requires c κs = (
   search needs,
   (holds (c .before .before .before .before .before .before .before .before .before .before .rule2 .result) _ (c .before .before .before .before .before .before .before .before .before .before .rule2 .ensures) (c .before .before .before .before .before .before .before .before .before .if2 .left)),
   (holds (c .before .before .before .before .rule5 .result) _ (c .before .before .before .before .rule5 .ensures) (c .before .before .before .if5 .left)),
+  c .before .before .object-ends .ensures,
 )
 
 returns-7 : tie.Need-returns-7
