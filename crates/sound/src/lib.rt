@@ -25,7 +25,7 @@ fn judge_held(img: &[u16], total: usize, ends: usize) -> Verdict
     if !walk::same::same_bits(img, b, &marks, total) {
         return Verdict::Broken { rule: 9 };
     }
-    if !shape::rule10::rule10(img, total, visited) {
+    if !shape::rule10::rule10(img, total, visited, ends) {
         return Verdict::Broken { rule: 10 };
     }
     Verdict::Sound { visits: visited }

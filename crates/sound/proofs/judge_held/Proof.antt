@@ -59,7 +59,7 @@ returns-2 c =
 
 -- src/lib.rt:27:9
 rule10-requires : tie.Need-rule10-requires
-rule10-requires c κs = let s = c .before .before .before .before .before .before .before .before .before .before .before in let E = s .pre .2 in (s .pre .0, s .pre .1, E .r2, E .r3, E .r5, E .r7, (held-on _ _ _ (c .before .before .before .before .before .before .before .mark-all .result) (c .before .before .before .before .before .before .before .mark-all .ensures) _ (c .before .before .before .before .before .w .given .1)) .count)
+rule10-requires c κs = let s = c .before .before .before .before .before .before .before .before .before .before .before in let E = s .pre .2 in (s .pre .0, s .pre .1, E .r2, E .r3, E .r5, E .r6, E .r7, (held-on _ _ _ (c .before .before .before .before .before .before .before .mark-all .result) (c .before .before .before .before .before .before .before .mark-all .ensures) _ (c .before .before .before .before .before .w .given .1)) .count, s .pre .3)
 
 -- src/lib.rt:28:9
 returns-3 : tie.Need-returns-3
