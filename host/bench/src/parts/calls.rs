@@ -1,0 +1,58 @@
+//! The seven calls on each volume, beside the second program's and beside the check alone.
+
+use super::Run;
+use crate::calls::{Call, CALLS};
+use crate::contest::{contest, Figures};
+use crate::progress;
+use crate::report::Table;
+use crate::timing::show;
+use crate::volumes::Volume;
+
+const NOTE: &str =
+    "Times are medians. A ratio is taken in each round of one run, proved over second on the same image in memory; its median \
+    is given with the 10th and 90th of a hundred. \"Over check\" is the library's call over the library's check, in the same rounds.";
+
+/// What makes up a call that asks is the check, if the call takes at most this many times as long.
+const DOMINATED: f64 = 1.1;
+
+pub fn measure(run: &mut Run, volumes: &[Volume]) {
+    let mut table = Table::new(
+        "Calls",
+        NOTE,
+        &["volume", "call", "proved", "second", "proved / second", "over check"],
+    );
+    for volume in volumes {
+        for call in CALLS {
+            progress::show(&format!("calls: {} on {}", call.name(), volume.name));
+            let figures = contest(volume, call, run.plan.effort);
+            let times = [show(figures.proved), show(figures.second)];
+            let [proved, second] = times;
+            let (ratio, over) = (figures.ratio.to_string(), figures.over_check.to_string());
+            table.row(vec![volume.name.clone(), call.name().into(), proved, second, ratio, over]);
+            judge(run, volume, call, &figures);
+        }
+    }
+    progress::clear();
+    run.report.add(table);
+}
+
+fn judge(run: &mut Run, volume: &Volume, call: Call, figures: &Figures) {
+    let (ratio, over) = (figures.ratio, figures.over_check);
+    match call {
+        Call::Check => {
+            run.goals.at_most(
+                "check, time over second program's",
+                &volume.name,
+                ratio.median,
+                1.0,
+                ratio.to_string(),
+            );
+        }
+        Call::Address | Call::FindUser | Call::FindFile => {
+            let on = format!("{}, {}", volume.name, call.name());
+            run.goals
+                .at_most("address and find, time over check's", &on, over.median, DOMINATED, over.to_string());
+        }
+        _ => (),
+    }
+}
