@@ -111,7 +111,7 @@ fn beside(times: &[Times]) -> Beside {
 /// Races the check and e2fsck on the same content.
 pub fn contest(scratch: &Scratch, volume: &Volume, effort: Effort) -> io::Result<Beside> {
     let ext2 = make_image(scratch, volume)?;
-    let house = scratch.house_image(&volume.name, &volume.words)?;
+    let house = scratch.house_volume(volume)?;
     let native = scratch.native_volume(volume)?;
     let mut fsck = Command::new(tool("e2fsck"));
     fsck.arg("-fn").arg(&ext2);

@@ -29,9 +29,17 @@ impl Goals {
         });
     }
 
+    /// The rows of one goal together, goals in the order in which they came.
+    fn by_goal(&self) -> Vec<&Judged> {
+        let first = |goal: &str| self.judged.iter().position(|judged| judged.goal == goal);
+        let mut rows: Vec<&Judged> = self.judged.iter().collect();
+        rows.sort_by_key(|judged| first(judged.goal));
+        rows
+    }
+
     pub fn table(&self) -> Table {
         let mut table = Table::new("The goals", "", &["goal", "on", "limit", "figure", "verdict"]);
-        for judged in &self.judged {
+        for judged in self.by_goal() {
             table.row(vec![
                 judged.goal.into(),
                 judged.on.clone(),

@@ -1,17 +1,30 @@
 //! `bench` runs all benchmarks and prints their tables; `--quick` only sees that everything works. The other forms are its own children.
 
 use bench::calls::{Call, Program};
-use bench::parts::{run, Plan};
+use bench::parts::{self, run, Plan};
+use bench::scratch::{write_house, write_native};
+use bench::volumes::LARGEST;
 use bench::{children, machine};
 use std::io;
 use std::path::Path;
 use std::process::ExitCode;
 
 const USE: &str = "bench [--quick] [--output FILE.md]
-bench machine
+bench machine                    the machine and the tools
+bench volumes FOLDER             writes the volumes there, for the next three
 bench check-file IMAGE           a process that reads and checks an image, high byte first
 bench check-mapped IMAGE         the same of an image in this machine's byte order, mapped
-bench once CALL IMAGE proved|second N   asks a call N times (at most 11) of an image that a run left, for callgrind";
+bench once CALL IMAGE proved|second N   asks a call N times (at most 11) of an image, for callgrind";
+
+/// Writes the measured volumes in both byte orders, with what is asked of them.
+fn write_volumes(folder: &str) -> io::Result<()> {
+    std::fs::create_dir_all(folder)?;
+    for volume in parts::volumes(LARGEST) {
+        write_house(Path::new(folder), &volume.name, &volume.words)?;
+        write_native(Path::new(folder), &volume.name, &volume.words, &volume.question)?;
+    }
+    Ok(())
+}
 
 /// Runs the benchmarks and writes the tables where it was told to.
 fn measure(arguments: &[&str]) -> io::Result<()> {
@@ -51,6 +64,7 @@ fn main() -> ExitCode {
             print!("{}", machine::table().as_text());
             Ok(())
         }
+        ["volumes", folder] => write_volumes(folder),
         ["check-file", image] => children::check_file(Path::new(image)).and_then(verdict),
         ["check-mapped", image] => children::check_mapped(Path::new(image)).and_then(verdict),
         ["once", call, image, program, times] => once(call, image, program, times),

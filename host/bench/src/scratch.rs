@@ -4,7 +4,7 @@ use crate::calls::Question;
 use crate::volumes::Volume;
 use memmap2::{Mmap, MmapMut, MmapOptions};
 use std::fs::{self, File};
-use std::io;
+use std::io::{self, Read};
 use std::path::{Path, PathBuf};
 
 /// A folder that goes away with the run.
@@ -27,23 +27,12 @@ impl Scratch {
         self.folder.join(name)
     }
 
-    /// The image with the high byte first, as the house has it.
-    pub fn house_image(&self, name: &str, words: &[u16]) -> io::Result<PathBuf> {
-        let path = self.path(&format!("{name}.img"));
-        fs::write(&path, words.iter().flat_map(|word| word.to_be_bytes()).collect::<Vec<u8>>())?;
-        Ok(path)
-    }
-
-    /// The image in this machine's own byte order, which can be mapped, and beside it what is asked of it.
-    pub fn native_image(&self, name: &str, words: &[u16], question: &Question) -> io::Result<PathBuf> {
-        let path = self.path(&format!("{name}.native"));
-        fs::write(&path, words.iter().flat_map(|word| word.to_ne_bytes()).collect::<Vec<u8>>())?;
-        fs::write(path.with_extension("ask"), question.to_text())?;
-        Ok(path)
+    pub fn house_volume(&self, volume: &Volume) -> io::Result<PathBuf> {
+        write_house(&self.folder, &volume.name, &volume.words)
     }
 
     pub fn native_volume(&self, volume: &Volume) -> io::Result<PathBuf> {
-        self.native_image(&volume.name, &volume.words, &volume.question)
+        write_native(&self.folder, &volume.name, &volume.words, &volume.question)
     }
 }
 
@@ -53,16 +42,39 @@ impl Drop for Scratch {
     }
 }
 
+/// Writes an image with the high byte first, as the house has it.
+pub fn write_house(folder: &Path, name: &str, words: &[u16]) -> io::Result<PathBuf> {
+    let path = folder.join(format!("{name}.img"));
+    fs::write(&path, words.iter().flat_map(|word| word.to_be_bytes()).collect::<Vec<u8>>())?;
+    Ok(path)
+}
+
+/// Writes an image in this machine's own byte order, which can be mapped, and beside it what is asked of it.
+pub fn write_native(folder: &Path, name: &str, words: &[u16], question: &Question) -> io::Result<PathBuf> {
+    let path = folder.join(format!("{name}.native"));
+    fs::write(&path, words.iter().flat_map(|word| word.to_ne_bytes()).collect::<Vec<u8>>())?;
+    fs::write(path.with_extension("ask"), question.to_text())?;
+    Ok(path)
+}
+
 /// What is asked of an image in this machine's order.
 pub fn question_of(image: &Path) -> io::Result<Question> {
     let text = fs::read_to_string(image.with_extension("ask"))?;
     Question::from_text(&text).ok_or_else(|| io::Error::other("no question beside the image"))
 }
 
-/// Reads an image with the high byte first.
+/// Reads an image with the high byte first, straight to where its words will be.
 pub fn read_house(image: &Path) -> io::Result<Vec<u16>> {
-    let bytes = fs::read(image)?;
-    Ok(bytes.chunks_exact(2).map(|two| u16::from_be_bytes([two[0], two[1]])).collect())
+    let mut file = File::open(image)?;
+    let mut words = vec![0; file.metadata()?.len() as usize / 2];
+    file.read_exact(bytes_mut(&mut words))?;
+    words.iter_mut().for_each(|word| *word = u16::from_be(*word));
+    Ok(words)
+}
+
+/// The bytes of words, as they lie in memory.
+fn bytes_mut(words: &mut [u16]) -> &mut [u8] {
+    unsafe { words.align_to_mut().1 }
 }
 
 /// Maps an image in this machine's order, to read.

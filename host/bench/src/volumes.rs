@@ -215,3 +215,35 @@ pub fn singles(pages: u32) -> Volume {
         files,
     }
 }
+
+#[cfg(test)]
+mod tests {
+    use super::*;
+
+    /// The same volume by calls: one user, given so many pages, with one file of this size.
+    fn by_calls(pages: u32, volume: &[u8], given: u32, size: u32) -> Vec<u16> {
+        let mut words = vec![0; pages as usize * PAGE_WORDS];
+        assert_eq!(second::format(&mut words, volume, None).number, 0);
+        assert_eq!(second::create_user(&mut words, &user_name(0)).number, 0);
+        assert_eq!(second::give(&mut words, 0, given).number, 0);
+        assert_eq!(second::create_indexed(&mut words, 0, &file_name(0), KIND, 0).number, 0);
+        (0..size).for_each(|_| assert_eq!(second::grow(&mut words, 0, 0).number, 0));
+        words
+    }
+
+    #[test]
+    fn volumes_are_laid_out_as_calls_make_them() {
+        assert!(yard().words == by_calls(154, b"YARD", 104, 100));
+        let volume = few(1_000, 700);
+        let size = volume.files[0][0];
+        assert!(volume.words == by_calls(1_000, b"FEW", pages_held(size) as u32 + LEFT, size));
+    }
+
+    #[test]
+    fn volumes_are_sound_and_nearly_full() {
+        for volume in [full(1_000), many(1_000), singles(1_000)] {
+            let held = volume.held();
+            assert!((995..=997).contains(&held), "{} holds {held} pages", volume.name);
+        }
+    }
+}

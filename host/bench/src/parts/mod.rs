@@ -71,7 +71,7 @@ pub fn run(plan: Plan) -> io::Result<Report> {
     };
     run.report.add(machine::table());
     progress::show("laying out the volumes");
-    let volumes = [yard(), full(run.plan.large), many(run.plan.large), singles(run.plan.large)];
+    let volumes = volumes(run.plan.large);
     run.report.add(contents(&volumes));
     calls::measure(&mut run, &volumes);
     beside::measure(&mut run, &volumes)?;
@@ -81,6 +81,11 @@ pub fn run(plan: Plan) -> io::Result<Report> {
     memory::measure(&mut run, &volumes)?;
     run.report.add(run.goals.table());
     Ok(run.report)
+}
+
+/// The yard's disk, and the large ones with so many pages.
+pub fn volumes(large: u32) -> [Volume; 4] {
+    [yard(), full(large), many(large), singles(large)]
 }
 
 /// The volumes and what is in them.
