@@ -47,12 +47,11 @@ fn asking<'a>(image: &'a RefCell<Vec<u16>>, program: Program, call: Call, q: &'a
     })
 }
 
-/// A call's figures: the proved library's and the second program's time, their ratio, and the call over the check, both the library's.
+/// The proved library's and the second program's time, and their ratio.
 pub struct Figures {
     pub proved: f64,
     pub second: f64,
     pub ratio: Spread,
-    pub over_check: Spread,
 }
 
 fn figures(times: &[Times]) -> Figures {
@@ -60,12 +59,11 @@ fn figures(times: &[Times]) -> Figures {
         proved: Spread::of(&times[0]).median,
         second: Spread::of(&times[1]).median,
         ratio: Spread::of_ratio(&times[0], &times[1]),
-        over_check: Spread::of_ratio(&times[0], &times[2]),
     }
 }
 
-/// Times one call on a volume: both programs, and the library's check alone, in turns.
-pub fn contest(volume: &Volume, call: Call, effort: Effort) -> Figures {
+/// Times one call on a volume: both programs, and the library's check alone, in turns. Gives also the call over the check, both the library's.
+pub fn contest(volume: &Volume, call: Call, effort: Effort) -> (Figures, Spread) {
     let kept = pages_changed(&volume.words, call, &volume.question);
     let image = RefCell::new(volume.words.clone());
     let q = &volume.question;
@@ -77,21 +75,18 @@ pub fn contest(volume: &Volume, call: Call, effort: Effort) -> Figures {
     let times = race(&mut sides, effort);
     drop(sides);
     assert!(image.into_inner() == volume.words, "{}: the image is as it was", call.name());
-    figures(&times)
+    (figures(&times), Spread::of_ratio(&times[0], &times[2]))
 }
 
 /// Times the check alone on words that need not be sound; both programs have to say the same.
 pub fn check_contest(words: &[u16], effort: Effort) -> Figures {
     let (first, other) = (proved::check(words), second::check(words));
     assert_eq!((first.number, first.rule, first.value), (other.number, other.rule, other.value));
-    let check = || {
-        side(|| {
-            black_box(proved::check(black_box(words)));
-        })
-    };
-    let second = side(|| {
+    let first = side(|| {
+        black_box(proved::check(black_box(words)));
+    });
+    let other = side(|| {
         black_box(second::check(black_box(words)));
     });
-    let times = race(&mut [check(), second, check()], effort);
-    figures(&times)
+    figures(&race(&mut [first, other], effort))
 }

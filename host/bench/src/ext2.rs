@@ -85,6 +85,8 @@ fn own_child(task: &str, image: &Path) -> io::Result<Command> {
 
 /// Figures of the check beside e2fsck: in process, as a process that reads and swaps a file, and as one that maps a file.
 pub struct Beside {
+    /// The files and blocks that e2fsck counts in its image.
+    pub content: String,
     pub check: f64,
     pub reading: f64,
     pub mapping: f64,
@@ -94,10 +96,22 @@ pub struct Beside {
     pub mapping_ratio: Spread,
 }
 
-fn beside(times: &[Times]) -> Beside {
+/// The last line of e2fsck, without the image's name.
+fn content(image: &Path) -> io::Result<String> {
+    let output = Command::new(tool("e2fsck")).arg("-fn").arg(image).output()?;
+    let text = String::from_utf8_lossy(&output.stdout).into_owned();
+    Ok(text
+        .lines()
+        .last()
+        .and_then(|line| line.split_once(": "))
+        .map_or_else(String::new, |(_, rest)| rest.to_string()))
+}
+
+fn beside(content: String, times: &[Times]) -> Beside {
     let median = |n: usize| Spread::of(&times[n]).median;
     let ratio = |n: usize| Spread::of_ratio(&times[n], &times[3]);
     Beside {
+        content,
         check: median(0),
         reading: median(1),
         mapping: median(2),
@@ -122,6 +136,7 @@ pub fn contest(scratch: &Scratch, volume: &Volume, effort: Effort) -> io::Result
     let reading = process(own_child("check-file", &house)?);
     let mapping = process(own_child("check-mapped", &native)?);
     let times = race(&mut [check, reading, mapping, process(fsck)], effort);
+    let content = content(&ext2)?;
     [ext2, house].iter().try_for_each(fs::remove_file)?;
-    Ok(beside(&times))
+    Ok(beside(content, &times))
 }

@@ -11,6 +11,7 @@ pub mod hostile;
 pub mod machine;
 pub mod names;
 pub mod parts;
+pub mod profile;
 pub mod progress;
 pub mod report;
 pub mod scratch;

@@ -25,6 +25,7 @@ pub fn measure(run: &mut Run, volumes: &[Volume]) -> io::Result<()> {
     }
     let head = [
         "volume",
+        "ext2 image, as e2fsck counts it",
         "e2fsck",
         "check in memory",
         "/ e2fsck",
@@ -57,6 +58,7 @@ pub fn measure(run: &mut Run, volumes: &[Volume]) -> io::Result<()> {
 fn row(volume: &Volume, beside: &Beside) -> Vec<String> {
     vec![
         volume.name.clone(),
+        beside.content.clone(),
         show(beside.e2fsck),
         show(beside.check),
         beside.check_ratio.to_string(),

@@ -2,10 +2,10 @@
 
 use super::Run;
 use crate::calls::{Call, CALLS};
-use crate::contest::{contest, Figures};
+use crate::contest::contest;
 use crate::progress;
 use crate::report::Table;
-use crate::timing::show;
+use crate::timing::{show, Spread};
 use crate::volumes::Volume;
 
 const NOTE: &str =
@@ -13,7 +13,7 @@ const NOTE: &str =
     is given with the 10th and 90th of a hundred. \"Over check\" is the library's call over the library's check, in the same rounds.";
 
 /// What makes up a call that asks is the check, if the call takes at most this many times as long.
-const DOMINATED: f64 = 1.1;
+pub const DOMINATED: f64 = 1.1;
 
 pub fn measure(run: &mut Run, volumes: &[Volume]) {
     let mut table = Table::new(
@@ -24,20 +24,25 @@ pub fn measure(run: &mut Run, volumes: &[Volume]) {
     for volume in volumes {
         for call in CALLS {
             progress::show(&format!("calls: {} on {}", call.name(), volume.name));
-            let figures = contest(volume, call, run.plan.effort);
+            let (figures, over) = contest(volume, call, run.plan.effort);
             let times = [show(figures.proved), show(figures.second)];
             let [proved, second] = times;
-            let (ratio, over) = (figures.ratio.to_string(), figures.over_check.to_string());
-            table.row(vec![volume.name.clone(), call.name().into(), proved, second, ratio, over]);
-            judge(run, volume, call, &figures);
+            table.row(vec![
+                volume.name.clone(),
+                call.name().into(),
+                proved,
+                second,
+                figures.ratio.to_string(),
+                over.to_string(),
+            ]);
+            judge(run, volume, call, figures.ratio, over);
         }
     }
     progress::clear();
     run.report.add(table);
 }
 
-fn judge(run: &mut Run, volume: &Volume, call: Call, figures: &Figures) {
-    let (ratio, over) = (figures.ratio, figures.over_check);
+fn judge(run: &mut Run, volume: &Volume, call: Call, ratio: Spread, over: Spread) {
     match call {
         Call::Check => {
             run.goals.at_most(

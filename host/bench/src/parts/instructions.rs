@@ -1,16 +1,19 @@
 //! Instructions of each call, by callgrind; and of the check as the volume grows.
 
+use super::calls::DOMINATED;
 use super::growth::{volumes as growing, NEAR};
 use super::Run;
 use crate::callgrind::{count, is_there, jobs_of, Job};
 use crate::calls::{Call, Program, CALLS};
 use crate::goals::Line;
+use crate::profile::of_check;
 use crate::progress;
 use crate::report::{grouped, Table};
 use crate::volumes::Volume;
 use std::io;
 
-const NOTE: &str = "By callgrind: a process of eleven calls less a process of one, divided by ten. The same on every run.";
+const NOTE: &str =
+    "By callgrind: a process of eleven calls less a process of one, divided by ten. Runs differ by a few instructions at most.";
 
 pub fn measure(run: &mut Run, volumes: &[Volume]) -> io::Result<()> {
     if !is_there() {
@@ -24,6 +27,7 @@ pub fn measure(run: &mut Run, volumes: &[Volume]) -> io::Result<()> {
     of_calls(run, volumes)?;
     if run.plan.all_instructions {
         of_growth(run)?;
+        by_function(run, volumes)?;
     }
     Ok(())
 }
@@ -39,6 +43,35 @@ fn told(count: Option<u64>) -> String {
     count.map_or_else(|| "callgrind failed".into(), grouped)
 }
 
+fn over(count: Option<u64>, other: Option<u64>) -> Option<f64> {
+    count.zip(other).map(|(count, other)| count as f64 / other as f64)
+}
+
+fn judge(run: &mut Run, volume: &str, call: Call, ratio: Option<f64>, over_check: Option<f64>) {
+    let on = format!("{volume}, {}", call.name());
+    match (call, ratio, over_check) {
+        (Call::Check, Some(ratio), _) => {
+            run.goals.at_most(
+                "check, instructions over second program's",
+                volume,
+                ratio,
+                1.0,
+                format!("{ratio:.2}"),
+            );
+        }
+        (Call::Address | Call::FindUser | Call::FindFile, _, Some(over)) => {
+            run.goals.at_most(
+                "address and find, instructions over check's",
+                &on,
+                over,
+                DOMINATED,
+                format!("{over:.4}"),
+            );
+        }
+        _ => (),
+    }
+}
+
 fn of_calls(run: &mut Run, volumes: &[Volume]) -> io::Result<()> {
     let (calls, volumes) = if run.plan.all_instructions {
         (&CALLS[..], volumes)
@@ -51,20 +84,22 @@ fn of_calls(run: &mut Run, volumes: &[Volume]) -> io::Result<()> {
     }
     let counts = counted("calls", &jobs);
     let mut table = Table::new("Instructions", NOTE, &["volume", "call", "proved", "second", "proved / second"]);
+    let mut check = None;
     for (job, two) in jobs.chunks(2).zip(counts.chunks(2)) {
-        let volume = job[0].image.file_stem().unwrap_or_default().to_string_lossy().into_owned();
-        let ratio = two[0].zip(two[1]).map(|(proved, second)| proved as f64 / second as f64);
-        if let (Call::Check, Some(ratio)) = (job[0].call, ratio) {
-            run.goals.at_most(
-                "check, instructions over second program's",
-                &volume,
-                ratio,
-                1.0,
-                format!("{ratio:.2}"),
-            );
-        }
-        let ratio = ratio.map_or_else(String::new, |ratio| format!("{ratio:.2}"));
-        table.row(vec![volume, job[0].call.name().into(), told(two[0]), told(two[1]), ratio]);
+        let (call, volume) = (
+            job[0].call,
+            job[0].image.file_stem().unwrap_or_default().to_string_lossy().into_owned(),
+        );
+        let ratio = over(two[0], two[1]);
+        check = if call == Call::Check { two[0] } else { check };
+        judge(run, &volume, call, ratio, over(two[0], check));
+        table.row(vec![
+            volume,
+            call.name().into(),
+            told(two[0]),
+            told(two[1]),
+            ratio.map_or_else(String::new, |ratio| format!("{ratio:.2}")),
+        ]);
     }
     run.report.add(table);
     Ok(())
@@ -112,6 +147,30 @@ fn of_growth(run: &mut Run) -> io::Result<()> {
         NEAR,
         shown,
     );
+    run.report.add(table);
+    Ok(())
+}
+
+const WHERE: &str = "By callgrind: instructions inside a function itself, in one check, as a share of all the library's own. What the \
+    compiler put into its caller counts there: the walk over system pages, the bits' comparison and rule 10 into sound::judge_held.";
+
+/// Where the instructions of the library's check go.
+fn by_function(run: &mut Run, volumes: &[Volume]) -> io::Result<()> {
+    let mut table = Table::new(
+        "Where the check's instructions go",
+        WHERE,
+        &["volume", "function", "instructions", "share"],
+    );
+    for volume in volumes {
+        progress::show(&format!("callgrind: functions on {}", volume.name));
+        let shares = of_check(&run.scratch.native_volume(volume)?)?;
+        let all: u64 = shares.iter().map(|share| share.1).sum();
+        for (name, count) in shares.iter().take(5) {
+            let share = format!("{:.1}%", 100.0 * *count as f64 / all as f64);
+            table.row(vec![volume.name.clone(), name.clone(), grouped(*count), share]);
+        }
+    }
+    progress::clear();
     run.report.add(table);
     Ok(())
 }
