@@ -18,15 +18,20 @@ pub struct Goals {
 }
 
 impl Goals {
-    /// A goal that the figure is at most the limit.
+    /// A goal that the figure is at most the limit. Of several figures for one goal and place the greatest is kept.
     pub fn at_most(&mut self, goal: &'static str, on: &str, figure: f64, limit: f64, told: String) {
-        self.judged.push(Judged {
+        let judged = Judged {
             goal,
             on: on.into(),
             figure,
             limit,
             told,
-        });
+        };
+        match self.judged.iter_mut().find(|other| other.goal == goal && other.on == on) {
+            Some(other) if other.figure < figure => *other = judged,
+            Some(_) => (),
+            None => self.judged.push(judged),
+        }
     }
 
     /// The rows of one goal together, goals in the order in which they came.
@@ -105,8 +110,10 @@ mod tests {
     fn verdicts_come_from_the_figures() {
         let mut goals = Goals::default();
         goals.at_most("g", "v", 1.5, 1.0, "1.5".into());
-        goals.at_most("g", "v", 1.0, 1.0, "1.0".into());
+        goals.at_most("g", "w", 0.5, 1.0, "0.5".into());
+        goals.at_most("g", "w", 1.0, 1.0, "1.0".into());
         let rows = goals.table().rows;
+        assert_eq!((rows.len(), rows[1][3].as_str()), (2, "1.0"));
         assert_eq!((rows[0][4].as_str(), rows[1][4].as_str()), ("missed: 1.50 times the limit", "met"));
     }
 }

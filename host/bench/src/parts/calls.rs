@@ -54,9 +54,14 @@ fn judge(run: &mut Run, volume: &Volume, call: Call, ratio: Spread, over: Spread
             );
         }
         Call::Address | Call::FindUser | Call::FindFile => {
-            let on = format!("{}, {}", volume.name, call.name());
-            run.goals
-                .at_most("address and find, time over check's", &on, over.median, DOMINATED, over.to_string());
+            let told = format!("{over}, {}", call.name());
+            run.goals.at_most(
+                "address and find, time over check's, the most of the three",
+                &volume.name,
+                over.median,
+                DOMINATED,
+                told,
+            );
         }
         _ => (),
     }

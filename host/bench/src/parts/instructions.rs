@@ -48,7 +48,6 @@ fn over(count: Option<u64>, other: Option<u64>) -> Option<f64> {
 }
 
 fn judge(run: &mut Run, volume: &str, call: Call, ratio: Option<f64>, over_check: Option<f64>) {
-    let on = format!("{volume}, {}", call.name());
     match (call, ratio, over_check) {
         (Call::Check, Some(ratio), _) => {
             run.goals.at_most(
@@ -60,12 +59,13 @@ fn judge(run: &mut Run, volume: &str, call: Call, ratio: Option<f64>, over_check
             );
         }
         (Call::Address | Call::FindUser | Call::FindFile, _, Some(over)) => {
+            let told = format!("{over:.4}, {}", call.name());
             run.goals.at_most(
-                "address and find, instructions over check's",
-                &on,
+                "address and find, instructions over check's, the most of the three",
+                volume,
                 over,
                 DOMINATED,
-                format!("{over:.4}"),
+                told,
             );
         }
         _ => (),
