@@ -60,6 +60,10 @@ fn main() -> ExitCode {
     let arguments: Vec<String> = std::env::args().skip(1).collect();
     let arguments: Vec<&str> = arguments.iter().map(String::as_str).collect();
     let done = match arguments[..] {
+        ["--help"] => {
+            println!("{USE}");
+            Ok(())
+        }
         ["machine"] => {
             print!("{}", machine::table().as_text());
             Ok(())

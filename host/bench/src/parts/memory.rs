@@ -44,9 +44,9 @@ fn tell(run: &Run, volume: &Volume) -> io::Result<Vec<Used>> {
     Ok(String::from_utf8_lossy(&output.stdout).lines().filter_map(used).collect())
 }
 
-/// The most stack and heap of a program's calls, of those that are asked for.
-fn most(all: &[Used], program: &str, wanted: impl Fn(&str) -> bool) -> (u64, u64) {
-    let of = || all.iter().filter(|used| used.program == program && wanted(&used.call));
+/// The most stack and heap of any of a program's calls, or of its check.
+fn most(all: &[Used], program: &str, any: bool) -> (u64, u64) {
+    let of = || all.iter().filter(|used| used.program == program && (any || used.call == "check"));
     (
         of().map(|used| used.stack).max().unwrap_or(0),
         of().map(|used| used.heap).max().unwrap_or(0),
@@ -59,13 +59,12 @@ pub fn measure(run: &mut Run, volumes: &[Volume]) -> io::Result<()> {
     for volume in volumes {
         progress::show(&format!("memory: {}", volume.name));
         let all = tell(run, volume)?;
-        let wanted: [(&str, fn(&str) -> bool); 2] = [("check", |call| call == "check"), ("the most of any", |_| true)];
-        for (what, wanted) in wanted {
-            let (proved, second) = (most(&all, "proved", wanted), most(&all, "second", wanted));
+        for (what, any) in [("check", false), ("the most of any", true)] {
+            let (proved, second) = (most(&all, "proved", any), most(&all, "second", any));
             let cells = [proved.0, proved.1, second.0, second.1].map(grouped);
             table.row([volume.name.clone(), what.to_string()].into_iter().chain(cells).collect());
         }
-        let (stack, heap) = most(&all, "proved", |_| true);
+        let (stack, heap) = most(&all, "proved", true);
         let bytes = stack + heap;
         run.goals.at_most(
             "memory beyond the image, bytes, the most of any call",
