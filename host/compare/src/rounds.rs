@@ -1,0 +1,413 @@
+//! The rounds of a run, each on one volume. A cycle has every kind of round; a run is at least one cycle.
+
+use crate::both::{Answered, Both, Disagreement};
+use crate::calls::Call;
+use crate::choose::{Choice, Profile, ANY, ASKING, FILES, GROWING, MIXED, PROFILES, RUNS, SHRINKING, USERS};
+use crate::damage::Damage;
+use crate::random::Random;
+use crate::scattered::scattered;
+use crate::scene::Scene;
+use crate::tally::{Met, Tally};
+use crate::volumes::*;
+use crate::words::*;
+
+pub type Agreed = Result<(), Box<Disagreement>>;
+
+/// What a round does.
+#[derive(Clone, Copy)]
+pub enum Kind {
+    /// Calls by chance from a format on.
+    Sequence { calls: u32 },
+    /// Calls by chance on a volume that is all given and nearly used.
+    Full,
+    /// Contiguous files, as long as the longest run and one page longer.
+    Runs,
+    /// A file around 512 and around 1,024 pages.
+    LongFile { from: u32 },
+    /// Users around 64, or around 256.
+    Users { from: u32 },
+    /// Files of a user around 256.
+    Files,
+    /// Image lengths that are wrong, and the shortest and longest that are right.
+    Lengths,
+    /// Calls on a sound volume that no calls give.
+    Scattered { calls: u32 },
+    /// Each rule broken so often, with a call on each broken image.
+    Damaged { times: u32 },
+    /// Images made to cost a check much.
+    Hostile,
+}
+
+/// How a round gets its volume's size: one of its own, or by chance between two.
+#[derive(Clone, Copy)]
+pub enum Size {
+    Of(u32),
+    Between(u32, u32),
+}
+
+/// Rounds of one cycle: how often, the kind, the size.
+pub const CYCLE: &[(u32, Kind, Size)] = &[
+    (6, Kind::Sequence { calls: 150 }, Size::Of(8)),
+    (6, Kind::Sequence { calls: 150 }, Size::Of(9)),
+    (6, Kind::Sequence { calls: 150 }, Size::Of(16)),
+    (6, Kind::Sequence { calls: 150 }, Size::Of(17)),
+    (6, Kind::Sequence { calls: 150 }, Size::Of(32)),
+    (6, Kind::Sequence { calls: 150 }, Size::Of(154)),
+    (30, Kind::Sequence { calls: 200 }, Size::Between(8, 80)),
+    (2, Kind::Sequence { calls: 100 }, Size::Of(512)),
+    (2, Kind::Sequence { calls: 100 }, Size::Of(1_100)),
+    (2, Kind::Sequence { calls: 100 }, Size::Of(2_048)),
+    (1, Kind::Sequence { calls: 40 }, Size::Of(16_384)),
+    (1, Kind::Sequence { calls: 20 }, Size::Between(2_049, 16_383)),
+    (20, Kind::Full, Size::Between(8, 48)),
+    (16, Kind::Runs, Size::Between(12, 160)),
+    (2, Kind::LongFile { from: 508 }, Size::Of(1_100)),
+    (1, Kind::LongFile { from: 1_021 }, Size::Of(1_100)),
+    (1, Kind::LongFile { from: 1_021 }, Size::Between(1_200, 2_048)),
+    (1, Kind::LongFile { from: 508 }, Size::Of(16_384)),
+    (3, Kind::Users { from: 61 }, Size::Between(30, 160)),
+    (2, Kind::Users { from: 253 }, Size::Between(40, 160)),
+    (3, Kind::Files, Size::Between(60, 520)),
+    (1, Kind::Lengths, Size::Of(8)),
+    (1, Kind::Lengths, Size::Of(16_385)),
+    (60, Kind::Scattered { calls: 25 }, Size::Between(8, 200)),
+    (10, Kind::Scattered { calls: 25 }, Size::Of(8)),
+    (4, Kind::Scattered { calls: 25 }, Size::Of(512)),
+    (4, Kind::Scattered { calls: 20 }, Size::Of(1_100)),
+    (4, Kind::Scattered { calls: 20 }, Size::Of(2_048)),
+    (1, Kind::Scattered { calls: 20 }, Size::Of(16_384)),
+    (60, Kind::Damaged { times: 8 }, Size::Between(16, 160)),
+    (10, Kind::Damaged { times: 4 }, Size::Between(8, 16)),
+    (4, Kind::Damaged { times: 4 }, Size::Of(1_100)),
+    (2, Kind::Damaged { times: 4 }, Size::Of(2_048)),
+    (1, Kind::Damaged { times: 1 }, Size::Of(16_384)),
+    (1, Kind::Hostile, Size::Of(16_384)),
+];
+
+/// One round: its kind and size by its number in the cycle.
+pub fn nth_of_cycle(mut number: u64) -> (Kind, Size) {
+    for &(times, kind, size) in CYCLE {
+        if number < u64::from(times) {
+            return (kind, size);
+        }
+        number -= u64::from(times);
+    }
+    unreachable!("the number is below the cycle's length")
+}
+
+pub fn rounds_of_a_cycle() -> u64 {
+    CYCLE.iter().map(|&(times, ..)| u64::from(times)).sum()
+}
+
+/// A round at work: its own random numbers, and the run's tally.
+pub struct Round<'a> {
+    pub random: Random,
+    pub tally: &'a mut Tally,
+}
+
+impl Round<'_> {
+    pub fn run(&mut self, kind: Kind, size: Size) -> Agreed {
+        let pages = match size {
+            Size::Of(pages) => pages,
+            Size::Between(low, high) => self.random.between(low, high),
+        };
+        self.tally.volume(pages);
+        match kind {
+            Kind::Sequence { calls } => self.sequence(pages, calls),
+            Kind::Full => self.full(pages),
+            Kind::Runs => self.runs(pages),
+            Kind::LongFile { from } => self.long_file(pages, from),
+            Kind::Users { from } => self.users(pages, from),
+            Kind::Files => self.files(pages),
+            Kind::Lengths => self.lengths(pages),
+            Kind::Scattered { calls } => self.scattered(pages, calls),
+            Kind::Damaged { times } => self.damaged(pages, times),
+            Kind::Hostile => self.hostile(),
+        }
+    }
+
+    /// So many calls by chance, with a wrong length now and then.
+    fn calls(&mut self, both: &mut Both, profile: &Profile, count: u32) -> Agreed {
+        for _ in 0..count {
+            let scene = Scene::read(both.image());
+            let mut choice = Choice { random: &mut self.random, image: both.image(), scene: &scene };
+            let (call, lent) = (choice.call(profile), choice.lent(60));
+            self.one(both, &scene, lent, call)?;
+        }
+        Ok(())
+    }
+
+    /// One call, and what it met.
+    fn one(&mut self, both: &mut Both, scene: &Scene, lent: Option<usize>, call: Call) -> Result<Answered, Box<Disagreement>> {
+        let met = meets(both.image(), scene, &call);
+        let answered = both.lend(lent, call, self.tally)?;
+        for (what, number) in met {
+            if answered.call.number == number && lent.is_none() {
+                self.tally.met(what);
+            }
+        }
+        if let (Some(above), 0) = (above(scene, both), answered.call.number) {
+            self.tally.met(above);
+        }
+        Ok(answered)
+    }
+
+    /// A call on the scene as it stands.
+    fn plain(&mut self, both: &mut Both, call: Call) -> Result<Answered, Box<Disagreement>> {
+        let scene = Scene::read(both.image());
+        self.one(both, &scene, None, call)
+    }
+
+    fn sequence(&mut self, pages: u32, calls: u32) -> Agreed {
+        let mut both = Both::new(blank(&mut self.random, pages));
+        both.call(Call::Check, self.tally)?;
+        let bit_page = if self.random.one_in(3) { None } else { Some(self.random.between(1, pages - 1)) };
+        both.call(Call::Format { name: b"YARD".to_vec(), bit_page }, self.tally)?;
+        for part in 0..calls / 10 {
+            let profile = if part == 0 { MIXED } else { *self.random.pick(&PROFILES) };
+            self.calls(&mut both, &profile, 10)?;
+        }
+        Ok(())
+    }
+
+    fn full(&mut self, pages: u32) -> Agreed {
+        let keep = self.random.below(3);
+        let mut both = Both::new(with_owner(&mut self.random, pages, keep));
+        for _ in 0..3 {
+            self.calls(&mut both, &GROWING, 40)?;
+            self.calls(&mut both, &MIXED, 10)?;
+            self.calls(&mut both, &SHRINKING, 5)?;
+        }
+        Ok(())
+    }
+
+    fn runs(&mut self, pages: u32) -> Agreed {
+        let mut both = Both::new(with_owner(&mut self.random, pages, 3));
+        for n in 0..12 {
+            self.calls(&mut both, &RUNS, 6)?;
+            let longest = Scene::read(both.image()).longest_run(both.image());
+            for count in [longest + 1, longest] {
+                let name = format!("RUN-{n}-{count}").into_bytes();
+                self.plain(&mut both, Call::CreateContiguous { user: 0, name, kind: Vec::new(), created: n, count })?;
+            }
+            self.calls(&mut both, &SHRINKING, 2)?;
+        }
+        Ok(())
+    }
+
+    /// Up past the edge, down below it and up again, with questions between.
+    fn long_file(&mut self, pages: u32, from: u32) -> Agreed {
+        let mut both = Both::new(with_long_file(&mut self.random, pages, from));
+        let rounds = if pages > 2_048 { 1 } else { 2 };
+        for _ in 0..rounds {
+            for (up, times) in [(true, 8), (false, 7)] {
+                for _ in 0..times {
+                    let call = if up { Call::Grow { user: 0, file: 0 } } else { Call::Shrink { user: 0, file: 0 } };
+                    self.plain(&mut both, call)?;
+                }
+                self.calls(&mut both, &ASKING, 6)?;
+            }
+        }
+        self.plain(&mut both, Call::DeleteFile { user: 0, file: 0 })?;
+        self.calls(&mut both, &MIXED, 6)
+    }
+
+    fn users(&mut self, pages: u32, from: u32) -> Agreed {
+        let mut both = Both::new(with_users(&mut self.random, pages, from));
+        for n in from..from + 6 {
+            self.plain(&mut both, Call::CreateUser { name: nth(1_000 + n) })?;
+            self.calls(&mut both, &FILES, 3)?;
+        }
+        for user in [from, 64, 65, 255, 254] {
+            self.plain(&mut both, Call::DeleteUser { user })?;
+            self.calls(&mut both, &USERS, 8)?;
+        }
+        self.calls(&mut both, &MIXED, 30)
+    }
+
+    fn files(&mut self, pages: u32) -> Agreed {
+        let mut both = Both::new(with_files(&mut self.random, pages, 253));
+        for n in 0..5 {
+            self.plain(&mut both, Call::CreateIndexed { user: 0, name: nth(500 + n), kind: b"X".to_vec(), created: n })?;
+        }
+        let (name, kind) = (b"RUN".to_vec(), Vec::new());
+        self.plain(&mut both, Call::CreateContiguous { user: 0, name, kind, created: 1, count: 1 })?;
+        for _ in 0..4 {
+            let file = self.random.below(256);
+            self.plain(&mut both, Call::DeleteFile { user: 0, file })?;
+            self.calls(&mut both, &FILES, 12)?;
+        }
+        Ok(())
+    }
+
+    /// Every call with every wrong length of this image; then some with right ones.
+    fn lengths(&mut self, pages: u32) -> Agreed {
+        let words = pages as usize * PAGE;
+        let mut both = Both::new(vec![0; words]);
+        let name = b"YARD".to_vec();
+        both.lend(Some(words.min(16_384 * PAGE)), Call::Format { name: name.clone(), bit_page: None }, self.tally)?;
+        let scene = Scene::read(both.image());
+        for which in 0..19 {
+            let mut profile: Profile = [0; 19];
+            profile[which] = 1;
+            for lent in [words - 1, 16_384 * PAGE + 1, 7 * PAGE, 8 * PAGE - 1, 8 * PAGE + 1, 0] {
+                let call = Choice { random: &mut self.random, image: both.image(), scene: &scene }.call(&profile);
+                if lent <= words {
+                    both.lend(Some(lent), call, self.tally)?;
+                }
+            }
+        }
+        both.call(Call::Format { name, bit_page: Some(1) }, self.tally)?;
+        both.lend(Some(8 * PAGE), Call::Check, self.tally).map(|_| ())
+    }
+
+    fn scattered(&mut self, pages: u32, calls: u32) -> Agreed {
+        let mut both = Both::new(self.scattered_volume(pages));
+        let first = both.call(Call::Check, self.tally)?;
+        assert_eq!(first.call.number, 0, "the maker of scattered volumes made an unsound one");
+        self.tally.met(Met::ScatteredVolume);
+        let profiles = [MIXED, ASKING, USERS, FILES, RUNS, GROWING, SHRINKING];
+        for part in 0..calls / 5 {
+            let profile = if part == 0 { ASKING } else { *self.random.pick(&profiles) };
+            self.calls(&mut both, &profile, 5)?;
+        }
+        Ok(())
+    }
+
+    fn scattered_volume(&mut self, pages: u32) -> Vec<u16> {
+        let users = self.random.between(1, 40);
+        let files = self.random.between(1, 40);
+        scattered(&mut self.random, pages, users, files)
+    }
+
+    /// A volume for damage: scattered, or as calls of the second program leave it.
+    fn base(&mut self, pages: u32) -> Vec<u16> {
+        if pages > 8 && self.random.one_in(2) || pages > 2_048 {
+            return self.scattered_volume(pages);
+        }
+        let mut image = match pages {
+            1_100.. => with_long_file(&mut self.random, pages, 1_024),
+            _ => with_owner(&mut self.random, pages, pages / 4),
+        };
+        for n in 0..pages.min(60) {
+            let scene = Scene::read(&image);
+            let profile = if n < 20 { FILES } else { GROWING };
+            let call = Choice { random: &mut self.random, image: &image, scene: &scene }.call(&profile);
+            call.on_second(&mut image);
+        }
+        image
+    }
+
+    fn damaged(&mut self, pages: u32, times: u32) -> Agreed {
+        let base = self.base(pages);
+        let scene = Scene::read(&base);
+        let mut both = Both::new(base.clone());
+        let first = both.call(Call::Check, self.tally)?;
+        assert_eq!(first.call.number, 0, "the volume to be damaged was unsound before");
+        for _ in 0..times {
+            for rule in 1..=10 {
+                if let Some(words) = Damage::new(&mut self.random, &base, &scene).aimed(rule) {
+                    both.put(&words);
+                    self.on_damaged(&mut both, &scene, Some(rule))?;
+                }
+            }
+            for _ in 0..6 {
+                let words = Damage::new(&mut self.random, &base, &scene).by_chance();
+                both.put(&words);
+                self.on_damaged(&mut both, &scene, None)?;
+            }
+            self.damaged_twice(&mut both, &base, &scene)?;
+        }
+        Ok(())
+    }
+
+    /// Two rules broken at once: the lower one is to be told.
+    fn damaged_twice(&mut self, both: &mut Both, base: &[u16], scene: &Scene) -> Agreed {
+        for _ in 0..4 {
+            for _ in 0..2 {
+                let rule = self.random.between(1, 10);
+                let words = Damage::new(&mut self.random, base, scene).aimed(rule).unwrap_or_default();
+                both.put(&words);
+            }
+            self.on_damaged(both, scene, None)?;
+        }
+        Ok(())
+    }
+
+    /// A call or two on a damaged image, which is then put right again.
+    fn on_damaged(&mut self, both: &mut Both, scene: &Scene, aimed: Option<u32>) -> Agreed {
+        for _ in 0..self.random.between(1, 2) {
+            let mut choice = Choice { random: &mut self.random, image: both.image(), scene };
+            let (call, lent) = (choice.call(&ANY), choice.lent(30));
+            let is_format = matches!(call, Call::Format { .. });
+            let answered = both.lend(lent, call, self.tally)?;
+            if let (Some(rule), false) = (aimed, is_format) {
+                if answered.check.rule == rule {
+                    self.tally.hit(rule);
+                }
+            }
+        }
+        both.restart();
+        Ok(())
+    }
+
+    fn hostile(&mut self) -> Agreed {
+        let mut image = full_of_entries(262_144, S | 10_000);
+        let circle = self.random.one_in(2);
+        shared_blocks(&mut image, circle);
+        let mut both = Both::new(image);
+        both.call(Call::WhoHolds { page: 10_000 }, self.tally)?;
+        let last = 1_000 * PAGE + 32 * 65_535;
+        both.put(&[(last + POINTER + 1, 16_384)]);
+        both.call(Call::Grow { user: 255, file: 255 }, self.tally)?;
+        let length = self.random.between(16_383, 16_384);
+        Both::new(full_of_entries(length, 1)).call(Call::Shrink { user: 0, file: 0 }, self.tally)?;
+        Ok(())
+    }
+}
+
+/// What a call would meet on this image, with the number that it then answers.
+fn meets(image: &[u16], scene: &Scene, call: &Call) -> Vec<(Met, u32)> {
+    let mut met = Vec::new();
+    let pages_of = |user: &u32, file: &u32| scene.file(*user, *file).map_or(0, |file| file.pages);
+    match call {
+        Call::Grow { user, file } if pages_of(user, file) == 512 => met.push((Met::FilePast512, 0)),
+        Call::Grow { user, file } if pages_of(user, file) == 1_024 => met.push((Met::FilePast1024, 0)),
+        Call::Shrink { user, file } if pages_of(user, file) == 513 => met.push((Met::BackTo512, 0)),
+        Call::CreateUser { .. } => met.push((Met::All256Users, 8)),
+        Call::CreateIndexed { .. } => met.push((Met::All256Files, 8)),
+        Call::CreateContiguous { count, .. } => {
+            let longest = scene.longest_run(image);
+            if *count == longest {
+                met.push((Met::RunJustFits, 0));
+            } else if *count == longest + 1 {
+                met.push((Met::RunJustDoesNot, 11));
+            }
+        }
+        Call::NoteOpen { user, file } if scene.file(*user, *file).is_some_and(|file| image[file.at + OPENS] == 65_535) => {
+            met.push((Met::OpensCameRound, 0));
+        }
+        _ => {}
+    }
+    if scene.longest_run(image) == 0 {
+        met.extend((0..12).map(|number| (Met::FullVolume, number)));
+    }
+    met
+}
+
+/// What a done call left: a user from 64 up, or an entry used again below one that is in use.
+fn above(before: &Scene, both: &Both) -> Option<Met> {
+    let after = Scene::read(both.image());
+    if after.users.len() > before.users.len() {
+        let new = after.users.iter().find(|user| before.users.iter().all(|old| old.index != user.index))?;
+        let reused = after.users.last().is_some_and(|last| last.index > new.index);
+        return if new.index > 63 { Some(Met::UserPast64) } else { reused.then_some(Met::ReusedEntry) };
+    }
+    if after.files.len() > before.files.len() {
+        let key = |file: &crate::scene::File| (file.user, file.file);
+        let new = after.files.iter().find(|file| before.file(file.user, file.file).is_none())?;
+        let reused = after.files.iter().any(|file| file.user == new.user && key(file) > key(new));
+        return reused.then_some(Met::ReusedEntry);
+    }
+    None
+}
