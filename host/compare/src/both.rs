@@ -7,8 +7,7 @@ use crate::words::PAGE;
 use std::panic::{catch_unwind, AssertUnwindSafe};
 
 /// Stands for the answer of a program that panicked: no call answers so.
-const NO_ANSWER: Answer =
-    Answer { number: u32::MAX, rule: 0, value: 0, kind: 0, user: 0, file: 0, position: 0, offset: 0, length: 0 };
+const NO_ANSWER: Answer = Answer { number: u32::MAX, rule: 0, value: 0, kind: 0, user: 0, file: 0, position: 0, offset: 0, length: 0 };
 
 /// What a step answered: the call itself, and the check after it.
 #[derive(Clone, Copy)]

@@ -31,7 +31,12 @@ impl Choice<'_> {
     /// A call by the weights of a profile.
     pub fn call(&mut self, profile: &Profile) -> Call {
         let mut left = self.random.below(profile.iter().sum());
-        let which = profile.iter().position(|&weight| left < weight || { left -= weight; false });
+        let which = profile.iter().position(|&weight| {
+            left < weight || {
+                left -= weight;
+                false
+            }
+        });
         match which.unwrap_or(0) {
             0 => Call::Check,
             1 => Call::FindUser { name: self.known_user_name() },
@@ -119,8 +124,7 @@ impl Choice<'_> {
 
     /// A name that is wrong somewhere.
     fn wrong_name(&mut self) -> Vec<u8> {
-        let wrong: [&[u8]; 12] =
-            [b"", b"yard", b"A B", b"A\0", b"\0A", b"A_B", b"@", b"[", b"/", b":", b"\xC1B", b"SEVENTEEN-LETTERS"];
+        let wrong: [&[u8]; 12] = [b"", b"yard", b"A B", b"A\0", b"\0A", b"A_B", b"@", b"[", b"/", b":", b"\xC1B", b"SEVENTEEN-LETTERS"];
         self.random.pick(&wrong).to_vec()
     }
 
@@ -215,7 +219,7 @@ impl Choice<'_> {
     }
 
     fn create_indexed(&mut self) -> Call {
-        let user = self.user();
+        let user = self.rich_user();
         let (name, kind) = self.name_for_file(user);
         Call::CreateIndexed { user, name, kind, created: self.random.next() as u32 }
     }
@@ -229,8 +233,11 @@ impl Choice<'_> {
         Call::CreateContiguous { user, name, kind, created: self.random.next() as u32, count: self.count_near(bound) }
     }
 
-    /// Grow, shrink, delete or open.
+    /// Grow, shrink, delete or open; mostly a file is made first where there is none.
     fn on_file(&mut self, which: usize) -> Call {
+        if self.scene.files.is_empty() && !self.random.one_in(3) {
+            return self.create_indexed();
+        }
         let (user, file) = self.user_and_file();
         match which {
             14 => Call::Grow { user, file },

@@ -232,7 +232,8 @@ impl<'a> Damage<'a> {
             2 if pages > 0 => self.length(file, if file.is_contiguous() { 0 } else { pages - 1 }),
             2 | 3 => {
                 let page = file.page();
-                let wrong = [0, I, S, page | I | S, I | self.scene.pages, S | self.scene.pages, self.scene.pages, S | page.max(1), page | 1 << 29];
+                let wrong =
+                    [0, I, S, page | I | S, I | self.scene.pages, S | self.scene.pages, self.scene.pages, S | page.max(1), page | 1 << 29];
                 let wrong = *self.random.pick(&wrong);
                 self.two(file.at + POINTER, if wrong == file.pointer { self.scene.pages } else { wrong })
             }
