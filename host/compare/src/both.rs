@@ -108,3 +108,45 @@ impl Both {
 pub fn page_and_word(at: usize) -> (usize, usize) {
     (at / PAGE, at % PAGE)
 }
+
+#[cfg(test)]
+mod tests {
+    use super::*;
+
+    fn formatted() -> Both {
+        let mut both = Both::new(vec![0; 16 * PAGE]);
+        let format = Call::Format { name: b"YARD".to_vec(), bit_page: None };
+        assert!(both.call(format, &mut Tally::default()).is_ok());
+        both
+    }
+
+    /// One word that differs is seen, also one that no rule looks at.
+    #[test]
+    fn a_word_that_differs_is_seen() {
+        let mut both = formatted();
+        both.second[5 * PAGE + 3] ^= 1;
+        let seen = both.call(Call::Check, &mut Tally::default()).err().expect("a disagreement");
+        assert_eq!(seen.word, Some((5 * PAGE + 3, 0, 1)));
+        assert_eq!((seen.proved, seen.steps.len()), (seen.second, 2));
+    }
+
+    /// Answers that differ are seen, and each number of them counts.
+    #[test]
+    fn an_answer_that_differs_is_seen() {
+        let mut both = formatted();
+        both.second[1023] += 1;
+        let seen = both.call(Call::WhoHolds { page: 0 }, &mut Tally::default()).err().expect("a disagreement");
+        assert_eq!((seen.proved.number, seen.second.number, seen.second.rule), (0, 3, 10));
+        let one = Answer::default();
+        let others = [Answer { position: 1, ..one }, Answer { offset: 1, ..one }, Answer { rule: 1, ..one }, Answer { kind: 1, ..one }];
+        assert_eq!(others.map(|two| one.first_difference(&two)), [Some("position"), Some("offset"), Some("rule"), Some("kind")]);
+    }
+
+    #[test]
+    fn restart_brings_the_first_image_back() {
+        let mut both = formatted();
+        both.put(&[(3, 9)]);
+        both.restart();
+        assert_eq!((both.image(), both.steps.len()), (&both.start[..], 0));
+    }
+}

@@ -60,3 +60,23 @@ impl Random {
         }
     }
 }
+
+#[cfg(test)]
+mod tests {
+    use super::Random;
+
+    /// The published first numbers of splitmix64 for this seed.
+    #[test]
+    fn is_splitmix64() {
+        let mut random = Random::new(1_234_567);
+        let first: Vec<u64> = (0..3).map(|_| random.next()).collect();
+        assert_eq!(first, [6_457_827_717_110_365_317, 3_203_168_211_198_807_973, 9_817_491_932_198_370_423]);
+    }
+
+    #[test]
+    fn below_its_bound_and_up_to_it() {
+        let mut random = Random::new(7);
+        let met: std::collections::BTreeSet<u32> = (0..1_000).map(|_| random.between(3, 9)).collect();
+        assert_eq!(met, (3..=9).collect());
+    }
+}

@@ -150,3 +150,15 @@ impl Tally {
 fn row(counts: &[u64]) -> String {
     counts.iter().map(|&count| if count == 0 { format!("{:>8}", "-") } else { format!("{count:8}") }).collect()
 }
+
+#[cfg(test)]
+mod tests {
+    use super::*;
+
+    /// A run that met nothing is told so for each number, each rule twice, each call, each size and each edge.
+    #[test]
+    fn nothing_is_too_little() {
+        let wanted = 12 + 10 + 10 + NAMES.len() + SIZES.len() + MINIMUMS.len();
+        assert_eq!(Tally::default().too_little().len(), wanted);
+    }
+}

@@ -221,3 +221,49 @@ impl fmt::Display for Answer {
         Ok(())
     }
 }
+
+#[cfg(test)]
+mod tests {
+    use super::{answer, step};
+
+    /// What is kept of a disagreement is read again as it was.
+    #[test]
+    fn lines_are_read_as_they_are_written() {
+        let lines = [
+            "word 7 1023 65535",
+            "lend 7168 check",
+            "find-user \"\"",
+            "find-file 256 A\\x00\\xC1 \\x22",
+            "address 0 1 4294967295",
+            "holds 16",
+            "read 1 2 3",
+            "format YARD 77",
+            "format YARD",
+            "user N-1",
+            "delete-user 64",
+            "give 0 16385",
+            "take 0 1",
+            "indexed 0 READS DATA 7",
+            "contiguous 0 RUN \"\" 10 7",
+            "grow 0 0",
+            "shrink 0 0",
+            "delete-file 0 0",
+            "write 0 0 0 5 1023",
+            "open 0 0",
+        ];
+        for line in lines {
+            assert_eq!(step(line).map(|step| step.to_string()), Ok(line.to_string()));
+        }
+        for wrong in ["", "grow 0", "grow 0 0 0", "word 0 0 65536", "user A\\xG0", "user A\\x4", "nothing"] {
+            assert!(step(wrong).is_err(), "{wrong}");
+        }
+    }
+
+    #[test]
+    fn answers_are_read_as_they_are_written() {
+        for line in ["0", "3 rule 10", "0 value 5", "0 kind 10 user 1 file 2 position 3", "0 offset 5120 length 1024"] {
+            assert_eq!(answer(line).map(|answer| answer.to_string()), Ok(line.to_string()));
+        }
+        assert!(answer("0 visits 3").is_err());
+    }
+}
