@@ -42,7 +42,10 @@ fn one_case(folder: &Path) -> Result<String, String> {
     }
     for line in lines {
         let (asked, wanted) = line.split_once(':').ok_or_else(|| format!("expect: `{line}` has no colon"))?;
-        expect(&mut both, asked, &answer(wanted)?)?;
+        match asked.strip_prefix("word ") {
+            Some(place) => expect_word(&both, place, wanted)?,
+            None => expect(&mut both, asked, &answer(wanted)?)?,
+        }
     }
     Ok(name.trim().to_string())
 }
@@ -113,6 +116,18 @@ fn expect(both: &mut Both, asked: &str, wanted: &Answer) -> Result<(), String> {
     }
     if given.number != 0 && both.image() != before {
         return Err(format!("`{asked}` was refused and changed the image"));
+    }
+    Ok(())
+}
+
+/// A line `word PAGE WORD: VALUE` of expect: the image has this word there.
+fn expect_word(both: &Both, place: &str, wanted: &str) -> Result<(), String> {
+    let wrong = || format!("expect: `word {place}:{wanted}` is not `word PAGE WORD: VALUE`");
+    let numbers: Vec<usize> = place.split_whitespace().chain([wanted.trim()]).flat_map(str::parse).collect();
+    let [page, word, value] = numbers[..] else { return Err(wrong()) };
+    let found = both.image().get(page * PAGE + word).ok_or_else(wrong)?;
+    if usize::from(*found) != value {
+        return Err(format!("page {page} word {word} is {found}, {value} is expected"));
     }
     Ok(())
 }
