@@ -32,7 +32,7 @@ compare: the proved library against the second program, every answer and every w
   --first N        begin with round N (a round of its own begins from the seed and its number alone)
   --seconds S      go on so long, but for one cycle of rounds at least (without it, one cycle)
   --rounds N       so many rounds
-  --short          one cycle with seed 1, as the gate runs it
+  --short          two cycles with seed 1, as the gate runs it
   --cases FOLDER   run every case in the folder through both (host/cases/README.md)
   --replay FOLDER  go through a kept disagreement again
 
@@ -75,12 +75,12 @@ fn main() -> ExitCode {
 }
 
 fn read_arguments(mut arguments: impl Iterator<Item = String>) -> Result<Asked, String> {
-    let (mut seed, mut first, mut until) = (None, 0, Until::OneCycle);
+    let (mut seed, mut first, mut until) = (None, 0, Until::Cycles(1));
     while let Some(argument) = arguments.next() {
         let mut value = || arguments.next().ok_or(format!("{argument} wants a value"));
         match argument.as_str() {
             "--help" | "-h" => return Ok(Asked::Help),
-            "--short" => (seed, until) = (Some(1), Until::OneCycle),
+            "--short" => (seed, until) = (Some(1), Until::Cycles(2)),
             "--seed" => seed = Some(number(&value()?)?),
             "--first" => first = number(&value()?)?,
             "--seconds" => until = Until::Time(Duration::from_secs(number(&value()?)?)),

@@ -9,8 +9,8 @@ impl Random {
 
     /// The generator of one round, so that a round can be had again without those before it.
     pub fn of_round(seed: u64, round: u64) -> Random {
-        let mut first = Random(seed);
-        Random(first.next() ^ round.wrapping_mul(0xD6E8_FEB8_6659_FD93))
+        let mut first = Random::new(seed);
+        Random::new(first.next() ^ round.wrapping_mul(0xD6E8_FEB8_6659_FD93))
     }
 
     pub fn next(&mut self) -> u64 {

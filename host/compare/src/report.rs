@@ -7,6 +7,9 @@ use crate::words::{from_bytes, to_bytes};
 use std::fs;
 use std::path::{Path, PathBuf};
 
+/// Steps that are told; all of them are kept.
+const SHOWN: usize = 60;
+
 /// All that is to be known of a disagreement.
 pub fn told(seen: &Disagreement) -> String {
     let last = seen.steps.last().map_or(String::new(), ToString::to_string);
@@ -24,8 +27,9 @@ pub fn told(seen: &Disagreement) -> String {
             format!("  images:  page {page} word {word} is the first to differ: proved {proved}, second {second}")
         }
     });
-    lines.push(format!("  steps so far, {} of them:", seen.steps.len()));
-    let shown = seen.steps.iter().skip(seen.steps.len().saturating_sub(40));
+    let hidden = seen.steps.len().saturating_sub(SHOWN);
+    lines.push(format!("  steps so far: {}, the last {} of them:", seen.steps.len(), seen.steps.len() - hidden));
+    let shown = seen.steps.iter().skip(hidden);
     lines.extend(shown.map(|step| format!("    {step}")));
     lines.join("\n")
 }

@@ -28,6 +28,8 @@ pub enum Kind {
     Users { from: u32 },
     /// Files of a user around 256.
     Files,
+    /// 256 users with 256 files each.
+    AllFiles,
     /// Image lengths that are wrong, and the shortest and longest that are right.
     Lengths,
     /// Calls on a sound volume that no calls give.
@@ -68,6 +70,7 @@ pub const CYCLE: &[(u32, Kind, Size)] = &[
     (6, Kind::Users { from: 61 }, Size::Between(30, 160)),
     (6, Kind::Users { from: 253 }, Size::Between(40, 160)),
     (8, Kind::Files, Size::Between(60, 520)),
+    (1, Kind::AllFiles, Size::Of(16_384)),
     (2, Kind::Lengths, Size::Of(8)),
     (1, Kind::Lengths, Size::Of(16_385)),
     (120, Kind::Scattered { calls: 25 }, Size::Between(8, 200)),
@@ -119,6 +122,7 @@ impl Round<'_> {
             Kind::LongFile { from } => self.long_file(pages, from),
             Kind::Users { from } => self.users(pages, from),
             Kind::Files => self.files(pages),
+            Kind::AllFiles => self.all_files(),
             Kind::Lengths => self.lengths(pages),
             Kind::Scattered { calls } => self.scattered(pages, calls),
             Kind::Damaged { times } => self.damaged(pages, times),
@@ -238,6 +242,20 @@ impl Round<'_> {
             self.calls(&mut both, &FILES, 12)?;
         }
         Ok(())
+    }
+
+    fn all_files(&mut self) -> Agreed {
+        let mut both = Both::new(all_files());
+        let (user, file) = (self.random.below(256), self.random.below(256));
+        let new = Call::CreateIndexed { user, name: b"NEW".to_vec(), kind: Vec::new(), created: 1 };
+        let first = self.plain(&mut both, new.clone())?;
+        assert_eq!(first.call.number, 8, "the maker of 65,536 files did not make them all");
+        self.plain(&mut both, Call::DeleteFile { user, file })?;
+        self.plain(&mut both, new)?;
+        self.plain(&mut both, Call::Give { user, count: 40 })?;
+        self.plain(&mut both, Call::Grow { user, file })?;
+        self.calls(&mut both, &ASKING, 4)?;
+        self.calls(&mut both, &MIXED, 4)
     }
 
     /// Every call with every wrong length of this image; then some with right ones.

@@ -10,9 +10,9 @@ use std::panic::{catch_unwind, AssertUnwindSafe};
 use std::path::PathBuf;
 use std::time::{Duration, Instant};
 
-/// How long a run goes on after its first cycle.
+/// How long a run goes on; one with a time goes through a cycle at least.
 pub enum Until {
-    OneCycle,
+    Cycles(u64),
     Rounds(u64),
     Time(Duration),
 }
@@ -46,7 +46,7 @@ pub fn run(plan: &Plan) -> bool {
 
 fn is_over(plan: &Plan, done: u64, begun: Instant) -> bool {
     match plan.until {
-        Until::OneCycle => done >= rounds_of_a_cycle(),
+        Until::Cycles(cycles) => done >= cycles * rounds_of_a_cycle(),
         Until::Rounds(rounds) => done >= rounds,
         Until::Time(time) => done >= rounds_of_a_cycle() && begun.elapsed() >= time,
     }

@@ -127,6 +127,7 @@ impl Tally {
         }
         let all: Vec<u64> = (0..12).map(|n| self.by_number(n)).collect();
         let _ = writeln!(out, "{:18}{}{:8}", "all", row(&all), self.compared());
+        let _ = writeln!(out, "(read_page answers no number: its parts, full and empty, are counted under 0 and below)");
         let _ = writeln!(out, "\n{:18}   sound{}", "check after a call", (1..11).map(|n| format!("  rule{n:2}")).collect::<String>());
         let _ = writeln!(out, "{:18}{}", "lowest rule", row(&self.rules));
         let _ = writeln!(out, "{:18}{}", "aimed and hit", row(&self.aimed));

@@ -2,6 +2,7 @@
 //! an image can be.
 
 use crate::random::Random;
+use crate::scene::Scene;
 use crate::words::*;
 
 /// An image of chance words, or of zeros.
@@ -76,10 +77,14 @@ pub fn with_files(random: &mut Random, pages: u32, files: u32) -> Vec<u16> {
     image
 }
 
-/// 256 users and all 2,048 object pages, each entry a file of the same pages, bytes and pointer: what costs a check most. The pages are
-/// those that the pointer leads to, and no bit or count is right.
+/// 256 users and all 2,048 object pages, each entry a file of the same pages, bytes and pointer: what costs a check most. The object file
+/// has new blocks, whose bits and counts are not yet right.
 pub fn full_of_entries(length: u32, pointer: u32) -> Vec<u16> {
-    let mut image = with_users(&mut Random::new(0), 16_384, 256);
+    let mut image = vec![0; 16_384 * PAGE];
+    must(second::format(&mut image, b"YARD", None));
+    for n in 0..256 {
+        must(second::create_user(&mut image, &nth(n)));
+    }
     let subindex = pair(&image, OBJECT_POINTER) & !S;
     for n in 0..2_048 {
         put_pair(&mut image, slot_at(subindex, n / 512), 100 + n / 512);
@@ -87,7 +92,6 @@ pub fn full_of_entries(length: u32, pointer: u32) -> Vec<u16> {
     }
     for number in 0..65_536 {
         let entry = &mut image[1_000 * PAGE + 32 * number..][..32];
-        entry.fill(0);
         entry[0] = 0x8000;
         put_bytes(&mut entry[NAME..NAME + 8], &nth(number as u32 % 256));
         entry[OWNER] = (number / 256) as u16;
@@ -96,6 +100,22 @@ pub fn full_of_entries(length: u32, pointer: u32) -> Vec<u16> {
         put_pair(entry, BYTES, length.wrapping_mul(2048));
         put_pair(entry, POINTER, pointer);
     }
+    image
+}
+
+/// A sound volume with 256 users who have 256 empty files each.
+pub fn all_files() -> Vec<u16> {
+    let mut image = full_of_entries(0, 0);
+    let scene = Scene::read(&image);
+    let system = [0, scene.bit_page, scene.user_index, scene.object_block].into_iter();
+    let blocks = scene.user_pages.iter().chain(&scene.object_indexes).chain(&scene.object_pages).map(|&(_, page)| page);
+    let held: Vec<u32> = system.chain(blocks).collect();
+    let bits = scene.bit_page as usize * PAGE;
+    image[bits..bits + PAGE].fill(0);
+    for page in &held {
+        image[bits + *page as usize / 16] |= 1 << (page % 16);
+    }
+    put_pair(&mut image, UNRESERVED, scene.pages - held.len() as u32);
     image
 }
 
