@@ -1,10 +1,13 @@
 //! Compares the proved library with the second program: every answer and every word, after every call.
 
+mod aimed;
 mod both;
 mod calls;
 mod cases;
 mod choose;
+mod cycle;
 mod damage;
+mod meets;
 mod random;
 mod report;
 mod rounds;

@@ -1,9 +1,11 @@
-//! The rounds of a run, each on one volume. A cycle has every kind of round; a run is at least one cycle.
+//! The rounds of a run, each on one volume: what each kind does.
 
 use crate::both::{Answered, Both, Disagreement};
 use crate::calls::Call;
 use crate::choose::{Choice, Profile, ANY, ASKING, FILES, GROWING, MIXED, PROFILES, RUNS, SHRINKING, USERS};
+use crate::cycle::{Kind, Size};
 use crate::damage::Damage;
+use crate::meets::{leaves, meets};
 use crate::random::Random;
 use crate::scattered::scattered;
 use crate::scene::Scene;
@@ -12,95 +14,6 @@ use crate::volumes::*;
 use crate::words::*;
 
 pub type Agreed = Result<(), Box<Disagreement>>;
-
-/// What a round does.
-#[derive(Clone, Copy)]
-pub enum Kind {
-    /// Calls by chance from a format on.
-    Sequence { calls: u32 },
-    /// Calls by chance on a volume that is all given and nearly used.
-    Full,
-    /// Contiguous files, as long as the longest run and one page longer.
-    Runs,
-    /// A file around 512 and around 1,024 pages.
-    LongFile { from: u32 },
-    /// Users around 64, or around 256.
-    Users { from: u32 },
-    /// Files of a user around 256.
-    Files,
-    /// 256 users with 256 files each.
-    AllFiles,
-    /// Image lengths that are wrong, and the shortest and longest that are right.
-    Lengths,
-    /// Calls on a sound volume that no calls give.
-    Scattered { calls: u32 },
-    /// Each rule broken so often, with a call on each broken image.
-    Damaged { times: u32 },
-    /// Images made to cost a check much.
-    Hostile,
-}
-
-/// How a round gets its volume's size: one of its own, or by chance between two.
-#[derive(Clone, Copy)]
-pub enum Size {
-    Of(u32),
-    Between(u32, u32),
-}
-
-/// Rounds of one cycle: how often, the kind, the size.
-pub const CYCLE: &[(u32, Kind, Size)] = &[
-    (10, Kind::Sequence { calls: 200 }, Size::Of(8)),
-    (10, Kind::Sequence { calls: 200 }, Size::Of(9)),
-    (10, Kind::Sequence { calls: 200 }, Size::Of(16)),
-    (10, Kind::Sequence { calls: 200 }, Size::Of(17)),
-    (10, Kind::Sequence { calls: 200 }, Size::Of(32)),
-    (10, Kind::Sequence { calls: 200 }, Size::Of(154)),
-    (60, Kind::Sequence { calls: 250 }, Size::Between(8, 80)),
-    (4, Kind::Sequence { calls: 100 }, Size::Of(512)),
-    (4, Kind::Sequence { calls: 100 }, Size::Of(1_100)),
-    (4, Kind::Sequence { calls: 100 }, Size::Of(2_048)),
-    (1, Kind::Sequence { calls: 60 }, Size::Of(16_384)),
-    (1, Kind::Sequence { calls: 30 }, Size::Between(2_049, 16_383)),
-    (30, Kind::Full, Size::Between(8, 48)),
-    (25, Kind::Runs, Size::Between(12, 160)),
-    (4, Kind::LongFile { from: 508 }, Size::Of(1_100)),
-    (2, Kind::LongFile { from: 1_021 }, Size::Of(1_100)),
-    (2, Kind::LongFile { from: 1_021 }, Size::Between(1_200, 2_048)),
-    (1, Kind::LongFile { from: 508 }, Size::Of(16_384)),
-    (6, Kind::Users { from: 61 }, Size::Between(30, 160)),
-    (6, Kind::Users { from: 253 }, Size::Between(40, 160)),
-    (8, Kind::Files, Size::Between(60, 520)),
-    (1, Kind::AllFiles, Size::Of(16_384)),
-    (2, Kind::Lengths, Size::Of(8)),
-    (1, Kind::Lengths, Size::Of(16_385)),
-    (120, Kind::Scattered { calls: 25 }, Size::Between(8, 200)),
-    (20, Kind::Scattered { calls: 25 }, Size::Of(8)),
-    (6, Kind::Scattered { calls: 25 }, Size::Of(512)),
-    (6, Kind::Scattered { calls: 20 }, Size::Of(1_100)),
-    (6, Kind::Scattered { calls: 20 }, Size::Of(2_048)),
-    (1, Kind::Scattered { calls: 30 }, Size::Of(16_384)),
-    (120, Kind::Damaged { times: 8 }, Size::Between(16, 160)),
-    (20, Kind::Damaged { times: 4 }, Size::Between(8, 16)),
-    (6, Kind::Damaged { times: 4 }, Size::Of(1_100)),
-    (4, Kind::Damaged { times: 4 }, Size::Of(2_048)),
-    (1, Kind::Damaged { times: 1 }, Size::Of(16_384)),
-    (1, Kind::Hostile, Size::Of(16_384)),
-];
-
-/// One round: its kind and size by its number in the cycle.
-pub fn nth_of_cycle(mut number: u64) -> (Kind, Size) {
-    for &(times, kind, size) in CYCLE {
-        if number < u64::from(times) {
-            return (kind, size);
-        }
-        number -= u64::from(times);
-    }
-    unreachable!("the number is below the cycle's length")
-}
-
-pub fn rounds_of_a_cycle() -> u64 {
-    CYCLE.iter().map(|&(times, ..)| u64::from(times)).sum()
-}
 
 /// A round at work: its own random numbers, and the run's tally.
 pub struct Round<'a> {
@@ -150,8 +63,8 @@ impl Round<'_> {
                 self.tally.met(what);
             }
         }
-        if let (Some(above), 0) = (above(scene, both), answered.call.number) {
-            self.tally.met(above);
+        if let (Some(what), 0) = (leaves(scene, both.image()), answered.call.number) {
+            self.tally.met(what);
         }
         Ok(answered)
     }
@@ -382,50 +295,4 @@ impl Round<'_> {
         Both::new(full_of_entries(length, 1)).call(Call::Shrink { user: 0, file: 0 }, self.tally)?;
         Ok(())
     }
-}
-
-/// What a call would meet on this image, with the number that it then answers.
-fn meets(image: &[u16], scene: &Scene, call: &Call) -> Vec<(Met, u32)> {
-    let mut met = Vec::new();
-    let pages_of = |user: &u32, file: &u32| scene.file(*user, *file).map_or(0, |file| file.pages);
-    match call {
-        Call::Grow { user, file } if pages_of(user, file) == 512 => met.push((Met::FilePast512, 0)),
-        Call::Grow { user, file } if pages_of(user, file) == 1_024 => met.push((Met::FilePast1024, 0)),
-        Call::Shrink { user, file } if pages_of(user, file) == 513 => met.push((Met::BackTo512, 0)),
-        Call::CreateUser { .. } => met.push((Met::All256Users, 8)),
-        Call::CreateIndexed { .. } => met.push((Met::All256Files, 8)),
-        Call::CreateContiguous { count, .. } => {
-            let longest = scene.longest_run(image);
-            if *count == longest {
-                met.push((Met::RunJustFits, 0));
-            } else if *count == longest + 1 {
-                met.push((Met::RunJustDoesNot, 11));
-            }
-        }
-        Call::NoteOpen { user, file } if scene.file(*user, *file).is_some_and(|file| image[file.at + OPENS] == 65_535) => {
-            met.push((Met::OpensCameRound, 0));
-        }
-        _ => {}
-    }
-    if scene.longest_run(image) == 0 {
-        met.extend((0..12).map(|number| (Met::FullVolume, number)));
-    }
-    met
-}
-
-/// What a done call left: a user from 64 up, or an entry used again below one that is in use.
-fn above(before: &Scene, both: &Both) -> Option<Met> {
-    let after = Scene::read(both.image());
-    if after.users.len() > before.users.len() {
-        let new = after.users.iter().find(|user| before.users.iter().all(|old| old.index != user.index))?;
-        let reused = after.users.last().is_some_and(|last| last.index > new.index);
-        return if new.index > 63 { Some(Met::UserPast64) } else { reused.then_some(Met::ReusedEntry) };
-    }
-    if after.files.len() > before.files.len() {
-        let key = |file: &crate::scene::File| (file.user, file.file);
-        let new = after.files.iter().find(|file| before.file(file.user, file.file).is_none())?;
-        let reused = after.files.iter().any(|file| file.user == new.user && key(file) > key(new));
-        return reused.then_some(Met::ReusedEntry);
-    }
-    None
 }

@@ -1,9 +1,10 @@
 //! A run: rounds by one seed until enough is done, what they met, and whether that was enough.
 
 use crate::both::Disagreement;
+use crate::cycle::{nth_of_cycle, rounds_of_a_cycle};
 use crate::random::Random;
 use crate::report;
-use crate::rounds::{nth_of_cycle, rounds_of_a_cycle, Round};
+use crate::rounds::Round;
 use crate::tally::Tally;
 use std::io::{IsTerminal, Write};
 use std::panic::{catch_unwind, AssertUnwindSafe};
