@@ -17,9 +17,10 @@ pub fn run(folder: &str) -> Result<bool, String> {
     cases.retain(|path| path.is_dir());
     cases.sort();
     let mut wrong = 0;
+    let mut tally = Tally::default();
     for case in &cases {
         let short = case.file_name().map_or(String::new(), |name| name.to_string_lossy().into_owned());
-        match one_case(case) {
+        match one_case(case, &mut tally) {
             Ok(words) => println!("ok     {short}: {words}"),
             Err(why) => {
                 println!("WRONG  {short}: {why}");
@@ -27,12 +28,13 @@ pub fn run(folder: &str) -> Result<bool, String> {
             }
         }
     }
+    println!("answers expected, {}", tally.numbers_and_rules());
     println!("{} cases, {wrong} wrong", cases.len());
     Ok(wrong == 0 && !cases.is_empty())
 }
 
 /// One case: its words where all is as expected, else why not.
-fn one_case(folder: &Path) -> Result<String, String> {
+fn one_case(folder: &Path, tally: &mut Tally) -> Result<String, String> {
     let read = |name: &str| fs::read_to_string(folder.join(name)).map_err(|error| format!("{name}: {error}"));
     let (name, image, expected) = (read("name")?, read("image")?, read("expect")?);
     let mut both = make(&image)?;
@@ -44,7 +46,7 @@ fn one_case(folder: &Path) -> Result<String, String> {
         let (asked, wanted) = line.split_once(':').ok_or_else(|| format!("expect: `{line}` has no colon"))?;
         match asked.strip_prefix("word ") {
             Some(place) => expect_word(&both, place, wanted)?,
-            None => expect(&mut both, asked, &answer(wanted)?)?,
+            None => expect(&mut both, asked, &answer(wanted)?, tally)?,
         }
     }
     Ok(name.trim().to_string())
@@ -66,7 +68,7 @@ fn make(text: &str) -> Result<Both, String> {
             match step(&line.replace('#', &n.to_string())).map_err(|error| format!("image: `{line}`: {error}"))? {
                 Step::Word { at, value } if at < both.image().len() => both.put(&[(at, value)]),
                 Step::Word { .. } => return Err(format!("image: `{line}` is not in it")),
-                made => done(&mut both, made).map_err(|error| format!("image: `{line}`: {error}"))?,
+                made => done(&mut both, made, &mut Tally::default()).map_err(|error| format!("image: `{line}`: {error}"))?,
             }
         }
     }
@@ -90,27 +92,27 @@ fn repeated(line: &str) -> Result<(u32, &str), String> {
     Ok((times.parse().map_err(|_| format!("image: `times {times}` is no number"))?, line))
 }
 
-fn done(both: &mut Both, made: Step) -> Result<(), String> {
-    match ask(both, made)? {
+fn done(both: &mut Both, made: Step, tally: &mut Tally) -> Result<(), String> {
+    match ask(both, made, tally)? {
         Answer { number: 0, .. } => Ok(()),
         refused => Err(format!("was refused: {refused}")),
     }
 }
 
 /// A call of both programs, which must agree.
-fn ask(both: &mut Both, asked: Step) -> Result<Answer, String> {
+fn ask(both: &mut Both, asked: Step, tally: &mut Tally) -> Result<Answer, String> {
     let Step::Call { lent, call } = asked else { return Err("only calls are answered".to_string()) };
     if lent.is_some_and(|words| words > both.image().len()) {
         return Err("so many words are not there to lend".to_string());
     }
-    let answered = both.lend(lent, call, &mut Tally::default()).map_err(|seen| told(&seen))?;
+    let answered = both.lend(lent, call, tally).map_err(|seen| told(&seen))?;
     Ok(answered.call)
 }
 
 /// A line of expect: the answer is as wanted, and a refused call has changed nothing.
-fn expect(both: &mut Both, asked: &str, wanted: &Answer) -> Result<(), String> {
+fn expect(both: &mut Both, asked: &str, wanted: &Answer, tally: &mut Tally) -> Result<(), String> {
     let before = both.image().to_vec();
-    let given = ask(both, step(asked).map_err(|error| format!("expect: `{asked}`: {error}"))?)?;
+    let given = ask(both, step(asked).map_err(|error| format!("expect: `{asked}`: {error}"))?, tally)?;
     if given != *wanted {
         return Err(format!("`{asked}` gives {given}, {wanted} is expected"));
     }

@@ -138,6 +138,13 @@ impl Tally {
         out
     }
 
+    /// How often each number was answered, and each rule was the lowest broken one: a line for a run of cases.
+    pub fn numbers_and_rules(&self) -> String {
+        let numbers: Vec<String> = (0..12).map(|n| format!("{n}: {}", self.by_number(n))).collect();
+        let rules: Vec<String> = (1..11).map(|rule| format!("{rule}: {}", self.rules[rule])).collect();
+        format!("by number {}; by lowest rule {}", numbers.join(", "), rules.join(", "))
+    }
+
     /// The sizes that every run has, each; the others together.
     fn sizes_in_words(&self) -> String {
         let of = |pages: &u32| format!("{pages}: {}", self.sizes.get(pages).copied().unwrap_or(0));
