@@ -1,1 +1,105 @@
-fn main() {}
+//! Compares the proved library with the second program: every answer and every word, after every call.
+
+mod aimed;
+mod both;
+mod calls;
+mod cases;
+mod choose;
+mod cycle;
+mod damage;
+mod meets;
+mod random;
+mod report;
+mod rounds;
+mod run;
+mod scattered;
+mod scene;
+mod tally;
+mod text;
+mod volumes;
+mod words;
+
+use run::{Plan, Until};
+use std::process::ExitCode;
+use std::time::{Duration, SystemTime, UNIX_EPOCH};
+
+const HELP: &str = "\
+compare: the proved library against the second program, every answer and every word after every call
+
+    compare [--seed N] [--first N] [--seconds S | --rounds N]
+    compare --short
+    compare --cases FOLDER
+    compare --replay FOLDER
+
+  --seed N         the run's seed; the same seed gives the same run on any machine (without it, by the clock)
+  --first N        begin with round N (a round of its own begins from the seed and its number alone)
+  --seconds S      go on so long, but for one cycle of rounds at least (without it, one cycle)
+  --rounds N       so many rounds
+  --short          two cycles with seed 1, as the gate runs it
+  --cases FOLDER   run every case in the folder through both (host/cases/README.md)
+  --replay FOLDER  go through a kept disagreement again
+
+Exit status: 0 where all agreed and every minimum was met, 1 where not, 2 where the arguments are wrong.
+";
+
+/// What the arguments ask for.
+enum Asked {
+    Help,
+    Run(Plan),
+    Cases(String),
+    Replay(String),
+}
+
+fn main() -> ExitCode {
+    let asked = match read_arguments(std::env::args().skip(1)) {
+        Ok(asked) => asked,
+        Err(wrong) => {
+            eprintln!("compare: {wrong}; see compare --help");
+            return ExitCode::from(2);
+        }
+    };
+    let done = match asked {
+        Asked::Help => {
+            print!("{HELP}");
+            Ok(true)
+        }
+        Asked::Run(plan) => Ok(run::run(&plan)),
+        Asked::Cases(folder) => cases::run(&folder),
+        Asked::Replay(folder) => report::replay(&folder),
+    };
+    match done {
+        Ok(true) => ExitCode::SUCCESS,
+        Ok(false) => ExitCode::from(1),
+        Err(wrong) => {
+            eprintln!("compare: {wrong}");
+            ExitCode::from(2)
+        }
+    }
+}
+
+fn read_arguments(mut arguments: impl Iterator<Item = String>) -> Result<Asked, String> {
+    let (mut seed, mut first, mut until) = (None, 0, Until::Cycles(1));
+    while let Some(argument) = arguments.next() {
+        let mut value = || arguments.next().ok_or(format!("{argument} wants a value"));
+        match argument.as_str() {
+            "--help" | "-h" => return Ok(Asked::Help),
+            "--short" => (seed, until) = (Some(1), Until::Cycles(2)),
+            "--seed" => seed = Some(number(&value()?)?),
+            "--first" => first = number(&value()?)?,
+            "--seconds" => until = Until::Time(Duration::from_secs(number(&value()?)?)),
+            "--rounds" => until = Until::Rounds(number(&value()?)?),
+            "--cases" => return Ok(Asked::Cases(value()?)),
+            "--replay" => return Ok(Asked::Replay(value()?)),
+            other => return Err(format!("{other} is no argument")),
+        }
+    }
+    Ok(Asked::Run(Plan { seed: seed.unwrap_or_else(seed_by_clock), first, until }))
+}
+
+fn number(text: &str) -> Result<u64, String> {
+    text.parse().map_err(|_| format!("{text} is no number"))
+}
+
+fn seed_by_clock() -> u64 {
+    SystemTime::now().duration_since(UNIX_EPOCH).map_or(1, |time| time.as_secs())
+}

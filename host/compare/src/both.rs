@@ -1,0 +1,152 @@
+//! One image in two copies: the proved library works on the one, the second program on the other, and after every step they are compared.
+
+use crate::calls::{Answer, Call};
+use crate::tally::Tally;
+use crate::text::Step;
+use crate::words::PAGE;
+use std::panic::{catch_unwind, AssertUnwindSafe};
+
+/// Stands for the answer of a program that panicked: no call answers so.
+const NO_ANSWER: Answer = Answer { number: u32::MAX, rule: 0, value: 0, kind: 0, user: 0, file: 0, position: 0, offset: 0, length: 0 };
+
+/// What a step answered: the call itself, and the check after it.
+#[derive(Clone, Copy)]
+pub struct Answered {
+    pub call: Answer,
+    pub check: Answer,
+}
+
+/// Where the two did not agree.
+pub struct Disagreement {
+    /// The image before the first step, and all steps with the last one, which showed it.
+    pub start: Vec<u16>,
+    pub steps: Vec<Step>,
+    /// What differed, and both answers.
+    pub what: String,
+    pub proved: Answer,
+    pub second: Answer,
+    /// The first word that differs afterwards: its place, and both values.
+    pub word: Option<(usize, u16, u16)>,
+}
+
+pub struct Both {
+    start: Vec<u16>,
+    steps: Vec<Step>,
+    proved: Vec<u16>,
+    second: Vec<u16>,
+}
+
+impl Both {
+    pub fn new(start: Vec<u16>) -> Both {
+        Both { proved: start.clone(), second: start.clone(), steps: Vec::new(), start }
+    }
+
+    /// Back to the image it began with.
+    pub fn restart(&mut self) {
+        self.proved.copy_from_slice(&self.start);
+        self.second.copy_from_slice(&self.start);
+        self.steps.clear();
+    }
+
+    /// The image, which is the same in both copies between steps.
+    pub fn image(&self) -> &[u16] {
+        &self.second
+    }
+
+    /// Sets words in both copies.
+    pub fn put(&mut self, words: &[(usize, u16)]) {
+        for &(at, value) in words {
+            self.proved[at] = value;
+            self.second[at] = value;
+            self.steps.push(Step::Word { at, value });
+        }
+    }
+
+    /// Makes a call of both and compares all answers and all words; then the same with the check.
+    pub fn call(&mut self, call: Call, tally: &mut Tally) -> Result<Answered, Box<Disagreement>> {
+        self.lend(None, call, tally)
+    }
+
+    /// The same with only so many words of the image lent.
+    pub fn lend(&mut self, lent: Option<usize>, call: Call, tally: &mut Tally) -> Result<Answered, Box<Disagreement>> {
+        let words = lent.unwrap_or(self.start.len());
+        self.steps.push(Step::Call { lent, call: call.clone() });
+        let answer = self.one_call("the call", &call, words)?;
+        let check = self.one_call("the check after the call", &Call::Check, self.start.len())?;
+        tally.called(call.which(), &answer, &check);
+        Ok(Answered { call: answer, check })
+    }
+
+    /// One call of both, and what they agree on. A panic of the second program is a disagreement, too.
+    fn one_call(&mut self, of: &str, call: &Call, words: usize) -> Result<Answer, Box<Disagreement>> {
+        let proved = call.on_proved(&mut self.proved[..words]);
+        let part = &mut self.second[..words];
+        match catch_unwind(AssertUnwindSafe(|| call.on_second(part))) {
+            Ok(second) => self.agree(of, proved, second).map(|()| proved),
+            Err(_) => self.agree(&format!("{of}: the second program panicked"), proved, NO_ANSWER).map(|()| proved),
+        }
+    }
+
+    /// Both answers and both images are the same, or the disagreement is told.
+    fn agree(&mut self, of: &str, proved: Answer, second: Answer) -> Result<(), Box<Disagreement>> {
+        let field = proved.first_difference(&second);
+        if field.is_none() && self.proved == self.second {
+            return Ok(());
+        }
+        let at = (0..self.start.len()).find(|&at| self.proved[at] != self.second[at]);
+        let word = at.map(|at| (at, self.proved[at], self.second[at]));
+        let what = match (field, word) {
+            (Some(field), _) => format!("{of}: `{field}` of the answers differs"),
+            (None, _) => format!("{of}: the answers are the same, the images are not"),
+        };
+        let (start, steps) = (std::mem::take(&mut self.start), std::mem::take(&mut self.steps));
+        Err(Box::new(Disagreement { start, steps, what, proved, second, word }))
+    }
+}
+
+/// The page and the word of a place in an image.
+pub fn page_and_word(at: usize) -> (usize, usize) {
+    (at / PAGE, at % PAGE)
+}
+
+#[cfg(test)]
+mod tests {
+    use super::*;
+
+    fn formatted() -> Both {
+        let mut both = Both::new(vec![0; 16 * PAGE]);
+        let format = Call::Format { name: b"YARD".to_vec(), bit_page: None };
+        assert!(both.call(format, &mut Tally::default()).is_ok());
+        both
+    }
+
+    /// One word that differs is seen, also one that no rule looks at.
+    #[test]
+    fn a_word_that_differs_is_seen() {
+        let mut both = formatted();
+        both.second[5 * PAGE + 3] ^= 1;
+        let seen = both.call(Call::Check, &mut Tally::default()).err().expect("a disagreement");
+        assert_eq!(seen.word, Some((5 * PAGE + 3, 0, 1)));
+        assert_eq!((seen.proved, seen.steps.len()), (seen.second, 2));
+    }
+
+    /// Answers that differ are seen, and each number of them counts.
+    #[test]
+    fn an_answer_that_differs_is_seen() {
+        let mut both = formatted();
+        both.second[1023] += 1;
+        let seen = both.call(Call::WhoHolds { page: 0 }, &mut Tally::default()).err().expect("a disagreement");
+        assert_eq!((seen.proved.number, seen.second.number, seen.second.rule), (0, 3, 10));
+        let one = Answer::default();
+        let others = [Answer { position: 1, ..one }, Answer { offset: 1, ..one }, Answer { rule: 1, ..one }, Answer { kind: 1, ..one }];
+        assert_eq!(others.map(|two| one.first_difference(&two)), [Some("position"), Some("offset"), Some("rule"), Some("kind")]);
+    }
+
+    #[test]
+    fn restart_brings_the_first_image_back() {
+        let mut both = formatted();
+        both.put(&[(3, 9)]);
+        both.restart();
+        assert_eq!((both.image(), both.steps.len()), (&both.start[..], 0));
+    }
+}

@@ -1,0 +1,209 @@
+//! The calls with their arguments, and how each is made of the proved library and of the second program.
+
+/// One call. `Format` without a bit page is the header's nord_format_default.
+#[derive(Clone, Debug, PartialEq)]
+pub enum Call {
+    Check,
+    FindUser { name: Vec<u8> },
+    FindFile { user: u32, name: Vec<u8>, kind: Vec<u8> },
+    Address { user: u32, file: u32, position: u32 },
+    WhoHolds { page: u32 },
+    ReadPage { user: u32, file: u32, position: u32 },
+    Format { name: Vec<u8>, bit_page: Option<u32> },
+    CreateUser { name: Vec<u8> },
+    DeleteUser { user: u32 },
+    Give { user: u32, count: u32 },
+    Take { user: u32, count: u32 },
+    CreateIndexed { user: u32, name: Vec<u8>, kind: Vec<u8>, created: u32 },
+    CreateContiguous { user: u32, name: Vec<u8>, kind: Vec<u8>, created: u32, count: u32 },
+    Grow { user: u32, file: u32 },
+    Shrink { user: u32, file: u32 },
+    DeleteFile { user: u32, file: u32 },
+    WritePage { user: u32, file: u32, position: u32, data: Data },
+    NoteOpen { user: u32, file: u32 },
+}
+
+/// The names of the calls, in the order of `Call::which`.
+pub const NAMES: [&str; 19] = [
+    "check",
+    "find_user",
+    "find_file",
+    "address",
+    "who_holds",
+    "read_page",
+    "format",
+    "format_default",
+    "create_user",
+    "delete_user",
+    "give",
+    "take",
+    "create_indexed",
+    "create_contiguous",
+    "grow",
+    "shrink",
+    "delete_file",
+    "write_page",
+    "note_open",
+];
+
+/// Page data that a line of text can hold: so many words, counting up from the first by 77.
+#[derive(Clone, Copy, Debug, PartialEq)]
+pub struct Data {
+    pub first: u16,
+    pub length: usize,
+}
+
+impl Data {
+    fn words(self) -> Vec<u16> {
+        (0..self.length).map(|n| self.first.wrapping_add((n as u16).wrapping_mul(77))).collect()
+    }
+}
+
+/// All numbers that any call answers; those that a call does not have are 0.
+#[derive(Clone, Copy, Debug, Default, PartialEq)]
+pub struct Answer {
+    pub number: u32,
+    pub rule: u32,
+    pub value: u32,
+    pub kind: u32,
+    pub user: u32,
+    pub file: u32,
+    pub position: u32,
+    pub offset: usize,
+    pub length: usize,
+}
+
+impl Answer {
+    /// Every number of an answer with its name.
+    pub fn fields(&self) -> [(&'static str, usize); 9] {
+        [
+            ("number", self.number as usize),
+            ("rule", self.rule as usize),
+            ("value", self.value as usize),
+            ("kind", self.kind as usize),
+            ("user", self.user as usize),
+            ("file", self.file as usize),
+            ("position", self.position as usize),
+            ("offset", self.offset),
+            ("length", self.length),
+        ]
+    }
+
+    /// The name of the first number in which two answers differ.
+    pub fn first_difference(&self, other: &Answer) -> Option<&'static str> {
+        let both = self.fields().into_iter().zip(other.fields());
+        both.into_iter().find(|(one, two)| one.1 != two.1).map(|(one, _)| one.0)
+    }
+}
+
+impl From<proved::Reply> for Answer {
+    fn from(reply: proved::Reply) -> Answer {
+        Answer { number: reply.number, rule: reply.rule, value: reply.value, ..Answer::default() }
+    }
+}
+
+impl From<second::Reply> for Answer {
+    fn from(reply: second::Reply) -> Answer {
+        Answer { number: reply.number, rule: reply.rule, value: reply.value, ..Answer::default() }
+    }
+}
+
+impl From<proved::Holder> for Answer {
+    fn from(of: proved::Holder) -> Answer {
+        let reply = Answer { number: of.number, rule: of.rule, ..Answer::default() };
+        Answer { kind: of.kind, user: of.user, file: of.file, position: of.position, ..reply }
+    }
+}
+
+impl From<second::HolderReply> for Answer {
+    fn from(of: second::HolderReply) -> Answer {
+        Answer { kind: of.kind, user: of.user, file: of.file, position: of.position, ..Answer::from(of.reply) }
+    }
+}
+
+/// A part of an image by its place. An empty part has no place, and no number comes with either.
+fn place_of(part: &[u16], image: &[u16]) -> Answer {
+    let offset = if part.is_empty() { 0 } else { (part.as_ptr() as usize - image.as_ptr() as usize) / 2 };
+    Answer { offset, length: part.len(), ..Answer::default() }
+}
+
+impl Call {
+    /// The place of the call's name in `NAMES`.
+    pub fn which(&self) -> usize {
+        match self {
+            Call::Check => 0,
+            Call::FindUser { .. } => 1,
+            Call::FindFile { .. } => 2,
+            Call::Address { .. } => 3,
+            Call::WhoHolds { .. } => 4,
+            Call::ReadPage { .. } => 5,
+            Call::Format { bit_page: Some(_), .. } => 6,
+            Call::Format { bit_page: None, .. } => 7,
+            Call::CreateUser { .. } => 8,
+            Call::DeleteUser { .. } => 9,
+            Call::Give { .. } => 10,
+            Call::Take { .. } => 11,
+            Call::CreateIndexed { .. } => 12,
+            Call::CreateContiguous { .. } => 13,
+            Call::Grow { .. } => 14,
+            Call::Shrink { .. } => 15,
+            Call::DeleteFile { .. } => 16,
+            Call::WritePage { .. } => 17,
+            Call::NoteOpen { .. } => 18,
+        }
+    }
+
+    /// Makes the call of the proved library.
+    pub fn on_proved(&self, image: &mut [u16]) -> Answer {
+        use proved::*;
+        match self {
+            Call::Check => check(image).into(),
+            Call::FindUser { name } => find_user(image, name).into(),
+            Call::FindFile { user, name, kind } => find_file(image, *user, name, kind).into(),
+            Call::Address { user, file, position } => address(image, *user, *file, *position).into(),
+            Call::WhoHolds { page } => who_holds(image, *page).into(),
+            Call::ReadPage { user, file, position } => place_of(read_page(image, *user, *file, *position), image),
+            Call::Format { name, bit_page } => format(image, name, *bit_page).into(),
+            Call::CreateUser { name } => create_user(image, name).into(),
+            Call::DeleteUser { user } => delete_user(image, *user).into(),
+            Call::Give { user, count } => give(image, *user, *count).into(),
+            Call::Take { user, count } => take(image, *user, *count).into(),
+            Call::CreateIndexed { user, name, kind, created } => create_indexed(image, *user, name, kind, *created).into(),
+            Call::CreateContiguous { user, name, kind, created, count } => {
+                create_contiguous(image, *user, name, kind, *created, *count).into()
+            }
+            Call::Grow { user, file } => grow(image, *user, *file).into(),
+            Call::Shrink { user, file } => shrink(image, *user, *file).into(),
+            Call::DeleteFile { user, file } => delete_file(image, *user, *file).into(),
+            Call::WritePage { user, file, position, data } => write_page(image, *user, *file, *position, &data.words()).into(),
+            Call::NoteOpen { user, file } => note_open(image, *user, *file).into(),
+        }
+    }
+
+    /// Makes the call of the second program.
+    pub fn on_second(&self, image: &mut [u16]) -> Answer {
+        use second::*;
+        match self {
+            Call::Check => check(image).into(),
+            Call::FindUser { name } => find_user(image, name).into(),
+            Call::FindFile { user, name, kind } => find_file(image, *user, name, kind).into(),
+            Call::Address { user, file, position } => address(image, *user, *file, *position).into(),
+            Call::WhoHolds { page } => who_holds(image, *page).into(),
+            Call::ReadPage { user, file, position } => place_of(read_page(image, *user, *file, *position), image),
+            Call::Format { name, bit_page } => format(image, name, *bit_page).into(),
+            Call::CreateUser { name } => create_user(image, name).into(),
+            Call::DeleteUser { user } => delete_user(image, *user).into(),
+            Call::Give { user, count } => give(image, *user, *count).into(),
+            Call::Take { user, count } => take(image, *user, *count).into(),
+            Call::CreateIndexed { user, name, kind, created } => create_indexed(image, *user, name, kind, *created).into(),
+            Call::CreateContiguous { user, name, kind, created, count } => {
+                create_contiguous(image, *user, name, kind, *created, *count).into()
+            }
+            Call::Grow { user, file } => grow(image, *user, *file).into(),
+            Call::Shrink { user, file } => shrink(image, *user, *file).into(),
+            Call::DeleteFile { user, file } => delete_file(image, *user, *file).into(),
+            Call::WritePage { user, file, position, data } => write_page(image, *user, *file, *position, &data.words()).into(),
+            Call::NoteOpen { user, file } => note_open(image, *user, *file).into(),
+        }
+    }
+}

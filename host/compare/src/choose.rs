@@ -1,0 +1,249 @@
+//! Calls by chance: mostly on what is there, at the edges of what fits, and now and then with something wrong.
+
+use crate::calls::{Call, Data};
+use crate::random::Random;
+use crate::scene::{File, Scene, User};
+use crate::volumes::nth;
+use crate::words::PAGE;
+
+/// What a sequence of calls is mostly about; each is a weight for every call in the order of `calls::NAMES`.
+pub type Profile = [u32; 19];
+
+pub const MIXED: Profile = [1, 2, 2, 3, 4, 3, 0, 0, 4, 2, 6, 3, 6, 5, 14, 6, 4, 3, 2];
+pub const GROWING: Profile = [0, 1, 1, 1, 2, 1, 0, 0, 2, 0, 5, 1, 4, 2, 30, 3, 1, 1, 1];
+pub const SHRINKING: Profile = [0, 0, 1, 1, 2, 1, 0, 0, 1, 3, 1, 3, 1, 1, 3, 20, 6, 1, 1];
+pub const RUNS: Profile = [0, 0, 1, 2, 2, 1, 0, 0, 1, 0, 3, 1, 1, 14, 2, 1, 7, 1, 1];
+pub const USERS: Profile = [0, 2, 0, 0, 2, 0, 0, 0, 20, 6, 4, 2, 2, 1, 1, 0, 1, 0, 0];
+pub const FILES: Profile = [0, 0, 4, 1, 2, 1, 0, 0, 1, 1, 2, 1, 20, 4, 4, 1, 8, 1, 2];
+pub const ASKING: Profile = [1, 4, 4, 6, 8, 6, 0, 0, 1, 1, 1, 1, 1, 1, 1, 1, 1, 2, 6];
+pub const ANY: Profile = [1, 1, 1, 1, 1, 1, 1, 1, 1, 1, 1, 1, 1, 1, 1, 1, 1, 1, 1];
+
+pub const PROFILES: [Profile; 7] = [MIXED, GROWING, SHRINKING, RUNS, USERS, FILES, ASKING];
+
+/// Chooses calls on the image that is seen.
+pub struct Choice<'a> {
+    pub random: &'a mut Random,
+    pub image: &'a [u16],
+    pub scene: &'a Scene,
+}
+
+impl Choice<'_> {
+    /// A call by the weights of a profile.
+    pub fn call(&mut self, profile: &Profile) -> Call {
+        let mut left = self.random.below(profile.iter().sum());
+        let which = profile.iter().position(|&weight| {
+            left < weight || {
+                left -= weight;
+                false
+            }
+        });
+        match which.unwrap_or(0) {
+            0 => Call::Check,
+            1 => Call::FindUser { name: self.known_user_name() },
+            2 => self.find_file(),
+            3 | 5 | 17 => self.at_position(which.unwrap_or(0)),
+            4 => Call::WhoHolds { page: self.page() },
+            6 => Call::Format { name: self.new_name(), bit_page: Some(self.page()) },
+            7 => Call::Format { name: self.new_name(), bit_page: None },
+            8 => Call::CreateUser { name: self.name_for_user() },
+            9 => Call::DeleteUser { user: self.user() },
+            10 => self.give(),
+            11 => self.take(),
+            12 => self.create_indexed(),
+            13 => self.create_contiguous(),
+            n => self.on_file(n),
+        }
+    }
+
+    /// How many words to lend: mostly all, seldom a length that is wrong or that cuts the volume.
+    pub fn lent(&mut self, one_in: u32) -> Option<usize> {
+        if !self.random.one_in(one_in) {
+            return None;
+        }
+        let words = self.image.len();
+        let part = self.random.below(words as u32 + 1) as usize;
+        Some(*self.random.pick(&[0, 1, PAGE - 1, 7 * PAGE, 8 * PAGE - 1, words - 1, words - PAGE, part]))
+    }
+
+    fn some_user(&mut self) -> Option<&User> {
+        let users = &self.scene.users;
+        (!users.is_empty()).then(|| self.random.pick(users))
+    }
+
+    fn some_file(&mut self) -> Option<&File> {
+        let files = &self.scene.files;
+        (!files.is_empty()).then(|| self.random.pick(files))
+    }
+
+    /// An index, mostly of a user who is there.
+    fn user(&mut self) -> u32 {
+        match self.random.below(24) {
+            0 => *self.random.pick(&[256, 257, 65_536, u32::MAX]),
+            1 => self.random.below(256),
+            _ => self.some_user().map_or(0, |user| user.index),
+        }
+    }
+
+    /// The user who may use the most pages more, or any.
+    fn rich_user(&mut self) -> u32 {
+        if self.random.one_in(3) {
+            return self.user();
+        }
+        self.scene.users.iter().max_by_key(|user| user.left()).map_or(0, |user| user.index)
+    }
+
+    /// A user and a file, mostly there.
+    fn user_and_file(&mut self) -> (u32, u32) {
+        match self.random.below(16) {
+            0 => (self.user(), *self.random.pick(&[256, 300, 65_536, u32::MAX])),
+            1 => (self.user(), self.random.below(256)),
+            _ => self.some_file().map_or((0, 0), |file| (file.user, file.file)),
+        }
+    }
+
+    fn page(&mut self) -> u32 {
+        let pages = self.scene.pages;
+        match self.random.below(16) {
+            0 => *self.random.pick(&[pages, pages + 1, 16_384, 65_536, u32::MAX]),
+            1 => *self.random.pick(&[0, 1, pages - 1, pages / 2]),
+            2 => self.scene.bit_page,
+            3 | 4 => self.some_file().map_or(1, |file| file.page()),
+            _ => self.random.below(pages),
+        }
+    }
+
+    fn position(&mut self, user: u32, file: u32) -> u32 {
+        let pages = self.scene.file(user, file).map_or(0, |file| file.pages);
+        match self.random.below(10) {
+            0 => pages,
+            1 => *self.random.pick(&[0, 511, 512, 1_023, 1_024, 65_536, u32::MAX]),
+            2 | 3 => pages.wrapping_sub(1),
+            _ => self.random.below(pages.max(1)),
+        }
+    }
+
+    /// A name that is wrong somewhere.
+    fn wrong_name(&mut self) -> Vec<u8> {
+        let wrong: [&[u8]; 12] = [b"", b"yard", b"A B", b"A\0", b"\0A", b"A_B", b"@", b"[", b"/", b":", b"\xC1B", b"SEVENTEEN-LETTERS"];
+        self.random.pick(&wrong).to_vec()
+    }
+
+    fn wrong_type(&mut self) -> Vec<u8> {
+        let wrong: [&[u8]; 6] = [b"FIVES", b"a", b"A\0", b"\0", b"A,B", b"\x7F"];
+        self.random.pick(&wrong).to_vec()
+    }
+
+    fn new_name(&mut self) -> Vec<u8> {
+        match self.random.below(16) {
+            0 => self.wrong_name(),
+            1 => b"SIXTEEN-LETTERS-".to_vec(),
+            2 => vec![*self.random.pick(b"AZ09-")],
+            _ => nth(self.random.below(400)),
+        }
+    }
+
+    fn known_user_name(&mut self) -> Vec<u8> {
+        if self.random.one_in(4) {
+            return self.new_name();
+        }
+        self.some_user().map_or(b"NOBODY".to_vec(), |user| user.name.clone())
+    }
+
+    fn name_for_user(&mut self) -> Vec<u8> {
+        if self.random.one_in(10) {
+            return self.known_user_name();
+        }
+        self.new_name()
+    }
+
+    fn kind(&mut self) -> Vec<u8> {
+        if self.random.one_in(24) {
+            return self.wrong_type();
+        }
+        self.random.pick(&[b"" as &[u8], b"A", b"X", b"DATA", b"T-1"]).to_vec()
+    }
+
+    fn find_file(&mut self) -> Call {
+        let known = self.some_file().map(|file| (file.user, file.name.clone(), file.kind.clone()));
+        match (self.random.below(6), known) {
+            (0, _) | (_, None) => Call::FindFile { user: self.user(), name: self.new_name(), kind: self.kind() },
+            (1, Some((user, name, _))) => Call::FindFile { user, name, kind: self.kind() },
+            (2, Some((_, name, kind))) => Call::FindFile { user: self.user(), name, kind },
+            (_, Some((user, name, kind))) => Call::FindFile { user, name, kind },
+        }
+    }
+
+    /// Address, read or write.
+    fn at_position(&mut self, which: usize) -> Call {
+        let (user, file) = self.user_and_file();
+        let position = self.position(user, file);
+        match which {
+            3 => Call::Address { user, file, position },
+            5 => Call::ReadPage { user, file, position },
+            _ => {
+                let length = if self.random.one_in(8) { *self.random.pick(&[0, 1, 1_023, 1_025, 2_048]) } else { PAGE };
+                Call::WritePage { user, file, position, data: Data { first: self.random.word(), length } }
+            }
+        }
+    }
+
+    /// A page count near a bound that matters.
+    fn count_near(&mut self, bound: u32) -> u32 {
+        match self.random.below(12) {
+            0 => *self.random.pick(&[0, 16_384, 16_385, 65_536, u32::MAX]),
+            1 | 2 => bound,
+            3 => bound.saturating_add(1),
+            4 => bound.saturating_sub(1),
+            _ => self.random.between(1, (bound / 2).clamp(1, 16_384)),
+        }
+    }
+
+    fn give(&mut self) -> Call {
+        Call::Give { user: self.user(), count: self.count_near(self.scene.unreserved) }
+    }
+
+    fn take(&mut self) -> Call {
+        let user = self.user();
+        let left = self.scene.users.iter().find(|seen| seen.index == user).map_or(1, User::left);
+        Call::Take { user, count: self.count_near(left) }
+    }
+
+    /// The name and type of a file to be made, seldom of one that is there.
+    fn name_for_file(&mut self, user: u32) -> (Vec<u8>, Vec<u8>) {
+        let taken = self.scene.files.iter().find(|file| file.user == user);
+        match taken {
+            Some(file) if self.random.one_in(10) => (file.name.clone(), file.kind.clone()),
+            Some(file) if self.random.one_in(10) => (file.name.clone(), self.kind()),
+            _ => (self.new_name(), self.kind()),
+        }
+    }
+
+    fn create_indexed(&mut self) -> Call {
+        let user = self.rich_user();
+        let (name, kind) = self.name_for_file(user);
+        Call::CreateIndexed { user, name, kind, created: self.random.next() as u32 }
+    }
+
+    fn create_contiguous(&mut self) -> Call {
+        let user = self.rich_user();
+        let (name, kind) = self.name_for_file(user);
+        let longest = self.scene.longest_run(self.image);
+        let left = self.scene.users.iter().find(|seen| seen.index == user).map_or(1, User::left);
+        let bound = if self.random.one_in(3) { left } else { longest };
+        Call::CreateContiguous { user, name, kind, created: self.random.next() as u32, count: self.count_near(bound) }
+    }
+
+    /// Grow, shrink, delete or open; mostly a file is made first where there is none.
+    fn on_file(&mut self, which: usize) -> Call {
+        if self.scene.files.is_empty() && !self.random.one_in(3) {
+            return self.create_indexed();
+        }
+        let (user, file) = self.user_and_file();
+        match which {
+            14 => Call::Grow { user, file },
+            15 => Call::Shrink { user, file },
+            16 => Call::DeleteFile { user, file },
+            _ => Call::NoteOpen { user, file },
+        }
+    }
+}

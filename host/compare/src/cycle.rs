@@ -1,0 +1,90 @@
+//! The plan of a run: a cycle has every kind of round, on volumes of every size that matters; a run is at least one cycle.
+
+/// What a round does.
+#[derive(Clone, Copy)]
+pub enum Kind {
+    /// Calls by chance from a format on.
+    Sequence { calls: u32 },
+    /// Calls by chance on a volume that is all given and nearly used.
+    Full,
+    /// Contiguous files, as long as the longest run and one page longer.
+    Runs,
+    /// A file around 512 and around 1,024 pages.
+    LongFile { from: u32 },
+    /// Users around 64, or around 256.
+    Users { from: u32 },
+    /// Files of a user around 256.
+    Files,
+    /// 256 users with 256 files each.
+    AllFiles,
+    /// Image lengths that are wrong, and the shortest and longest that are right.
+    Lengths,
+    /// Calls on a sound volume that no calls give.
+    Scattered { calls: u32 },
+    /// Each rule broken so often, with a call on each broken image.
+    Damaged { times: u32 },
+    /// Images made to cost a check much.
+    Hostile,
+}
+
+/// How a round gets its volume's size: one of its own, or by chance between two.
+#[derive(Clone, Copy)]
+pub enum Size {
+    Of(u32),
+    Between(u32, u32),
+}
+
+/// Rounds of one cycle: how often, the kind, the size.
+pub const CYCLE: &[(u32, Kind, Size)] = &[
+    (10, Kind::Sequence { calls: 200 }, Size::Of(8)),
+    (10, Kind::Sequence { calls: 200 }, Size::Of(9)),
+    (10, Kind::Sequence { calls: 200 }, Size::Of(16)),
+    (10, Kind::Sequence { calls: 200 }, Size::Of(17)),
+    (10, Kind::Sequence { calls: 200 }, Size::Of(32)),
+    (10, Kind::Sequence { calls: 200 }, Size::Of(154)),
+    (60, Kind::Sequence { calls: 250 }, Size::Between(8, 80)),
+    (4, Kind::Sequence { calls: 100 }, Size::Of(512)),
+    (4, Kind::Sequence { calls: 100 }, Size::Of(1_100)),
+    (4, Kind::Sequence { calls: 100 }, Size::Of(2_048)),
+    (1, Kind::Sequence { calls: 60 }, Size::Of(16_384)),
+    (1, Kind::Sequence { calls: 30 }, Size::Between(2_049, 16_383)),
+    (30, Kind::Full, Size::Between(8, 48)),
+    (25, Kind::Runs, Size::Between(12, 160)),
+    (4, Kind::LongFile { from: 508 }, Size::Of(1_100)),
+    (2, Kind::LongFile { from: 1_021 }, Size::Of(1_100)),
+    (2, Kind::LongFile { from: 1_021 }, Size::Between(1_200, 2_048)),
+    (1, Kind::LongFile { from: 508 }, Size::Of(16_384)),
+    (6, Kind::Users { from: 61 }, Size::Between(30, 160)),
+    (6, Kind::Users { from: 253 }, Size::Between(40, 160)),
+    (8, Kind::Files, Size::Between(60, 520)),
+    (1, Kind::AllFiles, Size::Of(16_384)),
+    (2, Kind::Lengths, Size::Of(8)),
+    (1, Kind::Lengths, Size::Of(16_385)),
+    (120, Kind::Scattered { calls: 25 }, Size::Between(8, 200)),
+    (20, Kind::Scattered { calls: 25 }, Size::Of(8)),
+    (6, Kind::Scattered { calls: 25 }, Size::Of(512)),
+    (6, Kind::Scattered { calls: 20 }, Size::Of(1_100)),
+    (6, Kind::Scattered { calls: 20 }, Size::Of(2_048)),
+    (1, Kind::Scattered { calls: 30 }, Size::Of(16_384)),
+    (120, Kind::Damaged { times: 8 }, Size::Between(16, 160)),
+    (20, Kind::Damaged { times: 4 }, Size::Between(8, 16)),
+    (6, Kind::Damaged { times: 4 }, Size::Of(1_100)),
+    (4, Kind::Damaged { times: 4 }, Size::Of(2_048)),
+    (1, Kind::Damaged { times: 1 }, Size::Of(16_384)),
+    (1, Kind::Hostile, Size::Of(16_384)),
+];
+
+/// One round: its kind and size by its number in the cycle.
+pub fn nth_of_cycle(mut number: u64) -> (Kind, Size) {
+    for &(times, kind, size) in CYCLE {
+        if number < u64::from(times) {
+            return (kind, size);
+        }
+        number -= u64::from(times);
+    }
+    unreachable!("the number is below the cycle's length")
+}
+
+pub fn rounds_of_a_cycle() -> u64 {
+    CYCLE.iter().map(|&(times, ..)| u64::from(times)).sum()
+}

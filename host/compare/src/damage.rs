@@ -1,0 +1,113 @@
+//! Damage: words to change on a sound volume. `aimed` has the damage for each rule; here is what it is made of, and damage by chance.
+
+use crate::random::Random;
+use crate::scene::{File, Scene};
+use crate::words::*;
+
+/// The words to change.
+pub type Words = Vec<(usize, u16)>;
+
+pub struct Damage<'a> {
+    pub random: &'a mut Random,
+    pub image: &'a [u16],
+    pub scene: &'a Scene,
+    pub words: Words,
+}
+
+impl<'a> Damage<'a> {
+    pub fn new(random: &'a mut Random, image: &'a [u16], scene: &'a Scene) -> Damage<'a> {
+        Damage { random, image, scene, words: Vec::new() }
+    }
+
+    pub fn word(&mut self, at: usize, value: u16) -> Option<()> {
+        self.words.push((at, value));
+        Some(())
+    }
+
+    pub fn two(&mut self, at: usize, value: u32) -> Option<()> {
+        self.words.push((at, (value >> 16) as u16));
+        self.words.push((at + 1, value as u16));
+        Some(())
+    }
+
+    pub fn copy(&mut self, from: usize, to: usize, count: usize) -> Option<()> {
+        (0..count).for_each(|n| self.words.push((to + n, self.image[from + n])));
+        Some(())
+    }
+
+    /// A number that names no page of a volume, but looks like one that does.
+    pub fn no_page(&mut self, page: u32) -> u32 {
+        let pages = self.scene.pages;
+        *self.random.pick(&[pages, pages + 1, page + 65_536, page | I, page | S, page | S | I, page | 1 << 29, I - 1, u32::MAX])
+    }
+
+    pub fn some_file(&mut self, fits: impl Fn(&File) -> bool) -> Option<&'a File> {
+        let scene = self.scene;
+        let all: Vec<&File> = scene.files.iter().filter(|file| fits(file)).collect();
+        (!all.is_empty()).then(|| *self.random.pick(&all))
+    }
+
+    pub fn some_user(&mut self) -> Option<usize> {
+        let users = self.scene.users.len() as u32;
+        (users > 0).then(|| self.random.below(users) as usize)
+    }
+
+    /// Makes a name (or type) wrong: a gap at its start or within, a byte after the fill, or a byte that is not legal.
+    pub fn wrong_name(&mut self, at: usize, words: usize) -> Option<()> {
+        let mut bytes = to_bytes(&self.image[at..at + words]);
+        let length = bytes.iter().take_while(|&&byte| byte != 0).count();
+        let illegal = *self.random.pick(b"a@[/:,. _\x01\x7F\xC1");
+        match self.random.below(4) {
+            0 if length > 1 => bytes[self.random.below(length as u32 - 1) as usize] = 0,
+            1 if length + 1 < bytes.len() => bytes[self.random.between(length as u32 + 1, 2 * words as u32 - 1) as usize] = b'A',
+            2 if words == 8 => bytes.fill(0),
+            _ => bytes[self.random.below(length.max(1) as u32) as usize] = illegal,
+        }
+        from_bytes(&bytes).into_iter().enumerate().for_each(|(n, word)| self.words.push((at + n, word)));
+        Some(())
+    }
+
+    /// A page that somebody holds.
+    pub fn held_page(&mut self) -> u32 {
+        let scene = self.scene;
+        let mut held = vec![scene.bit_page, scene.user_index, scene.object_block];
+        held.extend(scene.user_pages.iter().chain(&scene.object_indexes).chain(&scene.object_pages).map(|&(_, page)| page));
+        held.extend(scene.files.iter().filter(|file| file.pages > 0).map(|file| file.page()));
+        held.retain(|&page| page != 0);
+        *self.random.pick(&held)
+    }
+
+    /// One or two words by chance, mostly where the check looks, mostly with a value that could be meant.
+    pub fn by_chance(mut self) -> Words {
+        for _ in 0..self.random.between(1, 2) {
+            let at = self.place();
+            let old = self.image[at];
+            let pages = self.scene.pages as u16;
+            let near = [0, 1, pages - 1, pages, old.wrapping_add(1), old.wrapping_sub(1), 0x4000, 0x8000, 0xC000, u16::MAX, 2_048];
+            let value = match self.random.below(4) {
+                0 => old ^ 1 << self.random.below(16),
+                1 => self.random.word(),
+                2 => self.random.below(self.scene.pages) as u16,
+                _ => *self.random.pick(&near),
+            };
+            self.words.push((at, value));
+        }
+        self.words
+    }
+
+    /// A place in the directory entry, a block, an entry or the bit file; seldom anywhere.
+    fn place(&mut self) -> usize {
+        let scene = self.scene;
+        match self.random.below(8) {
+            0 => VOLUME_NAME + self.random.below(16) as usize,
+            1 if !scene.users.is_empty() => scene.users[self.some_user().unwrap_or(0)].at + self.random.below(32) as usize,
+            2 | 3 if !scene.files.is_empty() => {
+                let file = self.some_file(|_| true).map_or(0, |file| file.at);
+                file + self.random.below(32) as usize
+            }
+            4 | 5 => self.held_page() as usize * PAGE + self.random.below(40) as usize,
+            6 => scene.bit_page as usize * PAGE + self.random.below(scene.pages / 16 + 2).min(1_023) as usize,
+            _ => self.random.below(self.image.len() as u32) as usize,
+        }
+    }
+}

@@ -1,0 +1,298 @@
+//! The rounds of a run, each on one volume: what each kind does.
+
+use crate::both::{Answered, Both, Disagreement};
+use crate::calls::Call;
+use crate::choose::{Choice, Profile, ANY, ASKING, FILES, GROWING, MIXED, PROFILES, RUNS, SHRINKING, USERS};
+use crate::cycle::{Kind, Size};
+use crate::damage::Damage;
+use crate::meets::{leaves, meets};
+use crate::random::Random;
+use crate::scattered::scattered;
+use crate::scene::Scene;
+use crate::tally::{Met, Tally};
+use crate::volumes::*;
+use crate::words::*;
+
+pub type Agreed = Result<(), Box<Disagreement>>;
+
+/// A round at work: its own random numbers, and the run's tally.
+pub struct Round<'a> {
+    pub random: Random,
+    pub tally: &'a mut Tally,
+}
+
+impl Round<'_> {
+    pub fn run(&mut self, kind: Kind, size: Size) -> Agreed {
+        let pages = match size {
+            Size::Of(pages) => pages,
+            Size::Between(low, high) => self.random.between(low, high),
+        };
+        self.tally.volume(pages);
+        match kind {
+            Kind::Sequence { calls } => self.sequence(pages, calls),
+            Kind::Full => self.full(pages),
+            Kind::Runs => self.runs(pages),
+            Kind::LongFile { from } => self.long_file(pages, from),
+            Kind::Users { from } => self.users(pages, from),
+            Kind::Files => self.files(pages),
+            Kind::AllFiles => self.all_files(),
+            Kind::Lengths => self.lengths(pages),
+            Kind::Scattered { calls } => self.scattered(pages, calls),
+            Kind::Damaged { times } => self.damaged(pages, times),
+            Kind::Hostile => self.hostile(),
+        }
+    }
+
+    /// So many calls by chance, with a wrong length now and then.
+    fn calls(&mut self, both: &mut Both, profile: &Profile, count: u32) -> Agreed {
+        for _ in 0..count {
+            let scene = Scene::read(both.image());
+            let mut choice = Choice { random: &mut self.random, image: both.image(), scene: &scene };
+            let (call, lent) = (choice.call(profile), choice.lent(60));
+            self.one(both, &scene, lent, call)?;
+        }
+        Ok(())
+    }
+
+    /// One call, and what it met.
+    fn one(&mut self, both: &mut Both, scene: &Scene, lent: Option<usize>, call: Call) -> Result<Answered, Box<Disagreement>> {
+        let met = meets(both.image(), scene, &call);
+        let answered = both.lend(lent, call, self.tally)?;
+        for (what, number) in met {
+            if answered.call.number == number && lent.is_none() {
+                self.tally.met(what);
+            }
+        }
+        if let (Some(what), 0) = (leaves(scene, both.image()), answered.call.number) {
+            self.tally.met(what);
+        }
+        Ok(answered)
+    }
+
+    /// A call on the scene as it stands.
+    fn plain(&mut self, both: &mut Both, call: Call) -> Result<Answered, Box<Disagreement>> {
+        let scene = Scene::read(both.image());
+        self.one(both, &scene, None, call)
+    }
+
+    fn sequence(&mut self, pages: u32, calls: u32) -> Agreed {
+        let mut both = Both::new(blank(&mut self.random, pages));
+        both.call(Call::Check, self.tally)?;
+        let bit_page = if self.random.one_in(3) { None } else { Some(self.random.between(1, pages - 1)) };
+        both.call(Call::Format { name: b"YARD".to_vec(), bit_page }, self.tally)?;
+        for part in 0..calls / 10 {
+            let profile = if part == 0 { MIXED } else { *self.random.pick(&PROFILES) };
+            self.calls(&mut both, &profile, 10)?;
+        }
+        Ok(())
+    }
+
+    fn full(&mut self, pages: u32) -> Agreed {
+        let keep = self.random.below(3);
+        let mut both = Both::new(with_owner(&mut self.random, pages, keep));
+        for _ in 0..3 {
+            self.calls(&mut both, &GROWING, 40)?;
+            self.calls(&mut both, &MIXED, 10)?;
+            self.calls(&mut both, &SHRINKING, 5)?;
+        }
+        Ok(())
+    }
+
+    fn runs(&mut self, pages: u32) -> Agreed {
+        let mut both = Both::new(with_owner(&mut self.random, pages, 3));
+        for n in 0..12 {
+            self.calls(&mut both, &RUNS, 6)?;
+            let longest = Scene::read(both.image()).longest_run(both.image());
+            for count in [longest + 1, longest] {
+                let name = format!("RUN-{n}-{count}").into_bytes();
+                self.plain(&mut both, Call::CreateContiguous { user: 0, name, kind: Vec::new(), created: n, count })?;
+            }
+            self.calls(&mut both, &SHRINKING, 2)?;
+        }
+        Ok(())
+    }
+
+    /// Up past the edge, down below it and up again, with questions between.
+    fn long_file(&mut self, pages: u32, from: u32) -> Agreed {
+        let mut both = Both::new(with_long_file(&mut self.random, pages, from));
+        let rounds = if pages > 2_048 { 1 } else { 2 };
+        for _ in 0..rounds {
+            for (up, times) in [(true, 8), (false, 7)] {
+                for _ in 0..times {
+                    let call = if up { Call::Grow { user: 0, file: 0 } } else { Call::Shrink { user: 0, file: 0 } };
+                    self.plain(&mut both, call)?;
+                }
+                self.calls(&mut both, &ASKING, 6)?;
+            }
+        }
+        self.plain(&mut both, Call::DeleteFile { user: 0, file: 0 })?;
+        self.calls(&mut both, &MIXED, 6)
+    }
+
+    fn users(&mut self, pages: u32, from: u32) -> Agreed {
+        let mut both = Both::new(with_users(&mut self.random, pages, from));
+        for n in from..from + 6 {
+            self.plain(&mut both, Call::CreateUser { name: nth(1_000 + n) })?;
+            self.calls(&mut both, &FILES, 3)?;
+        }
+        for user in [from, 64, 65, 255, 254] {
+            self.plain(&mut both, Call::DeleteUser { user })?;
+            self.calls(&mut both, &USERS, 8)?;
+        }
+        self.calls(&mut both, &MIXED, 30)
+    }
+
+    fn files(&mut self, pages: u32) -> Agreed {
+        let mut both = Both::new(with_files(&mut self.random, pages, 253));
+        for n in 0..5 {
+            self.plain(&mut both, Call::CreateIndexed { user: 0, name: nth(500 + n), kind: b"X".to_vec(), created: n })?;
+        }
+        let (name, kind) = (b"RUN".to_vec(), Vec::new());
+        self.plain(&mut both, Call::CreateContiguous { user: 0, name, kind, created: 1, count: 1 })?;
+        for _ in 0..4 {
+            let file = self.random.below(256);
+            self.plain(&mut both, Call::DeleteFile { user: 0, file })?;
+            self.calls(&mut both, &FILES, 12)?;
+        }
+        Ok(())
+    }
+
+    fn all_files(&mut self) -> Agreed {
+        let mut both = Both::new(all_files());
+        let (user, file) = (self.random.below(256), self.random.below(256));
+        let new = Call::CreateIndexed { user, name: b"NEW".to_vec(), kind: Vec::new(), created: 1 };
+        let first = self.plain(&mut both, new.clone())?;
+        assert_eq!(first.call.number, 8, "the maker of 65,536 files did not make them all");
+        self.plain(&mut both, Call::DeleteFile { user, file })?;
+        self.plain(&mut both, new)?;
+        self.plain(&mut both, Call::Give { user, count: 40 })?;
+        self.plain(&mut both, Call::Grow { user, file })?;
+        self.calls(&mut both, &ASKING, 4)?;
+        self.calls(&mut both, &MIXED, 4)
+    }
+
+    /// Every call with every wrong length of this image; then some with right ones.
+    fn lengths(&mut self, pages: u32) -> Agreed {
+        let words = pages as usize * PAGE;
+        let mut both = Both::new(vec![0; words]);
+        let name = b"YARD".to_vec();
+        both.lend(Some(words.min(16_384 * PAGE)), Call::Format { name: name.clone(), bit_page: None }, self.tally)?;
+        let scene = Scene::read(both.image());
+        for which in 0..19 {
+            let mut profile: Profile = [0; 19];
+            profile[which] = 1;
+            for lent in [words - 1, 16_384 * PAGE + 1, 7 * PAGE, 8 * PAGE - 1, 8 * PAGE + 1, 0] {
+                let call = Choice { random: &mut self.random, image: both.image(), scene: &scene }.call(&profile);
+                if lent <= words {
+                    both.lend(Some(lent), call, self.tally)?;
+                }
+            }
+        }
+        both.call(Call::Format { name, bit_page: Some(1) }, self.tally)?;
+        both.lend(Some(8 * PAGE), Call::Check, self.tally).map(|_| ())
+    }
+
+    fn scattered(&mut self, pages: u32, calls: u32) -> Agreed {
+        let mut both = Both::new(self.scattered_volume(pages));
+        let first = both.call(Call::Check, self.tally)?;
+        assert_eq!(first.call.number, 0, "the maker of scattered volumes made an unsound one");
+        self.tally.met(Met::ScatteredVolume);
+        let profiles = [MIXED, ASKING, USERS, FILES, RUNS, GROWING, SHRINKING];
+        for part in 0..calls / 5 {
+            let profile = if part == 0 { ASKING } else { *self.random.pick(&profiles) };
+            self.calls(&mut both, &profile, 5)?;
+        }
+        Ok(())
+    }
+
+    fn scattered_volume(&mut self, pages: u32) -> Vec<u16> {
+        let users = self.random.between(1, 40);
+        let files = self.random.between(1, 40);
+        scattered(&mut self.random, pages, users, files)
+    }
+
+    /// A volume for damage: scattered, or as calls of the second program leave it.
+    fn base(&mut self, pages: u32) -> Vec<u16> {
+        if pages > 8 && self.random.one_in(2) || pages > 2_048 {
+            return self.scattered_volume(pages);
+        }
+        let mut image = match pages {
+            1_100.. => with_long_file(&mut self.random, pages, 1_024),
+            _ => with_owner(&mut self.random, pages, pages / 4),
+        };
+        for n in 0..pages.min(60) {
+            let scene = Scene::read(&image);
+            let profile = if n < 20 { FILES } else { GROWING };
+            let call = Choice { random: &mut self.random, image: &image, scene: &scene }.call(&profile);
+            call.on_second(&mut image);
+        }
+        image
+    }
+
+    fn damaged(&mut self, pages: u32, times: u32) -> Agreed {
+        let base = self.base(pages);
+        let scene = Scene::read(&base);
+        let mut both = Both::new(base.clone());
+        let first = both.call(Call::Check, self.tally)?;
+        assert_eq!(first.call.number, 0, "the volume to be damaged was unsound before");
+        for _ in 0..times {
+            for rule in 1..=10 {
+                if let Some(words) = Damage::new(&mut self.random, &base, &scene).aimed(rule) {
+                    both.put(&words);
+                    self.on_damaged(&mut both, &scene, Some(rule))?;
+                }
+            }
+            for _ in 0..6 {
+                let words = Damage::new(&mut self.random, &base, &scene).by_chance();
+                both.put(&words);
+                self.on_damaged(&mut both, &scene, None)?;
+            }
+            self.damaged_twice(&mut both, &base, &scene)?;
+        }
+        Ok(())
+    }
+
+    /// Two rules broken at once: the lower one is to be told.
+    fn damaged_twice(&mut self, both: &mut Both, base: &[u16], scene: &Scene) -> Agreed {
+        for _ in 0..4 {
+            for _ in 0..2 {
+                let rule = self.random.between(1, 10);
+                let words = Damage::new(&mut self.random, base, scene).aimed(rule).unwrap_or_default();
+                both.put(&words);
+            }
+            self.on_damaged(both, scene, None)?;
+        }
+        Ok(())
+    }
+
+    /// A call or two on a damaged image, which is then put right again.
+    fn on_damaged(&mut self, both: &mut Both, scene: &Scene, aimed: Option<u32>) -> Agreed {
+        for _ in 0..self.random.between(1, 2) {
+            let mut choice = Choice { random: &mut self.random, image: both.image(), scene };
+            let (call, lent) = (choice.call(&ANY), choice.lent(30));
+            let is_format = matches!(call, Call::Format { .. });
+            let answered = both.lend(lent, call, self.tally)?;
+            if let (Some(rule), false) = (aimed, is_format) {
+                if answered.check.rule == rule {
+                    self.tally.hit(rule);
+                }
+            }
+        }
+        both.restart();
+        Ok(())
+    }
+
+    fn hostile(&mut self) -> Agreed {
+        let mut image = full_of_entries(262_144, S | 10_000);
+        let circle = self.random.one_in(2);
+        shared_blocks(&mut image, circle);
+        let mut both = Both::new(image);
+        both.call(Call::WhoHolds { page: 10_000 }, self.tally)?;
+        let last = 1_000 * PAGE + 32 * 65_535;
+        both.put(&[(last + POINTER + 1, 16_384)]);
+        both.call(Call::Grow { user: 255, file: 255 }, self.tally)?;
+        let length = self.random.between(16_383, 16_384);
+        Both::new(full_of_entries(length, 1)).call(Call::Shrink { user: 0, file: 0 }, self.tally)?;
+        Ok(())
+    }
+}

@@ -1,0 +1,128 @@
+//! Volumes to begin with: formatted ones, long files and many users by the second program's calls (which are quick), and the ends of what
+//! an image can be.
+
+use crate::random::Random;
+use crate::scene::Scene;
+use crate::words::*;
+
+/// An image of chance words, or of zeros.
+pub fn blank(random: &mut Random, pages: u32) -> Vec<u16> {
+    let mut image = vec![0; pages as usize * PAGE];
+    if !random.one_in(4) {
+        random.fill(&mut image);
+    }
+    image
+}
+
+/// A name for the n-th thing of a volume.
+pub fn nth(n: u32) -> Vec<u8> {
+    format!("N-{n}").into_bytes()
+}
+
+/// A setting-up call must be done: the makers ask only for what there is room for.
+fn must(reply: second::Reply) -> u32 {
+    assert_eq!(reply.number, 0, "a volume could not be made");
+    reply.value
+}
+
+/// A formatted volume of chance words.
+pub fn formatted(random: &mut Random, pages: u32) -> Vec<u16> {
+    let mut image = blank(random, pages);
+    let bit_page = if random.one_in(3) { None } else { Some(random.between(1, pages - 1)) };
+    must(second::format(&mut image, b"YARD", bit_page));
+    image
+}
+
+/// The same with one user who was given all but a few pages.
+pub fn with_owner(random: &mut Random, pages: u32, keep: u32) -> Vec<u16> {
+    let mut image = formatted(random, pages);
+    must(second::create_user(&mut image, b"DOCK"));
+    let rest = pair(&image, UNRESERVED);
+    must(second::give(&mut image, 0, rest - keep.min(rest - 1)));
+    image
+}
+
+/// A volume whose file 0 of user 0 has so many pages, with a shorter file whose pages lie between its own.
+pub fn with_long_file(random: &mut Random, pages: u32, length: u32) -> Vec<u16> {
+    let mut image = with_owner(random, pages, 4);
+    must(second::create_indexed(&mut image, 0, b"LONG", b"DATA", 0));
+    must(second::create_indexed(&mut image, 0, b"SHORT", b"", 0));
+    for n in 0..length {
+        must(second::grow(&mut image, 0, 0));
+        if n % 100 == 50 {
+            must(second::grow(&mut image, 0, 1));
+        }
+    }
+    image
+}
+
+/// A volume with so many users.
+pub fn with_users(random: &mut Random, pages: u32, users: u32) -> Vec<u16> {
+    let mut image = formatted(random, pages);
+    for n in 0..users {
+        must(second::create_user(&mut image, &nth(n)));
+    }
+    image
+}
+
+/// A volume whose user 0 has so many files, some of them with pages.
+pub fn with_files(random: &mut Random, pages: u32, files: u32) -> Vec<u16> {
+    let mut image = with_owner(random, pages, 9);
+    for n in 0..files {
+        let file = must(second::create_indexed(&mut image, 0, &nth(n), b"X", n));
+        if n % 8 == 0 && pages > 100 {
+            must(second::grow(&mut image, 0, file));
+        }
+    }
+    image
+}
+
+/// 256 users and all 2,048 object pages, each entry a file of the same pages, bytes and pointer: what costs a check most. The object file
+/// has new blocks, whose bits and counts are not yet right.
+pub fn full_of_entries(length: u32, pointer: u32) -> Vec<u16> {
+    let mut image = vec![0; 16_384 * PAGE];
+    must(second::format(&mut image, b"YARD", None));
+    for n in 0..256 {
+        must(second::create_user(&mut image, &nth(n)));
+    }
+    let subindex = pair(&image, OBJECT_POINTER) & !S;
+    for n in 0..2_048 {
+        put_pair(&mut image, slot_at(subindex, n / 512), 100 + n / 512);
+        put_pair(&mut image, slot_at(100 + n / 512, n % 512), 1_000 + n);
+    }
+    for number in 0..65_536 {
+        let entry = &mut image[1_000 * PAGE + 32 * number..][..32];
+        entry[0] = 0x8000;
+        put_bytes(&mut entry[NAME..NAME + 8], &nth(number as u32 % 256));
+        entry[OWNER] = (number / 256) as u16;
+        entry[OWN_NUMBER] = number as u16;
+        put_pair(entry, PAGES, length);
+        put_pair(entry, BYTES, length.wrapping_mul(2048));
+        put_pair(entry, POINTER, pointer);
+    }
+    image
+}
+
+/// A sound volume with 256 users who have 256 empty files each.
+pub fn all_files() -> Vec<u16> {
+    let mut image = full_of_entries(0, 0);
+    let scene = Scene::read(&image);
+    let system = [0, scene.bit_page, scene.user_index, scene.object_block].into_iter();
+    let blocks = scene.user_pages.iter().chain(&scene.object_indexes).chain(&scene.object_pages).map(|&(_, page)| page);
+    let held: Vec<u32> = system.chain(blocks).collect();
+    let bits = scene.bit_page as usize * PAGE;
+    image[bits..bits + PAGE].fill(0);
+    for page in &held {
+        image[bits + *page as usize / 16] |= 1 << (page % 16);
+    }
+    put_pair(&mut image, UNRESERVED, scene.pages - held.len() as u32);
+    image
+}
+
+/// Two blocks that every file of `full_of_entries(262_144, S | 10_000)` shares; in a circle, the first is its own index block.
+pub fn shared_blocks(image: &mut [u16], circle: bool) {
+    for slot in 0..512 {
+        put_pair(image, slot_at(10_000, slot), if circle { 10_000 } else { 10_001 });
+        put_pair(image, slot_at(10_001, slot), 10_002);
+    }
+}

@@ -1,0 +1,69 @@
+//! Where things lie in an image, as far as makers and damage need it. They use nothing of the second program, so that a fault of that one
+//! cannot hide in the images it is tried on.
+
+pub const PAGE: usize = 1024;
+
+/// Words of the directory entry, in page 0.
+pub const VOLUME_NAME: usize = 1008;
+pub const OBJECT_POINTER: usize = 1016;
+pub const USER_POINTER: usize = 1018;
+pub const BIT_POINTER: usize = 1020;
+pub const UNRESERVED: usize = 1022;
+
+/// Words of an entry: the name of either, then a user's, then an object's.
+pub const NAME: usize = 1;
+pub const GIVEN: usize = 14;
+pub const USED: usize = 16;
+pub const OWN_INDEX: usize = 18;
+pub const TYPE: usize = 9;
+pub const OWNER: usize = 16;
+pub const OWN_NUMBER: usize = 17;
+pub const OPENS: usize = 19;
+pub const PAGES: usize = 26;
+pub const BYTES: usize = 28;
+pub const POINTER: usize = 30;
+
+/// The flags of a pointer.
+pub const S: u32 = 1 << 31;
+pub const I: u32 = 1 << 30;
+
+pub fn pair(words: &[u16], at: usize) -> u32 {
+    u32::from(words[at]) << 16 | u32::from(words[at + 1])
+}
+
+pub fn put_pair(words: &mut [u16], at: usize, value: u32) {
+    words[at] = (value >> 16) as u16;
+    words[at + 1] = value as u16;
+}
+
+/// Where a slot of a block lies.
+pub fn slot_at(block: u32, slot: u32) -> usize {
+    block as usize * PAGE + 2 * slot as usize
+}
+
+/// Where an entry lies in its page.
+pub fn entry_at(page: u32, number: u32) -> usize {
+    page as usize * PAGE + 32 * (number as usize % 32)
+}
+
+/// Writes bytes two to a word, the high byte first, filled with zeros.
+pub fn put_bytes(words: &mut [u16], bytes: &[u8]) {
+    for (n, word) in words.iter_mut().enumerate() {
+        let byte = |at: usize| u16::from(bytes.get(at).copied().unwrap_or(0));
+        *word = byte(2 * n) << 8 | byte(2 * n + 1);
+    }
+}
+
+/// The bytes of a name or type before its fill.
+pub fn bytes_of(words: &[u16]) -> Vec<u8> {
+    words.iter().flat_map(|word| word.to_be_bytes()).take_while(|&byte| byte != 0).collect()
+}
+
+/// An image as bytes, high byte first, as it is kept in a file.
+pub fn to_bytes(image: &[u16]) -> Vec<u8> {
+    image.iter().flat_map(|word| word.to_be_bytes()).collect()
+}
+
+pub fn from_bytes(bytes: &[u8]) -> Vec<u16> {
+    bytes.chunks_exact(2).map(|two| u16::from_be_bytes([two[0], two[1]])).collect()
+}
