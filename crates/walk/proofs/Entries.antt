@@ -7,7 +7,7 @@ use Rattle.sums.specs.Sum.{sum, sum-none, sum-zero}
 use Rattle.book.specs.Words.{Words, Vol, vol, two}
 use Rattle.book.specs.Pointers.{flags, page}
 use Rattle.book.specs.Trees.{Root, run, rootBy, pageAt, weighR}
-use Rattle.book.specs.Entries.{object, objectFile, objectPage, used}
+use Rattle.book.specs.Entries.{object, objectFile, objectPage, used, pageCount}
 use Rattle.book.specs.Files.{fileAt}
 use Rattle.book.specs.Holders.{hit, some, mine}
 use Rattle.book.specs.Image.{pages}
@@ -61,7 +61,7 @@ module _ (v : Vol) (e q : ℕ) (at : q ≡ objectPage v e) (h : 0 < used (entryI
   pub read-file : fileAt v e ≡ rootBy x t n
   read-file = file-in v e q at h x t n a b c
 
-  pub read-short : ShortR v (fileAt v e) (two (object v e) 26) → ShortR v (rootBy x t n) n
+  pub read-short : ShortR v (fileAt v e) (pageCount (object v e)) → ShortR v (rootBy x t n) n
   read-short s = subst₂ (ShortR v) read-file (sym (c ∙ ap (λ (w : Words). two w 26) (object-in v e q at))) s
 
 abbrev pub filesOf : List ℕ → ℕ → ℕ → Weigher

@@ -2,14 +2,14 @@
 use mathlib.Core.Path.{_≡_, sym, ap, _∙_, subst, subst₂}
 use mathlib.Core.List.{List}
 use mathlib.Core.Logic.{_⊎_, inl, inr}
-use Prim.Native.Nat.{ℕ, zero, suc, _*_, _^_, _≤_, _<_}
+use Prim.Native.Nat.{ℕ, zero, suc, _≤_, _<_}
 use native.Mathlib.Nat.{eq-zero-or-pos}
 use native.Mathlib.Decide.{decLt, ℕ-discrete}
 use native.Mathlib.Omega.{arith}
-use Rattle.book.specs.Words.{Vol, vol, two}
+use Rattle.book.specs.Words.{Vol, vol}
 use Rattle.book.specs.Pointers.{page, slot, Inside}
 use Rattle.book.specs.Trees.{Root, tree, run, rootAt, rootBy, pageAt, Fill}
-use Rattle.book.specs.Entries.{object, used, userFile, objectFile}
+use Rattle.book.specs.Entries.{object, used, pageCount, userFile, objectFile}
 use Rattle.book.specs.Files.{Shape, FileShape, fileAt}
 use Rattle.book.specs.Rules.{Rule2, Rule3, Rule5, Rule5By, Rule7}
 use Rattle.laws.specs.Count.{root-0, root-1, root-2, zero-flags, file-unused}
@@ -52,11 +52,11 @@ module _ (P : ℕ) (v : Vol) where
   short-shape (suc (suc zero)) t n a = fill-short v 2 t n (a .2)
   short-shape (suc (suc (suc x))) t n a = absurd a
 
-  short-file : (e : ℕ) → 0 < used (object v e) → FileShape P v e → ShortR v (fileAt v e) (two (object v e) 26)
+  short-file : (e : ℕ) → 0 < used (object v e) → FileShape P v e → ShortR v (fileAt v e) (pageCount (object v e))
   unfolding FileShape rootAt
   short-file e h s = short-same v _ _ _ (sym (file-used v e h)) (short-shape _ _ _ (s .0))
 
-  pub short-files : Rule7 P v → (e : ℕ) → e < 65536 → ShortR v (fileAt v e) (two (object v e) 26)
+  pub short-files : Rule7 P v → (e : ℕ) → e < 65536 → ShortR v (fileAt v e) (pageCount (object v e))
   unfolding Rule7
   short-files r e h = elim (eq-zero-or-pos (used (object v e))) [
     | inl z ↦ short-run v _ 0 0 _ (file-unused v e z)
@@ -96,7 +96,7 @@ module _ (P : ℕ) (v : Vol) where
   pub rules-short : Rule2 P v → Rule3 P v → Rule5 P v → Rule7 P v → Shorts v
   rules-short a b c d = record { users = short-users a b; objects = short-objects a c; files = short-files d }
 
--- an indexed object file has no more than end at its last page
+-- an indexed object file has no slot filled from its end on
 module _ (img : List ℕ) (x t ends : ℕ) (e : objectFile (vol img) ≡ rootBy x t 0) (d : Ends img ends) where
   one : x ≡ 1 → Short (vol img) 1 t ends
   unfolding Short

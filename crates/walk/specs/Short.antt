@@ -3,10 +3,10 @@ use mathlib.Core.Path.{_≡_}
 use mathlib.Core.List.{List}
 use Prim.Native.Nat.{ℕ, zero, suc, _-_, _*_, _^_, _≤_, _<_, min}
 use lib.ListN.{length}
-use Rattle.book.specs.Words.{Vol, vol, two}
+use Rattle.book.specs.Words.{Vol, vol}
 use Rattle.book.specs.Pointers.{slot}
 use Rattle.book.specs.Trees.{Root, tree, run, Below}
-use Rattle.book.specs.Entries.{userFile, objectFile, object}
+use Rattle.book.specs.Entries.{userFile, objectFile, object, pageCount}
 use Rattle.book.specs.Files.{fileAt}
 use Rattle.book.specs.Image.{pages}
 use Rattle.walk.specs.Walked.{slotOf}
@@ -24,18 +24,20 @@ unfoldable pub ShortR : Vol → Root → ℕ → Type 0
 ShortR v (tree l t) n = Short v l t n
 ShortR v (run s m) n = Unit {0}
 
--- all trees of the volume: rules 2, 3, 5 and 7 say so
+-- the trees of the volume: rules 2, 3, 5 and 7 say so
 pub record Shorts (v : Vol) : Type 0 where
   pub users : ShortR v (userFile v) 8
   pub objects : ShortR v (objectFile v) 2048
-  pub files : (e : ℕ) → e < 65536 → ShortR v (fileAt v e) (two (object v e) 26)
+  pub files : (e : ℕ) → e < 65536 → ShortR v (fileAt v e) (pageCount (object v e))
 
 -- ---- the same of a block that was handed over as a part; its pointers are of level l
 
+-- they name pages of the image
 pub record PointersBelow (img block : List ℕ) (l : ℕ) : Type 0 where
   pub size : length block ≡ 1024
   pub below : (k : ℕ) → k < 512 → Below (vol img) (pages img) l (slotOf block k)
 
+-- those that n positions do not need are zero
 pub record Pointers (img block : List ℕ) (l n : ℕ) : Type 0 where
   pub none : (k : ℕ) → k < 512 → n ≤ k * 512 ^ l → slotOf block k ≡ 0
   pub short : (k : ℕ) → k < 512 → Short (vol img) l (slotOf block k) (share l n k)
