@@ -29,6 +29,14 @@ impl Answer {
     }
 }
 
+/// So many pages, in words.
+pub fn pages(count: u32) -> String {
+    match count {
+        1 => "1 page".to_string(),
+        _ => format!("{count} pages"),
+    }
+}
+
 /// The library's calls, as far as a refusal of each is said in other words.
 #[derive(Clone, Copy, Debug, PartialEq, Eq)]
 pub enum Call {

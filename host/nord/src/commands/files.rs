@@ -1,6 +1,6 @@
 //! Files: create, grow, shrink, delete, open.
 
-use crate::answers::{done, Answer, Call};
+use crate::answers::{self, done, Answer, Call};
 use crate::args::{Change, File};
 use crate::failure::Failure;
 use crate::names::{FileName, Within};
@@ -54,8 +54,9 @@ fn grow(at: &Change, file: &FileName, count: u32) -> Result<Answer, Failure> {
         let (user, index) = file.indexes(image)?;
         grow_by(image, file, (user, index), some(count)?)
     })?;
-    let words = pages.iter().map(u32::to_string).collect::<Vec<_>>().join(" ");
-    Ok(Answer::new(format!("grown: data pages {words}"), json!({ "pages": pages })))
+    let numbers = pages.iter().map(u32::to_string).collect::<Vec<_>>().join(" ");
+    let words = answers::pages(pages.len() as u32);
+    Ok(Answer::new(format!("grown by {words}: {numbers}"), json!({ "pages": pages })))
 }
 
 fn shrink(at: &Change, file: &FileName, count: u32) -> Result<Answer, Failure> {
@@ -63,7 +64,10 @@ fn shrink(at: &Change, file: &FileName, count: u32) -> Result<Answer, Failure> {
         let (user, index) = file.indexes(image)?;
         shrink_by(image, file, (user, index), some(count)?)
     })?;
-    Ok(Answer::new(format!("shrunk by {count}"), json!({ "pages": count })))
+    Ok(Answer::new(
+        format!("shrunk by {}", answers::pages(count)),
+        json!({ "pages": count }),
+    ))
 }
 
 fn some(count: u32) -> Result<u32, Failure> {

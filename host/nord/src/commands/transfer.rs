@@ -1,7 +1,7 @@
 //! Whole files out of an image and into it, page by page.
 
 use super::files;
-use crate::answers::{done, Answer, Call};
+use crate::answers::{self, done, Answer, Call};
 use crate::args::{Ask, Change};
 use crate::failure::{of_file, standard_output, Failure};
 use crate::listing::{self, Shape};
@@ -39,7 +39,7 @@ pub fn read(at: &Ask, file: &FileName, output: Option<&Path>) -> Result<Answer, 
         Some(path) => {
             save(path, &at.image, &bytes)?;
             let count = bytes.len() / store::PAGE;
-            let line = format!("{count} pages of {file} in {}", path.display());
+            let line = format!("{} of {file} in {}", answers::pages(count as u32), path.display());
             Ok(Answer::new(
                 line,
                 json!({ "pages": count, "bytes": bytes.len(), "output": path.to_string_lossy() }),
@@ -128,7 +128,7 @@ pub fn write(at: &Change, file: &FileName, input: &Path, creation: Creation) -> 
     })?;
     let words = if created { "created" } else { "replaced" };
     Ok(Answer::new(
-        format!("{file} {words}: {count} pages"),
+        format!("{file} {words}: {}", answers::pages(count)),
         json!({ "pages": count, "created": created }),
     ))
 }

@@ -1,6 +1,6 @@
 //! Users: add, delete, give, take.
 
-use crate::answers::{done, Answer, Call};
+use crate::answers::{self, done, Answer, Call};
 use crate::args::{Change, User};
 use crate::failure::Failure;
 use crate::names::UserName;
@@ -49,7 +49,7 @@ fn moved(at: &Change, user: &UserName, count: u32, call: Call) -> Result<Answer,
     })?;
     let words = if call == Call::Take { "taken from" } else { "given to" };
     Ok(Answer::new(
-        format!("{count} pages {words} user {index}"),
+        format!("{} {words} user {index}", answers::pages(count)),
         json!({ "user": index, "pages": count }),
     ))
 }
