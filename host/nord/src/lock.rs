@@ -3,6 +3,7 @@
 //! still the image, and else begins anew with the one that is.
 
 use crate::failure::{of_file, Failure};
+use crate::pause;
 use std::fs::{File, OpenOptions, TryLockError};
 use std::os::unix::fs::MetadataExt;
 use std::path::Path;
@@ -14,6 +15,7 @@ pub fn take(path: &Path, wait: Duration) -> Result<File, Failure> {
     let mut told = false;
     loop {
         let file = OpenOptions::new().read(true).write(true).open(path).map_err(of_file(path))?;
+        pause::at("opened");
         match file.try_lock() {
             Ok(()) if is_at(&file, path)? => return Ok(file),
             Ok(()) => continue,

@@ -1,16 +1,12 @@
-//! A bar for long work, on a terminal only: in a pipe nothing is shown.
+//! A bar for long work on standard error. Where that is no terminal, indicatif shows nothing.
 
 use indicatif::{ProgressBar, ProgressStyle};
-use std::io::IsTerminal;
 
 /// The bar of one piece of work; it goes away with the work.
 pub struct Progress(ProgressBar);
 
 impl Progress {
     pub fn start(what: &'static str, steps: u64) -> Progress {
-        if !std::io::stderr().is_terminal() {
-            return Progress(ProgressBar::hidden());
-        }
         let bar = ProgressBar::new(steps);
         if let Ok(style) = ProgressStyle::with_template("{msg} {bar:40} {pos}/{len} pages, {eta} left") {
             bar.set_style(style);

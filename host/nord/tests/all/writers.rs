@@ -129,6 +129,35 @@ mod paused {
         assert!(listing.contains("USER 1 FIRST") && listing.contains("USER 2 SECOND"), "{listing}");
     }
 
+    /// The first writer has opened the image, and before it locks that file another one puts a new image in its place.
+    #[test]
+    fn a_writer_that_locks_an_old_file_begins_anew() {
+        let (_folder, image) = disk(154, 50);
+        let first = Paused::start(&image, "user add IMAGE FIRST", "opened");
+        done(&image, "user add IMAGE SECOND");
+        let (status, said) = first.end();
+        // It comes by the same stage again, on the new image.
+        assert_eq!((status, said.as_str()), (0, "paused at opened\n"));
+        let listing = done(&image, "list IMAGE");
+        assert!(listing.contains("USER 1 SECOND") && listing.contains("USER 2 FIRST"), "{listing}");
+    }
+
+    /// A file in the making is not swept away by others, and an image that came first is not overwritten.
+    #[test]
+    fn of_two_that_make_an_image_one_is_told_that_it_is_there() {
+        let folder = crate::common::Folder::new();
+        let image = folder.path("disk.img");
+        let first = Paused::start(&image, "format IMAGE FIRST --pages 20", "half");
+        done(&image, "format IMAGE SECOND --pages 10");
+        done(&image, "user add IMAGE DOCK");
+        let making = format!(".disk.img.nord-{}", first.0.id());
+        assert_eq!(folder.names(), [making.as_str(), "disk.img"]);
+        let (status, said) = first.end();
+        assert_eq!((status, said.ends_with("disk.img: is there already\n")), (74, true), "{said}");
+        assert!(done(&image, "list IMAGE").starts_with("VOLUME SECOND PAGES 10 "));
+        assert_eq!(folder.names(), ["disk.img"]);
+    }
+
     /// A program that knows nothing of the lock changes the image while a command is at work.
     fn meanwhile(change: impl Fn(&Path), stage: &str) -> (i32, String) {
         let (folder, image) = disk(154, 50);
