@@ -1,4 +1,4 @@
 // The calls of crate nord for C: numbers and lent slices in, structs of numbers out. host/include/nord.h declares them.
 pub mod ask;
 pub mod change;
-mod spell;
+pub mod spell;

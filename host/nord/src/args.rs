@@ -66,10 +66,16 @@ pub enum Command {
         bit_page: Option<u32>,
     },
     /// Add and delete users, give and take pages
-    #[command(subcommand)]
+    #[command(
+        subcommand,
+        after_help = "Example:\n  nord user add disk.img DOCK\n  nord user give disk.img DOCK 100"
+    )]
     User(User),
     /// Create, grow, shrink, delete and open files
-    #[command(subcommand)]
+    #[command(
+        subcommand,
+        after_help = "Example:\n  nord file create disk.img DOCK/READS:DATA\n  nord file grow disk.img DOCK/READS:DATA 8"
+    )]
     File(File),
     /// Copy a whole file out of an image
     #[command(
@@ -137,7 +143,7 @@ pub enum Command {
         /// Write the picture to an SVG file
         #[arg(long, value_name = "FILE")]
         svg: Option<PathBuf>,
-        /// Cells in a row
+        /// Characters in a line of the text; by default the terminal's, or 80
         #[arg(long, value_name = "N", value_parser = number)]
         width: Option<u32>,
         /// Colours in the text

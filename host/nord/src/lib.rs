@@ -8,11 +8,16 @@ pub mod failure;
 pub mod listing;
 pub mod lock;
 pub mod manual;
+pub mod map;
 pub mod names;
+pub mod output;
+pub mod palette;
 mod pause;
 pub mod progress;
 pub mod replace;
 pub mod store;
+pub mod volume;
+pub mod volume_json;
 
 use clap::Parser;
 use std::io::Write;

@@ -4,7 +4,7 @@ use crate::answers::{done, Answer, Call, Refusal};
 use crate::args::Ask;
 use crate::failure::Failure;
 use crate::names::{FileName, UserName, Within};
-use crate::{listing, store};
+use crate::{listing, store, volume, volume_json};
 use proved::{Holder, Reply};
 use serde_json::json;
 
@@ -21,10 +21,10 @@ pub fn check(at: &Ask) -> Result<Answer, Failure> {
 pub fn list(at: &Ask) -> Result<Answer, Failure> {
     let image = store::read(&at.image)?;
     done(proved::check(&image), Call::Check, "")?;
-    let volume = listing::read(&image);
+    let volume = volume::read(&image);
     Ok(Answer {
-        text: volume.to_string(),
-        ..Answer::new("", volume.json())
+        text: listing::text(&volume),
+        ..Answer::new("", volume_json::json(&volume))
     })
 }
 
@@ -95,8 +95,8 @@ pub fn who(at: &Ask, page: u32) -> Result<Answer, Failure> {
     Ok(Answer::new(words(&image, holder), json))
 }
 
-/// The library's kinds of holders, by number.
-const KINDS: [&str; 11] = [
+/// The library's kinds of holders in words, by number.
+pub const KINDS: [&str; 11] = [
     "free",
     "master",
     "bit file",
@@ -109,7 +109,8 @@ const KINDS: [&str; 11] = [
     "index block",
     "data page",
 ];
-const OF_A_FILE: u32 = 8;
+/// The first of the kinds that a file has.
+pub const OF_A_FILE: u32 = 8;
 
 fn words(image: &[u16], holder: Holder) -> String {
     let kind = KINDS[holder.kind as usize];
@@ -122,14 +123,10 @@ fn words(image: &[u16], holder: Holder) -> String {
 }
 
 fn file_words(image: &[u16], Holder { user, file, .. }: Holder) -> String {
-    let users = listing::read(image).users;
-    let name = users
-        .iter()
-        .find(|entry| entry.index == user)
-        .map(|entry| entry.name.clone())
-        .unwrap_or_default();
-    match listing::file(image, user, file) {
-        Some(entry) => format!("{name}/{}:{} (user {user} file {file})", entry.name, entry.kind),
-        None => format!("user {user} file {file}"),
-    }
+    let volume = volume::read(image);
+    let found = volume
+        .user(user)
+        .and_then(|owner| Some((&owner.name, owner.file(file)?.full_name())));
+    let name = found.map(|(owner, name)| format!("{owner}/{name} ")).unwrap_or_default();
+    format!("{name}(user {user} file {file})")
 }

@@ -4,15 +4,13 @@ use super::files;
 use crate::answers::{self, done, Answer, Call};
 use crate::args::{Ask, Change};
 use crate::failure::{of_file, standard_output, Failure};
-use crate::listing::{self, Shape};
 use crate::names::FileName;
 use crate::progress::Progress;
-use crate::replace::{self, Fresh};
-use crate::store;
+use crate::volume::{self, FileKind};
+use crate::{output, store};
 use serde_json::json;
 use std::fs;
 use std::io::{Read, Write};
-use std::os::unix::fs::MetadataExt;
 use std::path::Path;
 
 /// How a file is made that is not there yet.
@@ -37,7 +35,7 @@ pub fn read(at: &Ask, file: &FileName, output: Option<&Path>) -> Result<Answer, 
             Ok(Answer::default())
         }
         Some(path) => {
-            save(path, &at.image, &bytes)?;
+            output::save(path, &at.image, &bytes)?;
             let count = bytes.len() / store::PAGE;
             let line = format!("{} of {file} in {}", answers::pages(count as u32), path.display());
             Ok(Answer::new(
@@ -70,45 +68,16 @@ fn pages(image: &[u16], file: &FileName) -> Result<Vec<u8>, Failure> {
 }
 
 /// A file's entry in an image, which is checked before.
-fn entry(image: &[u16], file: &FileName, (user, index): (u32, u32)) -> Result<listing::File, Failure> {
+fn entry(image: &[u16], file: &FileName, (user, index): (u32, u32)) -> Result<volume::File, Failure> {
     done(proved::check(image), Call::Check, "")?;
-    match (user <= 255 && index <= 255).then(|| listing::file(image, user, index)).flatten() {
-        Some(entry) => Ok(entry),
+    match volume::read(image).user(user).and_then(|owner| owner.file(index)) {
+        Some(entry) => Ok(entry.clone()),
         // An index that no entry has: the address call says which refusal it is.
         None => {
             done(proved::address(image, user, index, 0), Call::FindFile, file)?;
             Err(Failure::Host(format!("{file}: no entry is found")))
         }
     }
-}
-
-/// A plain file is replaced whole; a device or a pipe just gets the bytes.
-fn save(path: &Path, image: &Path, bytes: &[u8]) -> Result<(), Failure> {
-    let old = match fs::canonicalize(path) {
-        Ok(real) => Some((fs::metadata(&real).map_err(of_file(path))?, real)),
-        Err(_) => None,
-    };
-    let Some((old, real)) = old else {
-        replace::sweep(path);
-        let mut fresh = Fresh::beside(path, None)?;
-        fresh.fill(bytes)?;
-        return fresh.put();
-    };
-    let ours = fs::metadata(image).map_err(of_file(image))?;
-    if (old.dev(), old.ino()) == (ours.dev(), ours.ino()) {
-        return Err(Failure::Usage(format!("{}: is the image itself", path.display())));
-    }
-    if !old.is_file() {
-        return fs::OpenOptions::new()
-            .write(true)
-            .open(path)
-            .and_then(|mut file| file.write_all(bytes))
-            .map_err(of_file(path));
-    }
-    replace::sweep(&real);
-    let mut fresh = Fresh::beside(&real, Some(&old))?;
-    fresh.fill(bytes)?;
-    fresh.put()
 }
 
 pub fn write(at: &Change, file: &FileName, input: &Path, creation: Creation) -> Result<Answer, Failure> {
@@ -149,7 +118,7 @@ fn load(input: &Path) -> Result<Vec<u16>, Failure> {
 /// Grows or shrinks the file to so many pages.
 fn fit(image: &mut [u16], file: &FileName, place: (u32, u32), count: u32, contiguous: bool) -> Result<(), Failure> {
     let entry = entry(image, file, place)?;
-    if contiguous && entry.shape != Shape::Contiguous {
+    if contiguous && entry.kind != FileKind::Contiguous {
         return Err(Failure::Usage(format!("{file}: is there and is not contiguous")));
     }
     if count > entry.pages {

@@ -1,7 +1,8 @@
 //! What each command answers when it is done, in words and as JSON.
 
 use crate::common::{done, run, sample, Folder};
-use serde_json::json;
+use serde_json::{json, Value};
+use std::path::Path;
 
 #[test]
 fn the_yard_example_lists_as_document_01_says() {
@@ -89,62 +90,106 @@ fn format_as_it_stands_keeps_the_size() {
     assert_eq!(done(&image, "list IMAGE"), "VOLUME BERTH PAGES 154 RESERVED 2 UNRESERVED 152\n");
 }
 
-#[test]
-fn every_command_that_answers_has_json() {
-    let (folder, image) = sample();
-    let out = folder.path("out.bin");
-    let input = folder.put("in.bin", &[7; 3000]);
-    let lines = [
-        ("check IMAGE", json!({ "number": 0, "sound": true, "visits": 20, "pages": 154 })),
-        ("find IMAGE DOCK", json!({ "number": 0, "user": 0 })),
-        ("find IMAGE DOCK/CRANE:PLAN", json!({ "number": 0, "user": 0, "file": 1 })),
-        (
-            "address IMAGE @0/@0 1",
-            json!({ "number": 0, "page": 7, "user": 0, "file": 0, "position": 1 }),
-        ),
-        (
-            "who IMAGE 153",
-            json!({ "number": 0, "page": 153, "holder": "data page", "kind": 10, "user": 0, "file": 1, "position": 9 }),
-        ),
-        (
-            "who IMAGE 4",
-            json!({ "number": 0, "page": 4, "holder": "object page", "kind": 7, "position": 0 }),
-        ),
-        ("user add IMAGE CRANE", json!({ "number": 0, "user": 1, "name": "CRANE" })),
-        ("user give IMAGE CRANE 9", json!({ "number": 0, "user": 1, "pages": 9 })),
-        ("user take IMAGE CRANE 9", json!({ "number": 0, "user": 1, "pages": 9 })),
-        ("user delete IMAGE CRANE", json!({ "number": 0, "user": 1 })),
-        ("file create IMAGE DOCK/LOG", json!({ "number": 0, "user": 0, "file": 2 })),
-        ("file grow IMAGE DOCK/LOG 2", json!({ "number": 0, "pages": [9, 11] })),
-        ("file shrink IMAGE DOCK/LOG", json!({ "number": 0, "pages": 1 })),
-        ("file open IMAGE DOCK/LOG", json!({ "number": 0, "user": 0, "file": 2 })),
-        ("file delete IMAGE DOCK/LOG", json!({ "number": 0, "user": 0, "file": 2 })),
-        (
-            "read IMAGE DOCK/READS:DATA OUT",
-            json!({ "number": 0, "pages": 3, "bytes": 6144, "output": out.to_str().unwrap() }),
-        ),
-        (
-            "write IMAGE DOCK/READS:DATA IN",
-            json!({ "number": 0, "pages": 2, "created": false }),
-        ),
-        (
-            "format IMAGE YARD",
-            json!({ "number": 0, "volume": "YARD", "pages": 154, "bit_page": 77 }),
-        ),
-        (
-            "list IMAGE",
-            json!({ "number": 0, "volume": "YARD", "pages": 154, "reserved": 2, "unreserved": 152, "users": [] }),
-        ),
-    ];
+/// Runs lines one after the other on one image, and compares each answer.
+fn answers(image: &Path, lines: &[(&str, Value)]) {
     for (line, wanted) in lines {
-        let line = line
-            .replace("OUT", out.to_str().unwrap())
-            .replace(" IN", &format!(" {}", input.display()));
-        let run = run(&image, &format!("{line} --json"));
-        assert_eq!((run.json(), run.status, run.err.as_str()), (wanted, 0, ""), "{line}");
+        let run = run(image, &format!("{line} --json"));
+        assert_eq!((&run.json(), run.status, run.err.as_str()), (wanted, 0, ""), "{line}");
     }
-    let other = run(&folder.path("other.img"), "sample IMAGE --json");
-    assert_eq!(other.json(), json!({ "number": 0, "volume": "YARD", "pages": 154 }));
+}
+
+#[test]
+fn what_is_asked_has_json() {
+    let (_folder, image) = sample();
+    let file = json!({ "number": 0, "page": 153, "holder": "data page", "kind": 10, "user": 0, "file": 1, "position": 9 });
+    answers(
+        &image,
+        &[
+            ("check IMAGE", json!({ "number": 0, "sound": true, "visits": 20, "pages": 154 })),
+            ("find IMAGE DOCK", json!({ "number": 0, "user": 0 })),
+            ("find IMAGE DOCK/CRANE:PLAN", json!({ "number": 0, "user": 0, "file": 1 })),
+            (
+                "address IMAGE @0/@0 1",
+                json!({ "number": 0, "page": 7, "user": 0, "file": 0, "position": 1 }),
+            ),
+            ("who IMAGE 153", file),
+            (
+                "who IMAGE 4",
+                json!({ "number": 0, "page": 4, "holder": "object page", "kind": 7, "position": 0 }),
+            ),
+        ],
+    );
+    let listed = run(&image, "list IMAGE --json").json();
+    assert_eq!(
+        (&listed["name"], &listed["users"][0]["files"][1]["kind"]),
+        (&json!("YARD"), &json!("CONTIGUOUS"))
+    );
+}
+
+#[test]
+fn what_is_changed_has_json() {
+    let (_folder, image) = sample();
+    answers(
+        &image,
+        &[
+            ("user add IMAGE CRANE", json!({ "number": 0, "user": 1, "name": "CRANE" })),
+            ("user give IMAGE CRANE 9", json!({ "number": 0, "user": 1, "pages": 9 })),
+            ("user take IMAGE CRANE 9", json!({ "number": 0, "user": 1, "pages": 9 })),
+            ("user delete IMAGE CRANE", json!({ "number": 0, "user": 1 })),
+            ("file create IMAGE DOCK/LOG", json!({ "number": 0, "user": 0, "file": 2 })),
+            ("file grow IMAGE DOCK/LOG 2", json!({ "number": 0, "pages": [9, 11] })),
+            ("file shrink IMAGE DOCK/LOG", json!({ "number": 0, "pages": 1 })),
+            ("file open IMAGE DOCK/LOG", json!({ "number": 0, "user": 0, "file": 2 })),
+            ("file delete IMAGE DOCK/LOG", json!({ "number": 0, "user": 0, "file": 2 })),
+            (
+                "format IMAGE YARD",
+                json!({ "number": 0, "volume": "YARD", "pages": 154, "bit_page": 77 }),
+            ),
+        ],
+    );
+}
+
+#[test]
+fn what_is_read_written_and_made_has_json() {
+    let (folder, image) = sample();
+    let (out, input) = (folder.path("out.bin"), folder.put("in.bin", &[7; 3000]));
+    let read = format!("read IMAGE DOCK/READS:DATA {}", out.display());
+    let write = format!("write IMAGE DOCK/READS:DATA {}", input.display());
+    answers(
+        &image,
+        &[
+            (
+                &read,
+                json!({ "number": 0, "pages": 3, "bytes": 6144, "output": out.to_str().unwrap() }),
+            ),
+            (&write, json!({ "number": 0, "pages": 2, "created": false })),
+        ],
+    );
+    answers(
+        &folder.path("other.img"),
+        &[("sample IMAGE", json!({ "number": 0, "volume": "YARD", "pages": 154 }))],
+    );
+}
+
+#[test]
+fn the_map_as_text_picture_and_json() {
+    let (folder, image) = sample();
+    let text = done(&image, "map IMAGE --width 40");
+    assert!(text.starts_with("YARD: ") && !text.contains('\u{1b}'), "{text}");
+    assert!(text.lines().all(|line| line.chars().count() <= 80), "{text}");
+    assert!(done(&image, "map IMAGE --colour always").contains('\u{1b}'));
+    let picture = folder.path("map.svg");
+    done(&image, &format!("map IMAGE --svg {}", picture.display()));
+    assert!(std::fs::read_to_string(&picture).unwrap().starts_with("<svg "));
+    let json = run(&image, "map IMAGE --json").json();
+    let holders = json["holders"].as_array().unwrap();
+    assert_eq!(
+        (holders.len(), &holders[77]["holder"], &holders[153]["position"]),
+        (154, &json!("bit file"), &json!(9))
+    );
+    let itself = format!("map IMAGE --svg {}", image.display());
+    assert_eq!(run(&image, &itself).status, 64);
+    assert_eq!(done(&image, "check IMAGE"), "sound: 20 of 154 pages are held\n");
 }
 
 #[test]

@@ -1,0 +1,82 @@
+// A case for each broken rule: a sound disk of 16 pages with one word wrong.
+use crate::refusals::small_yard;
+use crate::say::case;
+use crate::say::done;
+use crate::say::put;
+use crate::say::refused;
+use crate::say::word;
+use edge::ask::nord_check;
+use edge::change::nord_create_indexed;
+use edge::change::nord_grow;
+
+// Whether check gives this rule with word k of page p set to x; the word is put back.
+fn breaks(img: &mut [u16], p: u16, k: u16, x: u16, rule: u32) -> bool {
+    let was = word(img, p, k);
+    put(img, p, k, x);
+    let r = nord_check(img);
+    put(img, p, k, was);
+    refused(r, 3, rule)
+}
+
+// Each rule. Page 1 is the user index, 2 the user page, 3 the object index, 4 the object page, 5 the file's page, 6 its index block, 8 the
+// bit file.
+pub fn rules(img: &mut [u16]) {
+    small_yard(img);
+    one_page(img);
+    heads(img);
+    entries(img);
+    files(img);
+    counts(img);
+    again(img);
+}
+
+fn one_page(img: &mut [u16]) {
+    nord_create_indexed(img, 0, b"READS", b"DATA", 0);
+    case(b"one file, one page", done(nord_grow(img, 0, 0), 5));
+    case(b"sound: 8 pages", done(nord_check(img), 8));
+}
+
+fn heads(img: &mut [u16]) {
+    case(b"rule 1: a name with a gap", breaks(img, 0, 1008, 89, 1));
+    case(b"rule 1: bit page 16 of 16", breaks(img, 0, 1021, 16, 1));
+    case(b"rule 2: both flags", breaks(img, 0, 1018, 49152, 2));
+    case(b"rule 2: no object pointer", breaks(img, 0, 1016, 0, 2));
+}
+
+fn entries(img: &mut [u16]) {
+    case(
+        b"rule 3: slot 8 of the user index",
+        breaks(img, 1, 17, 9, 3),
+    );
+    case(b"rule 4: not his own index", breaks(img, 2, 18, 1, 4));
+    case(b"rule 4: used above given", breaks(img, 2, 17, 9, 4));
+    case(b"rule 5: object page 16 of 16", breaks(img, 3, 1, 16, 5));
+}
+
+fn files(img: &mut [u16]) {
+    case(b"rule 6: another entry number", breaks(img, 4, 17, 1, 6));
+    case(
+        b"rule 6: a type in small letters",
+        breaks(img, 4, 9, 25697, 6),
+    );
+    case(
+        b"rule 7: a slot past the last page",
+        breaks(img, 6, 3, 7, 7),
+    );
+    case(b"rule 7: bytes of two pages", breaks(img, 4, 29, 4096, 7));
+    case(
+        b"rule 8: the object page is a file's page",
+        breaks(img, 6, 1, 4, 8),
+    );
+}
+
+fn counts(img: &mut [u16]) {
+    case(b"rule 9: a free page's bit", breaks(img, 8, 0, 895, 9));
+    case(b"rule 9: a held page's bit", breaks(img, 8, 0, 375, 9));
+    case(b"rule 10: used count", breaks(img, 2, 17, 3, 10));
+    case(b"rule 10: unreserved", breaks(img, 0, 1023, 3, 10));
+}
+
+fn again(img: &[u16]) {
+    case(b"sound again", done(nord_check(img), 8));
+}

@@ -1,0 +1,126 @@
+//! The map as a picture in SVG.
+
+mod cells;
+mod key;
+mod mark;
+
+use super::layout::{cell, side};
+use super::legend::{numbers, Group, Legend, Row};
+use super::letters::Letters;
+use crate::volume::{Holder, Volume};
+use mark::{escaped, group, label, rect, Text};
+
+const MARGIN: usize = 28;
+/// Height of the title, the line below it and the bar of shares.
+const HEAD: usize = 92;
+const FONT: &str = "'DejaVu Sans','Segoe UI','Helvetica Neue',Arial,sans-serif";
+
+/// Where things lie in the picture.
+struct Plan {
+    /// Pages to a row, and the side of a cell.
+    side: usize,
+    cell: usize,
+    /// The first cell's corner.
+    left: usize,
+    top: usize,
+    /// The cells' extent.
+    width: usize,
+    height: usize,
+}
+
+impl Plan {
+    fn of(pages: usize) -> Plan {
+        let side = side(pages);
+        let cell = cell(side);
+        let left = MARGIN + 10 + 8 * pages.saturating_sub(1).to_string().len();
+        let (width, height) = (side * cell, pages.div_ceil(side) * cell);
+        Plan {
+            side,
+            cell,
+            left,
+            top: HEAD + 46,
+            width,
+            height,
+        }
+    }
+
+    fn right(&self) -> usize {
+        self.left + self.width
+    }
+
+    fn bottom(&self) -> usize {
+        self.top + self.height
+    }
+
+    /// Whether a cell has room for a letter.
+    fn has_letters(&self) -> bool {
+        self.cell >= 16
+    }
+
+    /// The upper left corner of a page's cell.
+    fn corner(&self, page: usize) -> (usize, usize) {
+        (self.left + page % self.side * self.cell, self.top + page / self.side * self.cell)
+    }
+}
+
+/// A picture of the volume: its cells, their numbers along the edges, and a legend beside them.
+pub fn svg(volume: &Volume, holders: &[Holder]) -> String {
+    let plan = Plan::of(holders.len());
+    let legend = Legend::of(volume, holders);
+    let letters = Letters::of(&legend.rows);
+    let key = key::Key::of(&plan, &legend, &letters);
+    let numbers = numbers(volume, holders);
+    let (width, height) = (key.right() + MARGIN, plan.bottom().max(key.bottom()) + MARGIN);
+    let mut picture = opened(width, height, &format!("{}: {numbers}", volume.name));
+    picture.push_str(&head(&volume.name, &numbers));
+    picture.push_str(&shares(&legend.rows, holders.len(), key.right() - MARGIN));
+    picture.push_str(&group("numbers", &cells::numbers(&plan, holders.len())));
+    picture.push_str(&group("cells", &cells::cells(&plan, volume, holders, &letters)));
+    picture.push_str(&group("legend", &key.drawn()));
+    picture.push_str("</svg>\n");
+    picture
+}
+
+/// The picture's opening, its title and its paper.
+fn opened(width: usize, height: usize, title: &str) -> String {
+    let size = format!("width=\"{width}\" height=\"{height}\" viewBox=\"0 0 {width} {height}\"");
+    let title = escaped(title);
+    let opening =
+        format!("<svg xmlns=\"http://www.w3.org/2000/svg\" {size} role=\"img\" font-family=\"{FONT}\">\n<title>{title}</title>\n");
+    opening + &rect("paper", [0.0, 0.0, width as f64, height as f64], "#ffffff", "")
+}
+
+/// The volume's name, and its numbers below it.
+fn head(name: &str, numbers: &str) -> String {
+    let large = Text {
+        size: 26,
+        bold: true,
+        ..Text::default()
+    };
+    let below = Text {
+        size: 14,
+        fill: "#4d5563",
+        ..Text::default()
+    };
+    label(MARGIN, MARGIN + 20, &large, name) + &label(MARGIN, MARGIN + 44, &below, numbers)
+}
+
+/// A bar with each group's share of the pages, the free ones last.
+fn shares(rows: &[Row], pages: usize, width: usize) -> String {
+    let (free, held): (Vec<&Row>, Vec<&Row>) = rows.iter().partition(|row| row.group == Group::Free);
+    let mut bar = String::new();
+    let mut before = 0;
+    for row in held.into_iter().chain(free).filter(|row| row.pages > 0) {
+        let at = |count: u32| MARGIN as f64 + width as f64 * f64::from(count) / pages.max(1) as f64;
+        let (from, to) = (at(before), at(before + row.pages));
+        let tip = format!("{}: {} of {pages} pages", row.name, row.pages);
+        bar.push_str(&rect(
+            "share",
+            [from, (MARGIN + 56) as f64, to - from, 12.0],
+            &row.group.colour().hex(),
+            &tip,
+        ));
+        before += row.pages;
+    }
+    bar
+}

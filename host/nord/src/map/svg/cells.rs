@@ -1,0 +1,93 @@
+//! The cells and the page numbers along their edges.
+
+use super::mark::{dot, label, rect, ring, Text};
+use super::Plan;
+use crate::map::legend::{colour, Group, Part};
+use crate::map::letters::Letters;
+use crate::volume::{Holder, Volume};
+
+/// A cell for each page. Pages of one file that follow one another lie close together, others apart; the first of them has the letter.
+pub fn cells(plan: &Plan, volume: &Volume, holders: &[Holder], letters: &Letters) -> String {
+    let mut cells = String::new();
+    let mut lettered = false;
+    for (page, holder) in holders.iter().enumerate() {
+        let next = holders.get(page + 1).filter(|_| (page + 1) % plan.side != 0);
+        let close = next.is_some_and(|next| together(holder, next));
+        let tip = format!("page {page}: {}", volume.words(holder));
+        cells.push_str(&rect("page", place(plan, page, close), &colour(holder).hex(), &tip));
+        match Part::of(holder.kind) {
+            Part::Page if lettered => {}
+            Part::Page => cells.push_str(&letter(plan, page, Group::of(holder), letters)),
+            part => cells.push_str(&mark(plan, page, part)),
+        }
+        lettered = close && (lettered || Part::of(holder.kind) == Part::Page);
+    }
+    cells
+}
+
+/// Whether two pages are of one file, or both free.
+fn together(one: &Holder, two: &Holder) -> bool {
+    Group::of(one) == Group::of(two) && one.file == two.file
+}
+
+/// Where a page's cell lies: x, y, width, height. The gap is on its right and below it.
+fn place(plan: &Plan, page: usize, close: bool) -> [f64; 4] {
+    let (x, y) = plan.corner(page);
+    let (narrow, wide) = if plan.cell >= 12 { (1.0, 3.0) } else { (0.5, 1.5) };
+    let gap = if close { narrow } else { wide };
+    [x as f64, y as f64, plan.cell as f64 - gap, plan.cell as f64 - wide]
+}
+
+/// The mark of an index or subindex block.
+fn mark(plan: &Plan, page: usize, part: Part) -> String {
+    let [x, y, _, height] = place(plan, page, false);
+    let (cell, half) = (plan.cell as f64, height / 2.0);
+    match part {
+        Part::Page => String::new(),
+        Part::Index => dot(x + half, y + half, cell),
+        Part::Subindex => ring(x + half, y + half, cell),
+    }
+}
+
+/// A group's letter in a cell, where there is room for one.
+fn letter(plan: &Plan, page: usize, group: Group, letters: &Letters) -> String {
+    if !plan.has_letters() || group == Group::Free {
+        return String::new();
+    }
+    let size = plan.cell * 45 / 100;
+    let (x, y) = plan.corner(page);
+    let half = (plan.cell - 3) / 2;
+    let look = Text {
+        size,
+        bold: true,
+        fill: &group.colour().ink().hex(),
+        anchor: "middle",
+    };
+    label(x + half, y + half + size * 37 / 100, &look, &letters.capital(group))
+}
+
+/// Page numbers: of the rows at the left, and what is to be added for a column above.
+pub fn numbers(plan: &Plan, pages: usize) -> String {
+    let mut numbers = String::new();
+    let beside = Text {
+        size: 11,
+        fill: "#4d5563",
+        anchor: "end",
+        ..Text::default()
+    };
+    let above = Text {
+        anchor: "middle",
+        ..beside
+    };
+    // a number at every row, or at every second, fourth, ..., so that they do not touch
+    let rows = [1, 2, 4, 8].into_iter().find(|rows| rows * plan.cell >= 16).unwrap_or(16);
+    for row in (0..pages.div_ceil(plan.side)).step_by(rows) {
+        let y = plan.top + row * plan.cell + plan.cell / 2 + 3;
+        numbers.push_str(&label(plan.left - 8, y, &beside, &(row * plan.side).to_string()));
+    }
+    for column in (0..plan.side).step_by(plan.side / 8) {
+        let x = plan.left + column * plan.cell + plan.cell / 2 - 1;
+        numbers.push_str(&label(x, plan.top - 8, &above, &format!("+{column}")));
+    }
+    numbers
+}

@@ -1,0 +1,98 @@
+//! The map for a terminal: a character for each page.
+
+use super::layout::columns;
+use super::legend::{colour, grouped, numbers, Group, Legend, Part, Row};
+use super::letters::Letters;
+use crate::palette::Colour;
+use crate::volume::{Holder, Volume};
+
+/// The map in lines of at most `width` characters (eight pages to a row where that is too narrow), with a terminal's colours behind the
+/// characters if `colour`.
+pub fn text(volume: &Volume, holders: &[Holder], width: usize, colour: bool) -> String {
+    let legend = Legend::of(volume, holders);
+    let letters = Letters::of(&legend.rows);
+    let edge = holders.len().saturating_sub(1).to_string().len() + 2;
+    let columns = columns(holders.len(), width.saturating_sub(edge));
+    let mut lines = vec![format!("{}: {}", volume.name, numbers(volume, holders)), ruler(edge, columns)];
+    for (row, cells) in holders.chunks(columns).enumerate() {
+        let number = row * columns;
+        lines.push(format!("{number:>0$}  {1}", edge - 2, characters(&letters, cells, colour)));
+    }
+    lines.push(String::new());
+    lines.extend(key(&letters, &legend.rows, width, colour));
+    lines.extend(legend.others_in_words());
+    lines.push("capitals: master, bit file, index and subindex blocks".to_string());
+    if letters.come_again() {
+        lines.push("some letters stand for several users: their colours differ".to_string());
+    }
+    lines.iter().map(|line| format!("{}\n", line.trim_end())).collect()
+}
+
+/// The columns' numbers, to be added to a row's.
+fn ruler(edge: usize, columns: usize) -> String {
+    let ticks: String = (0..columns)
+        .step_by(8)
+        .map(|column| format!("{:<8}", format!("+{column}")))
+        .collect();
+    format!("{:edge$}{ticks}", "")
+}
+
+/// The characters of a row; codes stand only where the colour differs from the page's before.
+fn characters(letters: &Letters, cells: &[Holder], coloured: bool) -> String {
+    let mut row = String::new();
+    let mut before = None;
+    for holder in cells {
+        let group = Group::of(holder);
+        let behind = (coloured && group != Group::Free).then(|| colour(holder));
+        if behind != before {
+            row.push_str(&paint(behind));
+            before = behind;
+        }
+        row.push(letters.letter(group, Part::of(holder.kind)));
+    }
+    if before.is_some() {
+        row.push_str(&paint(None));
+    }
+    row
+}
+
+/// The code that sets a colour behind the characters and black or white for them, or takes it away: free pages have the terminal's own.
+fn paint(behind: Option<Colour>) -> String {
+    match behind {
+        Some(behind) => format!("\x1b[48;5;{};38;5;{}m", behind.terminal(), behind.ink().terminal()),
+        None => "\x1b[0m".to_string(),
+    }
+}
+
+/// The legend in as many columns as the width has place for.
+fn key(letters: &Letters, rows: &[Row], width: usize, coloured: bool) -> Vec<String> {
+    let items: Vec<String> = rows.iter().map(item).collect();
+    let longest = items.iter().map(String::len).max().unwrap_or(0);
+    let across = (width / (longest + 7)).max(1);
+    let down = items.len().div_ceil(across);
+    let line = |first: usize| {
+        let of_line = (first..items.len()).step_by(down);
+        of_line
+            .map(|at| format!(" {}  {:<longest$}   ", sign(letters, rows[at].group, coloured), items[at]))
+            .collect()
+    };
+    (0..down).map(line).collect()
+}
+
+/// "DOCK 24 of 60": a name, its pages, and what a user is given.
+fn item(row: &Row) -> String {
+    let given = row
+        .given
+        .map_or_else(String::new, |given| format!(" of {}", grouped(given as usize)));
+    format!("{:<16} {:>6}{given}", row.name, grouped(row.pages as usize))
+}
+
+/// A group's letter on its colour.
+fn sign(letters: &Letters, group: Group, coloured: bool) -> String {
+    let letter = letters.letter(group, Part::Page);
+    if coloured && group != Group::Free {
+        format!("{}{letter}{}", paint(Some(group.colour())), paint(None))
+    } else {
+        letter.to_string()
+    }
+}

@@ -1,0 +1,240 @@
+//! The maps: a cell for each page, counts that add up, XML that is well formed, rows of the right length.
+
+mod made;
+mod xml;
+
+use made::*;
+use nord::map::{svg, text};
+use nord::volume::{holders, read};
+use std::collections::HashSet;
+use std::sync::OnceLock;
+use xml::{elements, Element};
+
+fn picture(image: &[u16]) -> Vec<Element> {
+    elements(&svg(&read(image), &holders(image)))
+}
+
+fn lines(image: &[u16], width: usize, colour: bool) -> Vec<String> {
+    text(&read(image), &holders(image), width, colour)
+        .lines()
+        .map(str::to_string)
+        .collect()
+}
+
+/// Volumes of all sizes, made once.
+fn volumes() -> &'static [Vec<u16>] {
+    static VOLUMES: OnceLock<Vec<Vec<u16>>> = OnceLock::new();
+    VOLUMES.get_or_init(|| vec![volume("EMPTY", 8), yard16(), yard154(), many_users(), big_file(), full(), crowd()])
+}
+
+/// A number with its commas.
+fn number(text: &str) -> usize {
+    text.replace(',', "").parse().unwrap()
+}
+
+#[test]
+fn each_page_has_one_cell() {
+    for image in volumes() {
+        let (volume, held) = (read(image), holders(image));
+        let elements = picture(image);
+        let cells: Vec<&Element> = elements.iter().filter(|element| element.get("class") == "page").collect();
+        assert_eq!(cells.len(), held.len());
+        let places: HashSet<(&str, &str)> = cells.iter().map(|cell| (cell.get("x"), cell.get("y"))).collect();
+        assert_eq!(places.len(), held.len());
+        for (page, cell) in cells.iter().enumerate() {
+            assert_eq!(cell.title, format!("page {page}: {}", volume.words(&held[page])));
+        }
+    }
+}
+
+#[test]
+fn cells_lie_within_the_picture_and_not_over_one_another() {
+    for image in volumes() {
+        let elements = picture(image);
+        let size = |element: &Element, name: &str| element.get(name).parse::<f64>().unwrap();
+        let (width, height) = (size(&elements[0], "width"), size(&elements[0], "height"));
+        let mut end = (0.0, 0.0);
+        for cell in elements.iter().filter(|element| element.get("class") == "page") {
+            let (x, y) = (size(cell, "x"), size(cell, "y"));
+            assert!(y > end.1 || (x > end.0 && y + size(cell, "height") == end.1));
+            end = (x + size(cell, "width"), y + size(cell, "height"));
+            assert!(end.0 < width && end.1 < height);
+        }
+    }
+}
+
+#[test]
+fn pages_of_the_legend_are_the_volumes() {
+    for image in volumes() {
+        let elements = picture(image);
+        let counts = elements
+            .iter()
+            .filter(|element| element.within == "legend" && element.get("text-anchor") == "end");
+        assert_eq!(counts.map(|count| number(&count.text)).sum::<usize>() * proved::PAGE, image.len());
+        let shares = elements.iter().filter(|element| element.get("class") == "share");
+        let pages = shares.map(|share| share.title.split(": ").nth(1).unwrap().split(' ').next().unwrap().to_string());
+        assert_eq!(pages.map(|pages| number(&pages)).sum::<usize>() * proved::PAGE, image.len());
+    }
+}
+
+#[test]
+fn the_title_and_the_legend_say_who_and_how_much() {
+    let elements = picture(&yard154());
+    assert_eq!(elements[0].title, "YARD: 154 pages, 92 free, 62 reserved, 23 unreserved");
+    let legend: Vec<&str> = elements
+        .iter()
+        .filter(|element| element.within == "legend")
+        .map(|element| element.text.as_str())
+        .collect();
+    let at = legend.iter().position(|text| *text == "WEIGH-BRIDGE").unwrap();
+    assert_eq!(legend[at + 1..at + 3], ["5", "of 12 given"]);
+}
+
+#[test]
+fn tooltips_are_in_words() {
+    let picture = svg(&read(&yard154()), &holders(&yard154()));
+    for words in [
+        "page 0: master block",
+        "page 77: bit file",
+        "page 144: DOCK/LOG: data page 0",
+        "page 153: DOCK/LOG: data page 9",
+        "page 100: free",
+    ] {
+        assert!(picture.contains(&format!("<title>{words}</title>")), "{words}");
+    }
+}
+
+/// Marks are only those of index and subindex blocks, and the shade of a block is not its file's.
+#[test]
+fn blocks_are_marked() {
+    let image = big_file();
+    let elements = picture(&image);
+    let marks = elements
+        .iter()
+        .filter(|element| element.get("class") == "mark" && element.within == "cells")
+        .count();
+    assert_eq!(
+        marks,
+        holders(&image)
+            .iter()
+            .filter(|holder| [3, 5, 6, 8, 9].contains(&(holder.kind as u32)))
+            .count()
+    );
+    let fill = |words: &str| {
+        elements
+            .iter()
+            .find(|element| element.title.ends_with(words))
+            .unwrap()
+            .get("fill")
+            .to_string()
+    };
+    assert_ne!(fill("DOCK/LONG:DATA index block 0"), fill("DOCK/LONG:DATA data page 0"));
+    assert_eq!(fill("DOCK/LONG:DATA index block 1"), fill("DOCK/LONG:DATA subindex block"));
+    assert_eq!(fill("DOCK/RUN: data page 0"), fill("DOCK/LONG:DATA data page 519"));
+}
+
+/// Names that only an unsound image has do not break the picture either.
+#[test]
+fn a_picture_is_well_formed_whatever_the_names() {
+    let mut image = yard16();
+    image[1008..1011].copy_from_slice(&[0x3c26, 0x2201, 0x3e80]);
+    let elements = picture(&image);
+    assert!(elements[0].title.starts_with("<&\"?>?: 16 pages"));
+    for words in [0, 5, 1024, 3000] {
+        let image = vec![u16::MAX; words];
+        picture(&image);
+        lines(&image, 80, true);
+    }
+}
+
+/// The page rows of a text map: number, two blanks, a character a page.
+fn page_rows(lines: &[String]) -> Vec<(usize, String)> {
+    let rows = lines.iter().skip(2).take_while(|line| !line.is_empty());
+    rows.map(|line| {
+        line.trim_start()
+            .split_once("  ")
+            .map(|(at, cells)| (at.parse().unwrap(), cells.to_string()))
+            .unwrap()
+    })
+    .collect()
+}
+
+#[test]
+fn rows_of_text_have_a_character_for_each_page() {
+    for image in volumes() {
+        let pages = image.len() / proved::PAGE;
+        for width in [0, 12, 40, 80, 132, 400] {
+            let lines = lines(image, width, false);
+            let rows = page_rows(&lines);
+            let (last, whole) = rows.split_last().unwrap();
+            let columns = rows[0].1.len();
+            assert!(columns == 8 || lines[2].len() <= width);
+            assert!(whole.iter().all(|(_, cells)| cells.len() == columns) && last.1.len() <= columns);
+            assert!(rows.iter().enumerate().all(|(row, (at, _))| *at == row * columns));
+            assert_eq!(last.0 + last.1.len(), pages);
+        }
+    }
+}
+
+#[test]
+fn characters_are_the_holders() {
+    let rows = page_rows(&lines(&yard154(), 80, false));
+    let cells: String = rows.into_iter().map(|(_, cells)| cells).collect();
+    assert!(cells.starts_with("MUuOodDdddddddddddocCccogGgc"));
+    assert_eq!((&cells[77..78], &cells[138..]), ("B", "ggggggdddddddddd"));
+    assert_eq!(cells.matches('.').count(), 92);
+}
+
+#[test]
+fn the_texts_legend_adds_up() {
+    for image in volumes() {
+        let lines = lines(image, 20, false);
+        let legend = lines
+            .iter()
+            .skip_while(|line| !line.is_empty())
+            .filter(|line| line.starts_with(' '));
+        let pages = legend.map(|line| number(line[4..].split(" of ").next().unwrap().split_whitespace().last().unwrap()));
+        assert_eq!(pages.sum::<usize>() * proved::PAGE, image.len());
+    }
+}
+
+#[test]
+fn colour_codes_only_where_they_are_asked_for() {
+    for image in volumes() {
+        let plain = lines(image, 100, false);
+        assert!(plain.iter().all(|line| !line.contains('\x1b')));
+        let coloured = lines(image, 100, true);
+        assert!(coloured.iter().any(|line| line.contains("\x1b[48;5;")));
+        assert_eq!(coloured.iter().map(|line| without_codes(line)).collect::<Vec<String>>(), plain);
+        assert!(coloured
+            .iter()
+            .all(|line| !line.contains('\x1b') || line.rfind("\x1b[0m") == line.rfind('\x1b')));
+    }
+}
+
+/// A line with its colour codes taken out.
+fn without_codes(line: &str) -> String {
+    let mut parts = line.split('\x1b');
+    let first = parts.next().unwrap_or("").to_string();
+    first + &parts.map(|part| part.split_once('m').unwrap().1).collect::<String>()
+}
+
+/// Writes pictures and texts to look at: cargo test --offline -p nord --test map -- --ignored
+#[test]
+#[ignore]
+fn pictures_to_look_at() {
+    let folder = std::path::Path::new(env!("CARGO_TARGET_TMPDIR"));
+    let small = [
+        ("8", volume("EMPTY", 8)),
+        ("16", yard16()),
+        ("154", yard154()),
+        ("300", many_users()),
+        ("600", big_file()),
+    ];
+    for (name, image) in small.into_iter().chain([("full", full()), ("crowd", crowd())]) {
+        let (volume, held) = (read(&image), holders(&image));
+        std::fs::write(folder.join(format!("{name}.svg")), svg(&volume, &held)).unwrap();
+        std::fs::write(folder.join(format!("{name}.txt")), text(&volume, &held, 100, false)).unwrap();
+        std::fs::write(folder.join(format!("{name}.ansi")), text(&volume, &held, 100, true)).unwrap();
+    }
+}
