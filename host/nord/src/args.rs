@@ -104,7 +104,7 @@ pub enum Command {
         #[arg(long)]
         contiguous: bool,
         /// The number that a new file gets as its time of creation
-        #[arg(long, value_name = "NUMBER", default_value = "0", value_parser = number)]
+        #[arg(long, value_name = "NUMBER", default_value_t = 0)]
         created: u32,
     },
     /// Find the index of a user or a file by name
@@ -224,7 +224,7 @@ pub enum File {
         #[arg(long, value_name = "COUNT", value_parser = number)]
         contiguous: Option<u32>,
         /// The number that the file gets as its time of creation
-        #[arg(long, value_name = "NUMBER", default_value = "0", value_parser = number)]
+        #[arg(long, value_name = "NUMBER", default_value_t = 0)]
         created: u32,
     },
     /// Grow an indexed file by pages of zeros, all or none

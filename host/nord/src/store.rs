@@ -75,6 +75,7 @@ fn contents(mut file: &File, path: &Path) -> Result<Vec<u8>, Failure> {
     if length % 2 != 0 || length > (LARGEST * PAGE) as u64 {
         return Err(Refusal::length(length).into());
     }
+    pause::at("reading");
     let mut bytes = Vec::with_capacity(length as usize);
     file.rewind()
         .and_then(|()| file.take(length + 1).read_to_end(&mut bytes))

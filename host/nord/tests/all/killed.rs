@@ -2,7 +2,6 @@
 
 use crate::common::{disk, done, noise, words, Folder, NORD};
 use std::os::unix::process::ExitStatusExt;
-use std::path::Path;
 use std::process::{Child, Command, Stdio};
 use std::time::{Duration, Instant};
 
@@ -139,101 +138,101 @@ fn other_changes_killed_at_many_moments() {
     }
 }
 
-/// Starts a run that pauses at a stage, waits until it is there, and kills it.
+/// Runs that are killed exactly between two steps.
 #[cfg(debug_assertions)]
-fn kill_at_stage(case: &Case, stage: &str) {
-    let mut child = case.start(Some(stage));
-    let mut said = String::new();
-    std::io::BufRead::read_line(&mut std::io::BufReader::new(child.stderr.take().unwrap()), &mut said).unwrap();
-    assert_eq!(said, format!("paused at {stage}\n"));
-    child.kill().unwrap();
-    assert_eq!(child.wait().unwrap().signal(), Some(9));
-}
+mod staged {
+    use super::*;
 
-/// The stages of a replacement, and whether the image is the new one by then.
-#[cfg(debug_assertions)]
-const STAGES: [(&str, bool); 6] = [
-    ("locked", false),
-    ("read", false),
-    ("half", false),
-    ("written", false),
-    ("synced", false),
-    ("placed", true),
-];
+    /// Starts a run that pauses at a stage, waits until it is there, and kills it.
+    fn kill_at_stage(case: &Case, stage: &str) {
+        let mut child = case.start(Some(stage));
+        let mut said = String::new();
+        std::io::BufRead::read_line(&mut std::io::BufReader::new(child.stderr.take().unwrap()), &mut said).unwrap();
+        assert_eq!(said, format!("paused at {stage}\n"));
+        child.kill().unwrap();
+        assert_eq!(child.wait().unwrap().signal(), Some(9));
+    }
 
-#[cfg(debug_assertions)]
-#[test]
-fn killed_at_each_stage_of_a_replacement() {
-    let lines = [
-        "user add IMAGE BERTH",
-        "file create IMAGE DOCK/NEW --contiguous 9",
-        "format IMAGE BERTH",
+    /// The stages of a replacement, and whether the image is the new one by then.
+    const STAGES: [(&str, bool); 6] = [
+        ("locked", false),
+        ("read", false),
+        ("half", false),
+        ("written", false),
+        ("synced", false),
+        ("placed", true),
     ];
-    for case in lines.map(other_change).iter().chain([&large_write()]) {
-        for (stage, new) in STAGES {
-            kill_at_stage(case, stage);
-            assert_eq!(case.is_new(stage), new, "{} killed when {stage}", case.line);
-            case.next_run_is_done();
+
+    #[test]
+    fn killed_at_each_stage_of_a_replacement() {
+        let lines = [
+            "user add IMAGE BERTH",
+            "file create IMAGE DOCK/NEW --contiguous 9",
+            "format IMAGE BERTH",
+        ];
+        for case in lines.map(other_change).iter().chain([&large_write()]) {
+            for (stage, new) in STAGES {
+                kill_at_stage(case, stage);
+                assert_eq!(case.is_new(stage), new, "{} killed when {stage}", case.line);
+                case.next_run_is_done();
+            }
         }
     }
-}
 
-#[cfg(debug_assertions)]
-#[test]
-fn many_leftovers_are_swept() {
-    let case = other_change("user add IMAGE BERTH");
-    for name in [".disk.img.nord-1", ".disk.img.nord-99999999"] {
-        case.folder.put(name, b"left by a run of long ago");
-    }
-    let others = [".disk.img.nord-", ".disk.img.nord-1x", ".other.img.nord-1"];
-    for name in others {
-        case.folder.put(name, b"not ours");
-    }
-    kill_at_stage(&case, "half");
-    done(&case.folder.path("disk.img"), &case.line);
-    let mut left = case.folder.names();
-    left.retain(|name| name.contains("nord-"));
-    assert_eq!(left, others);
-}
-
-/// A new image is not there, or is there whole.
-#[cfg(debug_assertions)]
-#[test]
-fn a_new_image_killed_at_each_stage() {
-    for (stage, there) in [("half", false), ("written", false), ("synced", false), ("placed", true)] {
-        let folder = Folder::new();
-        let image = folder.path("disk.img");
-        let line = "format IMAGE YARD --pages 200".to_string();
-        let case = Case {
-            folder,
-            line,
-            old: Vec::new(),
-            new: Vec::new(),
-        };
-        kill_at_stage(&case, stage);
-        assert_eq!(image.exists(), there, "{stage}");
-        if !there {
-            done(&image, &case.line);
+    #[test]
+    fn many_leftovers_are_swept() {
+        let case = other_change("user add IMAGE BERTH");
+        for name in [".disk.img.nord-1", ".disk.img.nord-99999999"] {
+            case.folder.put(name, b"left by a run of long ago");
         }
-        assert_eq!(done(&image, "check IMAGE"), "sound: 2 of 200 pages are held\n");
-        done(&image, "user add IMAGE DOCK");
-        assert_eq!(case.folder.names(), ["disk.img"], "{stage}");
+        let others = [".disk.img.nord-", ".disk.img.nord-1x", ".other.img.nord-1"];
+        for name in others {
+            case.folder.put(name, b"not ours");
+        }
+        kill_at_stage(&case, "half");
+        done(&case.folder.path("disk.img"), &case.line);
+        let mut left = case.folder.names();
+        left.retain(|name| name.contains("nord-"));
+        assert_eq!(left, others);
     }
-}
 
-/// What is read into a host's file is the old file or the whole new one.
-#[cfg(debug_assertions)]
-#[test]
-fn a_read_killed_at_each_stage() {
-    let case = other_change("user add IMAGE BERTH");
-    let out = case.folder.put("out.bin", b"old");
-    let line = format!("read IMAGE DOCK/READS:DATA {}", out.display());
-    let case = Case { line, ..case };
-    for (stage, new) in [("half", false), ("written", false), ("synced", false), ("placed", true)] {
-        kill_at_stage(&case, stage);
-        assert_eq!(std::fs::read(&out).unwrap() == noise(3, 600 * 2048), new, "{stage}");
-        assert_eq!(std::fs::read(&out).unwrap() == b"old", !new, "{stage}");
+    /// A new image is not there, or is there whole.
+    #[test]
+    fn a_new_image_killed_at_each_stage() {
+        for (stage, there) in [("half", false), ("written", false), ("synced", false), ("placed", true)] {
+            let folder = Folder::new();
+            let image = folder.path("disk.img");
+            let line = "format IMAGE YARD --pages 200".to_string();
+            let case = Case {
+                folder,
+                line,
+                old: Vec::new(),
+                new: Vec::new(),
+            };
+            kill_at_stage(&case, stage);
+            assert_eq!(image.exists(), there, "{stage}");
+            if !there {
+                done(&image, &case.line);
+            }
+            assert_eq!(done(&image, "check IMAGE"), "sound: 2 of 200 pages are held\n");
+            done(&image, "user add IMAGE DOCK");
+            assert_eq!(case.folder.names(), ["disk.img"], "{stage}");
+        }
     }
-    done(Path::new(&case.folder.path("disk.img")), &case.line);
-    assert_eq!(case.folder.names(), ["bytes.bin", "disk.img", "out.bin"]);
+
+    /// What is read into a host's file is the old file or the whole new one.
+    #[test]
+    fn a_read_killed_at_each_stage() {
+        let case = other_change("user add IMAGE BERTH");
+        let out = case.folder.put("out.bin", b"old");
+        let line = format!("read IMAGE DOCK/READS:DATA {}", out.display());
+        let case = Case { line, ..case };
+        for (stage, new) in [("half", false), ("written", false), ("synced", false), ("placed", true)] {
+            kill_at_stage(&case, stage);
+            assert_eq!(std::fs::read(&out).unwrap() == noise(3, 600 * 2048), new, "{stage}");
+            assert_eq!(std::fs::read(&out).unwrap() == b"old", !new, "{stage}");
+        }
+        done(&case.folder.path("disk.img"), &case.line);
+        assert_eq!(case.folder.names(), ["bytes.bin", "disk.img", "out.bin"]);
+    }
 }

@@ -5,6 +5,7 @@ mod common;
 mod help;
 mod host;
 mod killed;
+mod listing;
 mod names;
 mod readme;
 mod refusals;

@@ -209,6 +209,7 @@ fn a_wrong_use_is_64_so_that_2_is_always_a_refusal() {
         "who IMAGE five",
         "read IMAGE DOCK",
         "user give IMAGE DOCK/READS 5",
+        "file create IMAGE DOCK/A --created 4294967296",
         "find IMAGE @0",
     ] {
         assert_eq!(run(&image, line).status, 64, "{line}");

@@ -158,6 +158,24 @@ mod paused {
         assert_eq!(folder.names(), ["disk.img"]);
     }
 
+    #[test]
+    fn an_image_that_changes_its_length_while_it_is_read() {
+        for length in [0, 100, 20 * 2048, 200 * 2048] {
+            for line in ["check IMAGE", "user add IMAGE FIRST"] {
+                let (_folder, image) = disk(154, 50);
+                let paused = Paused::start(&image, line, "reading");
+                std::fs::File::options().write(true).open(&image).unwrap().set_len(length).unwrap();
+                let (status, said) = paused.end();
+                assert_eq!(status, 75, "{said}");
+                assert!(
+                    said.ends_with("disk.img: another program has changed it while it was read\n"),
+                    "{said}"
+                );
+                assert_eq!(std::fs::metadata(&image).unwrap().len(), length);
+            }
+        }
+    }
+
     /// A program that knows nothing of the lock changes the image while a command is at work.
     fn meanwhile(change: impl Fn(&Path), stage: &str) -> (i32, String) {
         let (folder, image) = disk(154, 50);
