@@ -22,7 +22,7 @@ pub enum Failure {
     Host(String),
     /// Locked or changed by somebody else.
     Busy(String),
-    /// Nobody reads the output any more.
+    /// Nobody reads the bytes of a file any more.
     Unread,
 }
 
@@ -64,7 +64,7 @@ pub fn of_file(path: &Path) -> impl Fn(io::Error) -> Failure + '_ {
     move |error| Failure::Host(format!("{}: {error}", path.display()))
 }
 
-/// An error while answering.
+/// An error while the bytes of a file go to standard output.
 pub fn standard_output(error: io::Error) -> Failure {
     match error.kind() {
         io::ErrorKind::BrokenPipe => Failure::Unread,

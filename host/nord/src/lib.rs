@@ -20,7 +20,7 @@ pub mod volume;
 pub mod volume_json;
 
 use clap::Parser;
-use std::io::Write;
+use std::io::{ErrorKind, Write};
 use std::process::ExitCode;
 
 /// Runs the command of the process's arguments and gives its exit status.
@@ -43,11 +43,15 @@ fn usage(error: clap::Error) -> ExitCode {
     ExitCode::from(if error.use_stderr() { failure::USAGE } else { 0 })
 }
 
+/// Prints the answer. The work is done by then: who no longer reads does not make it fail, and another error says that it is done.
 fn print(text: &str) -> Result<(), failure::Failure> {
     let mut out = std::io::stdout().lock();
-    out.write_all(text.as_bytes())
-        .and_then(|()| out.flush())
-        .map_err(failure::standard_output)
+    match out.write_all(text.as_bytes()).and_then(|()| out.flush()) {
+        Err(error) if error.kind() != ErrorKind::BrokenPipe => Err(failure::Failure::Host(format!(
+            "done, but the answer could not be printed: {error}"
+        ))),
+        _ => Ok(()),
+    }
 }
 
 /// Says what went wrong on standard error and, with `--json`, as an object on standard output too.

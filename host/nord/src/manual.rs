@@ -173,7 +173,7 @@ There is no run for a contiguous file.
 The command was not used as its help says.
 .TP
 74
-Input or output failed: a file is not there or not readable, a disk is full.
+Input or output failed: a file is not there or not readable, a disk is full. The image is as it was, unless the words say that the work is done.
 .TP
 75
 Another writer has the image, or another program has changed it meanwhile.

@@ -1,6 +1,6 @@
 //! What the host can do to us: full disks, files that may not be read or written, folders that may not be changed, links, odd files.
 
-use crate::common::{done, fails, run, sample, words, Folder, Run, NORD};
+use crate::common::{done, fails, run, sample, words as words_of, Folder, Run, NORD};
 use std::fs::{self, Permissions};
 use std::os::unix::fs::{symlink, MetadataExt, PermissionsExt};
 use std::os::unix::process::CommandExt;
@@ -26,7 +26,7 @@ fn run_as_nobody(folder: &Folder, image: &Path, line: &str) -> Run {
     if is_root() {
         command.uid(65534).gid(65534);
     }
-    Run::of(command.args(words(image, line)).stdin(Stdio::null()).output().unwrap())
+    Run::of(command.args(words_of(image, line)).stdin(Stdio::null()).output().unwrap())
 }
 
 #[test]
@@ -79,28 +79,39 @@ fn a_full_disk_is_a_clear_error() {
 #[test]
 fn an_answer_that_cannot_be_printed_is_an_error() {
     let (_folder, image) = sample();
-    let full = fs::File::options().write(true).open("/dev/full").unwrap();
-    let output = Command::new(NORD)
-        .args(words(&image, "list IMAGE"))
-        .stdout(full)
-        .stderr(Stdio::piped())
-        .spawn()
-        .unwrap();
-    let run = Run::of(output.wait_with_output().unwrap());
-    assert_eq!(
-        (run.status, run.err.contains("standard output: No space left")),
-        (74, true),
-        "{}",
-        run.err
-    );
-    let script = format!("{NORD} read {} DOCK/CRANE:PLAN | true; echo ${{PIPESTATUS[0]}}", image.display());
-    let run = Run::of(Command::new("bash").args(["-c", &script]).output().unwrap());
-    assert!(
-        ["74\n", "0\n"].contains(&run.text()) && run.err.is_empty(),
-        "{}{}",
-        run.text(),
-        run.err
-    );
+    for (line, words) in [
+        ("list IMAGE", "nord: done, but the answer could not be printed: No space left"),
+        (
+            "user add IMAGE CRANE",
+            "nord: done, but the answer could not be printed: No space left",
+        ),
+        ("read IMAGE DOCK/CRANE:PLAN", "nord: standard output: No space left"),
+    ] {
+        let full = fs::File::options().write(true).open("/dev/full").unwrap();
+        let child = Command::new(NORD)
+            .args(words_of(&image, line))
+            .stdout(full)
+            .stderr(Stdio::piped())
+            .spawn()
+            .unwrap();
+        let run = Run::of(child.wait_with_output().unwrap());
+        assert_eq!((run.status, run.err.starts_with(words)), (74, true), "{line}: {}", run.err);
+    }
+    assert!(done(&image, "list IMAGE").contains("CRANE"));
+}
+
+#[test]
+fn a_reader_that_goes_away_is_no_error_but_for_a_file_in_parts() {
+    let (_folder, image) = sample();
+    let statuses = |line: &str| {
+        let command = words_of(&image, line).join(" ");
+        let script = format!("(sleep 0.3; {NORD} {command}; echo $? >&2) | true");
+        Run::of(Command::new("bash").args(["-c", &script]).output().unwrap()).err
+    };
+    assert_eq!(statuses("list IMAGE"), "0\n");
+    assert_eq!(statuses("user add IMAGE CRANE"), "0\n");
+    assert_eq!(statuses("read IMAGE DOCK/CRANE:PLAN"), "74\n");
+    assert!(done(&image, "list IMAGE").contains("CRANE"));
 }
 
 #[test]
