@@ -85,7 +85,8 @@ impl Drop for Fresh {
 /// Removes what killed runs have left beside the target. A file in the making is locked, and stays.
 pub fn sweep(target: &Path) {
     let Ok(entries) = fs::read_dir(folder(target)) else { return };
-    for path in entries.flatten().map(|entry| entry.path()).filter(|path| is_leftover(path, target)) {
+    let files = entries.flatten().filter(|entry| entry.file_type().is_ok_and(|kind| kind.is_file()));
+    for path in files.map(|entry| entry.path()).filter(|path| is_leftover(path, target)) {
         let Ok(file) = File::open(&path) else { continue };
         // A run killed after it has put a new file in place leaves a second name of that file.
         let second_name = crate::lock::is_at(&file, target).unwrap_or(false);

@@ -84,7 +84,7 @@ pub fn write(at: &Change, file: &FileName, input: &Path, creation: Creation) -> 
     let data = load(input)?;
     let count = (data.len() / proved::PAGE) as u32;
     let mut created = false;
-    store::change(&at.image, at.wait, |image| {
+    let (user, index) = store::change(&at.image, at.wait, |image| {
         let place = match file.indexes(image) {
             Err(refusal) if refusal.number == 4 => {
                 created = true;
@@ -93,13 +93,12 @@ pub fn write(at: &Change, file: &FileName, input: &Path, creation: Creation) -> 
             found => found?,
         };
         fit(image, file, place, count, creation.contiguous)?;
-        fill(image, file, place, &data)
+        fill(image, file, place, &data)?;
+        Ok(place)
     })?;
     let words = if created { "created" } else { "replaced" };
-    Ok(Answer::new(
-        format!("{file} {words}: {}", answers::pages(count)),
-        json!({ "pages": count, "created": created }),
-    ))
+    let json = json!({ "user": user, "file": index, "pages": count, "created": created });
+    Ok(Answer::new(format!("{file} {words}: {}", answers::pages(count)), json))
 }
 
 /// The input's words, filled with zeros to whole pages. Of an input larger than any image no more is read than shows that.

@@ -162,7 +162,7 @@ fn what_is_read_written_and_made_has_json() {
                 &read,
                 json!({ "number": 0, "pages": 3, "bytes": 6144, "output": out.to_str().unwrap() }),
             ),
-            (&write, json!({ "number": 0, "pages": 2, "created": false })),
+            (&write, json!({ "number": 0, "user": 0, "file": 0, "pages": 2, "created": false })),
         ],
     );
     answers(
