@@ -1,12 +1,13 @@
 -- Rules 4 and 6, by the parts that the code judges. Assumes nothing.
-use mathlib.Core.Path.{_≡_, refl, sym, ap, subst, fun-ext}
+use mathlib.Core.Path.{_≡_, refl, sym, ap, _∙_, subst, fun-ext}
 use mathlib.Core.Bool.{Bool}
+use mathlib.Core.List.{List}
 use Prim.Native.Nat.{ℕ, _+_, _-_, _*_, _/_, _%_, _≤_, _<_}
 use native.Mathlib.Decide.{decLt, ℕ-discrete}
 use native.Mathlib.Omega.{arith}
-use Rattle.book.specs.Words.{Vol}
+use Rattle.book.specs.Words.{Vol, vol}
 use Rattle.book.specs.Pointers.{flags, page}
-use Rattle.book.specs.Trees.{Root, rootBy, pageAt}
+use Rattle.book.specs.Trees.{Root, rootBy}
 use Rattle.book.specs.Entries.{Table, entry, user, object, userFile, objectFile, used, fileEntry}
 use Rattle.book.specs.Names.{Same, SameFile, LegalName, LegalType}
 use Rattle.book.specs.Rules.{Rule4, Rule6, FileOk}
@@ -14,10 +15,11 @@ use Rattle.book.specs.Decides.{Decides}
 use Rattle.page.proofs.Deciding.{decides-iff}
 use Rattle.laws.specs.Names.{Same-sym}
 use Rattle.laws.specs.Moved.{SameFile-ten, ten-SameFile}
+use Rattle.tree.specs.Ends.{Ends}
 use Rattle.tree.proofs.Reach.{root-read}
+use Rattle.tree.proofs.Absent.{ends-unused}
 use Rattle.heads.specs.Span.{Span, span-join, span-part}
-use Rattle.heads.specs.Fine.{UserFine, FileFine, Owners}
-use Rattle.heads.proofs.Pages.{entry-in, absent-unused}
+use Rattle.heads.specs.Fine.{UserFine, FileFine}
 use Rattle.heads.specs.Twins.{Apart, FilesApart}
 
 -- ---- the entries of the user file and of the object file, by flags and page of their pointers
@@ -106,28 +108,32 @@ module _ (U O : Table) where
 pub file-by : (U O : Table) (e : ℕ) (b : Bool) → 0 < used (O e) → 0 < used (U (e / 256)) → O e 16 ≡ e / 256 → O e 17 ≡ e → LegalName (O e) 1 → Decides b (LegalType (O e) 9) → Decides b (FileFine U O e)
 file-by U O e b h o w n l = decides-iff b _ _ (λ t u. record { owner = o; whose = w; number = n; name = l; type = t }) (λ f. f h .type)
 
--- ---- by the pages that the object file has: objects of users from m on are unused
+-- ---- by the pages that the object file has, up to its end: later objects are unused
 
-module _ (v : Vol) (x t m : ℕ) (o : Owners x m) where
+-- x and t are the flags and the page of the object pointer
+module _ (img : List ℕ) (x t n : ℕ) (d : Ends img n) (a : x ≡ flags (vol img 0) 1016) (c : t ≡ page (vol img 0) 1016) where
+  abbrev v : Vol
+  v = vol img
+
   abbrev O : Table
   O = entry v (rootBy x t 0)
 
-  past-unused : (e : ℕ) → 256 * m ≤ e → e < 65536 → used (O e) ≡ 0
-  past-unused e h l = absent-unused v (pageAt v (rootBy x t 0) (e / 32)) e _ (entry-in v (rootBy x t 0) _ e refl) (o .past v t (e / 32) (omega arith) (omega arith))
+  past-unused : (e : ℕ) → 32 * n ≤ e → e < 65536 → used (O e) ≡ 0
+  past-unused e h l = ap (λ (E : Table). used (E e)) (objects-root v x t a c) ∙ ends-unused img n d e h l
 
-  files-all : (U : Table) → Span (FileFine U O) 0 (256 * m) → Span (FileFine U O) 0 65536
+  files-all : Span (FileFine (user v) O) 0 (32 * n) → Span (FileFine (user v) O) 0 65536
   unfolding Span
-  files-all U s = span-join _ 0 (256 * m) 65536 s (λ e h l u. absurd (let r : ⊥ = omega (arith, past-unused e h l) in r))
+  files-all s = span-join _ 0 (32 * n) 65536 s (λ e h l u. absurd (let r : ⊥ = omega (arith, past-unused e h l) in r))
 
-  apart-all : (b : Bool) → Decides b (Span (FilesApart O) 0 m) → Decides b (Span (FilesApart O) 0 256)
-  unfolding Span
-  apart-all b = decides-iff b _ _ (λ s. span-join _ 0 m 256 s (λ u h l y i j z k c w. absurd (let r : ⊥ = omega (arith, w .second, past-unused y (omega arith) (omega arith)) in r)))
-      (span-part _ 0 0 m 256 (omega arith) (o .most))
+  pub rule6-wrong : (Span (FileFine (user v) O) 0 (32 * n) → ⊥) → Rule6 (user v) (object v) → ⊥
+  rule6-wrong f r = f (span-part _ 0 0 (32 * n) 65536 (omega arith) (omega (arith, d .most)) (rule6-files (user v) O (subst (λ (E : Table). Rule6 (user v) E) (sym (objects-root v x t a c)) r)))
 
-  -- as the code judges, where x and t are the flags and the page of the object pointer
-  module _ (a : x ≡ flags (v 0) 1016) (c : t ≡ page (v 0) 1016) where
-    pub rule6-wrong : (Span (FileFine (user v) O) 0 (256 * m) → ⊥) → Rule6 (user v) (object v) → ⊥
-    rule6-wrong f r = f (span-part _ 0 0 (256 * m) 65536 (omega arith) (omega (arith, o .most)) (rule6-files (user v) O (subst (λ (E : Table). Rule6 (user v) E) (sym (objects-root v x t a c)) r)))
+  -- m users have objects on these pages
+  module _ (m : ℕ) (most : m ≤ 256) (room : n ≤ 8 * m) where
+    apart-all : (b : Bool) → Decides b (Span (FilesApart O) 0 m) → Decides b (Span (FilesApart O) 0 256)
+    unfolding Span
+    apart-all b = decides-iff b _ _ (λ s. span-join _ 0 m 256 s (λ u h l y i j z k q w. absurd (let r : ⊥ = omega (arith, w .second, past-unused y (omega arith) (omega arith)) in r)))
+        (span-part _ 0 0 m 256 (omega arith) most)
 
-    pub rule6-right : (b : Bool) → Span (FileFine (user v) O) 0 (256 * m) → Decides b (Span (FilesApart O) 0 m) → Decides b (Rule6 (user v) (object v))
-    rule6-right b s d = subst (λ (E : Table). Decides b (Rule6 (user v) E)) (objects-root v x t a c) (rule6-by (user v) O b (files-all (user v) s) (apart-all b d))
+    pub rule6-right : (b : Bool) → Span (FileFine (user v) O) 0 (32 * n) → Decides b (Span (FilesApart O) 0 m) → Decides b (Rule6 (user v) (object v))
+    rule6-right b s e = subst (λ (E : Table). Decides b (Rule6 (user v) E)) (objects-root v x t a c) (rule6-by (user v) O b (files-all s) (apart-all b e))

@@ -1,8 +1,6 @@
 -- What rules 4 and 6 ask of one entry. Assumes nothing.
 use mathlib.Core.Path.{_≡_}
-use Prim.Native.Nat.{ℕ, _*_, _/_, _≤_, _<_}
-use Rattle.book.specs.Words.{Vol}
-use Rattle.book.specs.Trees.{rootBy, pageAt}
+use Prim.Native.Nat.{ℕ, _/_, _<_}
 use Rattle.book.specs.Entries.{Table, used}
 use Rattle.book.specs.Rules.{UserOk, FileOk}
 
@@ -17,8 +15,3 @@ FileFine U O e = 0 < used (O e) → FileOk U O (e / 256) e
 -- entry x is unused
 abbrev pub Unused : Table → ℕ → Type 0
 Unused U x = used (U x) ≡ 0
-
--- an object file with flags x has no page for a user from m on: 8 pages a user
-pub record Owners (x m : ℕ) : Type 0 where
-  pub most : m ≤ 256
-  pub past : (v : Vol) (t n : ℕ) → 8 * m ≤ n → n < 2048 → pageAt v (rootBy x t 0) n ≡ 0

@@ -20,10 +20,11 @@ ghost use Rattle.book.specs.Entries.{userFile, user, object, entry, used};
 ghost use Rattle.book.specs.Image.{pages, Whole};
 ghost use Rattle.book.specs.Rules.{Rule2, Rule3, Rule5, Rule6};
 ghost use Rattle.book.specs.Decides.{Decides};
+ghost use Rattle.tree.specs.Ends.{Ends};
 ghost use Rattle.tree.specs.Reach.{Reach, entryIn};
 ghost use Rattle.heads.specs.Slots.{Slots, Block};
 ghost use Rattle.heads.specs.Span.{Span};
-ghost use Rattle.heads.specs.Fine.{FileFine, Unused, Owners};
+ghost use Rattle.heads.specs.Fine.{FileFine, Unused};
 ghost use Rattle.heads.specs.Twins.{FilesApart};
 
 // Whether the 32 users from `first` on, a page of them, are unused.
@@ -144,12 +145,12 @@ fn page_ok(img: &[u16], flags: u16, top: usize, first: usize) -> bool
     true
 }
 
-// Whether the objects of so many users are unused or right.
-fn files_ok(img: &[u16], flags: u16, top: usize, users: usize) -> bool
-    requires { ⌜ Reach (now img) (userFile (vol (now img))) × Reach (now img) (rootBy flags top 0) × (users ≤ 256) ⌝ }
-    ensures { λ r. ⌜ Decides r (Span (FileFine (user (vol (now (img .entry)))) (entry (vol (now (img .entry))) (rootBy flags top 0))) 0 (256 * users)) ⌝ }
+// Whether the objects of so many pages are unused or right.
+fn files_ok(img: &[u16], flags: u16, top: usize, ends: usize) -> bool
+    requires { ⌜ Reach (now img) (userFile (vol (now img))) × Reach (now img) (rootBy flags top 0) × (ends ≤ 2048) ⌝ }
+    ensures { λ r. ⌜ Decides r (Span (FileFine (user (vol (now (img .entry)))) (entry (vol (now (img .entry))) (rootBy flags top 0))) 0 (32 * ends)) ⌝ }
 {
-    let end = 256 * users;
+    let end = 32 * ends;
     let mut first: usize = 0;
     while first < end {
         if !page_ok(img, flags, top, first) {
@@ -175,30 +176,24 @@ fn all_apart(img: &[u16], table: &mut [u16; 4096], flags: u16, top: usize, users
     true
 }
 
-// How many users an object file with these flags has pages for.
-fn owners(flags: u16) -> usize
-    ensures { λ r. ⌜ Owners flags r ⌝ }
+// How many users' objects are on so many pages, 8 pages a user.
+fn owners(ends: usize) -> usize
+    requires { ⌜ ends ≤ 2048 ⌝ }
+    ensures { λ r. ⌜ (r ≤ 256) × (ends ≤ 8 * r) ⌝ }
 {
-    if flags == 0 {
-        return 0;
-    }
-    if flags == 1 {
-        return 64;
-    }
-    256
+    (ends + 7) / 8
 }
 
-// Rule 6: used objects: owner is used, words 16 and 17 right, name and type legal, no two of a user equal.
-pub fn rule6(img: &[u16]) -> bool
-    requires { ⌜ Whole (now img) × Rule2 (pages (now img)) (vol (now img)) × Rule3 (pages (now img)) (vol (now img)) × Rule5 (pages (now img)) (vol (now img)) ⌝ }
+// Rule 6: used objects: owner is used, words 16 and 17 right, name and type legal, no two of a user equal. The object file ends at `ends`.
+pub fn rule6(img: &[u16], ends: usize) -> bool
+    requires { ⌜ Whole (now img) × Rule2 (pages (now img)) (vol (now img)) × Rule3 (pages (now img)) (vol (now img)) × Rule5 (pages (now img)) (vol (now img)) × Ends (now img) ends ⌝ }
     ensures { λ r. ⌜ Decides r (Rule6 (user (vol (now (img .entry)))) (object (vol (now (img .entry))))) ⌝ }
 {
     let flags = flags_at(img, 0, 1016);
     let top = page_at(img, 0, 1016) as usize;
-    let users = owners(flags);
-    if !files_ok(img, flags, top, users) {
+    if !files_ok(img, flags, top, ends) {
         return false;
     }
     let mut table = room();
-    all_apart(img, &mut table, flags, top, users)
+    all_apart(img, &mut table, flags, top, owners(ends))
 }

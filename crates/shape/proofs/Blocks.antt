@@ -1,35 +1,19 @@
 -- Blocks as parts of 1,024 words, and the trees under them. Assumes nothing.
-use mathlib.Core.Path.{_≡_, sym, ap, _∙_, subst, subst₂}
+use mathlib.Core.Path.{_≡_, sym, _∙_, subst, subst₂}
 use mathlib.Core.Bool.{Bool}
 use mathlib.Core.List.{List}
 use Prim.Native.Nat.{ℕ, zero, suc, _+_, _-_, _*_, _/_, _^_, _≤_, _<_, min}
-use native.Mathlib.Nat.{add-sub-cancel-left}
-use native.Mathlib.Numerals.{add-one}
 use native.Mathlib.Decide.{decLt}
 use native.Mathlib.Omega.{arith}
-use lib.ListN.{getD, take, drop}
 use Rattle.book.specs.Decides.{Decides}
 use Rattle.book.specs.Pointers.{slot}
 use Rattle.book.specs.Trees.{Fill, Below}
-use Rattle.book.specs.Words.{Vol, vol, two}
+use Rattle.book.specs.Words.{Vol, vol}
 use Rattle.laws.specs.Grown.{fill-zero, below-zero}
 use Rattle.page.proofs.Deciding.{decides-iff}
-use Rattle.page.proofs.Slots.{slot-two}
-use Rattle.shape.specs.Shapes.{Filled, pointerIn, Linked, Unlinked, Indexes}
-
--- a pointer as code reads it
-pub pointer-read : (block : List ℕ) (i r : ℕ) → r ≡ getD block (2 * i) 0 * 65536 + getD block (2 * i + 1) 0 → r ≡ pointerIn block i
-unfolding two
-pointer-read block i r e = e ∙ ap (λ (k : ℕ). getD block (2 * i) 0 * 65536 + getD block k 0) (add-one (2 * i))
-
--- the part of an image that code lends for page b
-abbrev pub partOf : List ℕ → ℕ → List ℕ
-partOf img b = take (1024 * b + 1024 - 1024 * b) (drop (1024 * b) img)
-
-pub part-slot : (img : List ℕ) (b : ℕ) → 0 < b → (i : ℕ) → pointerIn (partOf img b) i ≡ slot (vol img) b i
-unfolding vol
-part-slot img b h i =
-    ap (λ (n : ℕ). pointerIn (take n (drop (1024 * b) img)) i) (add-sub-cancel-left (1024 * b) 1024) ∙ sym (slot-two (vol img) b i h)
+use Rattle.tree.specs.Blocks.{pointerIn, Linked, Unlinked}
+use Rattle.tree.proofs.Blocks.{partOf, part-slot}
+use Rattle.shape.specs.Shapes.{Filled, Indexes}
 
 -- ---- a tree of n positions, over its level
 
@@ -84,7 +68,7 @@ module _ (P : ℕ) (v : Vol) (n : ℕ) (some : 0 < n) where
 
 -- an index block, from its part
 module _ (img : List ℕ) (P b n : ℕ) (some : 0 < n) (most : n ≤ 512) (low : 0 < b) (high : b < P) where
-  pub decides-index : (r : Bool) → Decides r (Linked P (partOf img b) n × Unlinked (partOf img b) n 512) → Decides r (Filled P (vol img) 1 b n)
+  pub decides-index : (r : Bool) → Decides r (Linked 1 P (partOf img b) n × Unlinked (partOf img b) n 512) → Decides r (Filled P (vol img) 1 b n)
   unfolding Fill Below
   decides-index r d =
       decides-block P (vol img) n some 0 b n (pointerIn (partOf img b)) low high (part-slot img b low) (λ k h. omega arith) r

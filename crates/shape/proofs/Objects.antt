@@ -1,5 +1,5 @@
 -- The object file, the files of an object page, and of pages in a row. Assumes nothing.
-use mathlib.Core.Path.{_≡_, refl, sym, ap, _∙_, subst}
+use mathlib.Core.Path.{_≡_, sym, ap, _∙_, subst}
 use mathlib.Core.List.{List}
 use Prim.Native.Nat.{ℕ, _+_, _-_, _*_, _/_, _≤_, _<_, zero-le}
 use native.Mathlib.Decide.{ℕ-discrete, decLt}
@@ -14,15 +14,16 @@ use Rattle.book.specs.Words.{Vol, vol}
 use Rattle.laws.specs.Reach.{below-objects}
 use Rattle.tree.specs.Reach.{entryIn}
 use Rattle.tree.proofs.Entries.{object-in, absent-word}
-use Rattle.tree.proofs.Reach.{reach-same, root-read, page-read}
-use Rattle.shape.specs.Objects.{ObjectsAt, Positions}
+use Rattle.tree.specs.Ends.{Ends}
+use Rattle.tree.proofs.Reach.{reach-same, object-root, page-read}
+use Rattle.tree.proofs.Absent.{ends-unused}
+use Rattle.shape.specs.Objects.{ObjectsAt}
 use Rattle.shape.specs.Shapes.{EntryRight, FilesRight}
 
 -- as code reads its pointer: flags x and page t
 pub objects-at : (img : List ℕ) (x t : ℕ) → Whole img → Rule2 (pages img) (vol img) → Rule5 (pages img) (vol img) → x ≡ flags (vol img 0) 1016 → t ≡ page (vol img 0) 1016 → ObjectsAt img x t
-unfolding objectFile
 objects-at img x t w a b ex et =
-    let e : objectFile (vol img) ≡ rootBy x t 0 = root-read (vol img 0) 1016 0 x t 0 ex et refl in
+    let e : objectFile (vol img) ≡ rootBy x t 0 = object-root (vol img) x t ex et in
     record { root = e; reach = reach-same img _ _ e (record { some = omega arith; below = below-objects (pages img) (vol img) a b }) }
 
 pub object-page-at : (img : List ℕ) (x t : ℕ) → ObjectsAt img x t → (n q : ℕ) → q ≡ pageAt (vol img) (rootBy x t 0) n → q ≡ objectPage (vol img) (32 * n)
@@ -78,12 +79,10 @@ module _ (P : ℕ) (v : Vol) where
   unfolding Rule7
   all-right r a z m e h i = r e (omega arith)
 
--- the files of the positions that an object file can have are all
-pub right-all : (img : List ℕ) (x t m : ℕ) → ObjectsAt img x t → Positions x m → FilesRight (pages img) (vol img) 0 (32 * m) → Rule7 (pages img) (vol img)
+-- the files before the end of the object file are all
+pub right-all : (img : List ℕ) (n : ℕ) → Ends img n → FilesRight (pages img) (vol img) 0 (32 * n) → Rule7 (pages img) (vol img)
 unfolding Rule7
-right-all img x t m o p f e h = elim (decLt e (32 * m)) [
+right-all img n d f e h = elim (decLt e (32 * n)) [
   | yes l ↦ f e l zero-le
-  | no l ↦
-      let n : ℕ = e / 32 in
-      right-absent (pages img) (vol img) n _ (object-page-at img x t o n (pageAt (vol img) (rootBy x t 0) n) refl) (p .1 (vol img) t n (omega arith) (omega arith)) e (omega arith) (omega arith)
+  | no l ↦ λ u. absurd (let z : ⊥ = omega (arith, ends-unused img n d e (omega arith) h) in z)
 ]

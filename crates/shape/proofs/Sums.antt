@@ -1,6 +1,7 @@
 -- The pages of files by their entries, and sums as loops add them up. Assumes nothing.
 use mathlib.Core.Path.{_≡_, refl, sym, ap, ap₂, _∙_}
-use Prim.Native.Nat.{ℕ, zero, suc, _+_, _*_, _<_}
+use mathlib.Core.List.{List}
+use Prim.Native.Nat.{ℕ, zero, suc, _+_, _*_, _≤_, _<_}
 use native.Mathlib.Numerals.{add-one}
 use native.Mathlib.Omega.{arith}
 use Rattle.sums.specs.Search.{pick-yes, pick-no}
@@ -8,15 +9,22 @@ use Rattle.sums.specs.Sum.{sum, sum-suc, sum-none}
 use Rattle.book.specs.Entries.{object, objectPage, used}
 use Rattle.book.specs.Files.{cost}
 use Rattle.book.specs.Pointers.{flags}
-use Rattle.book.specs.Words.{Words, Vol, two}
+use Rattle.book.specs.Words.{Words, Vol, vol, two}
 use Rattle.laws.specs.Charge.{charge, entryPages}
+use Rattle.laws.specs.Several.{sum-cat}
+use Rattle.tree.specs.Ends.{Ends}
 use Rattle.tree.specs.Reach.{entryIn}
-use Rattle.shape.specs.Counts.{pagesAt}
+use Rattle.tree.proofs.Absent.{ends-unused}
+use Rattle.shape.specs.Counts.{pagesAt, pagesOf}
 use Rattle.shape.proofs.Objects.{entry-at, absent-at}
 
 -- one summand more
 pub sum-more : (n : ℕ) (f : ℕ → ℕ) (s x : ℕ) → s ≡ sum n f → x ≡ f n → s + x ≡ sum (n + 1) f
 sum-more n f s x a b = ap₂ (λ (y z : ℕ). y + z) a b ∙ sym (ap (λ (m : ℕ). sum m f) (add-one n) ∙ sum-suc n f)
+
+-- 32 summands more
+pub sum-page : (n : ℕ) (f : ℕ → ℕ) (s x : ℕ) → s ≡ sum n f → x ≡ sum 32 (λ i. f (n + i)) → s + x ≡ sum (n + 32) f
+sum-page n f s x a b = ap₂ (λ (y z : ℕ). y + z) a b ∙ sym (sum-cat 32 n f)
 
 -- ---- by the flags x of a pointer
 
@@ -48,3 +56,12 @@ pages-at v n k q h at = ap entryPages (entry-at v n k q h at)
 pub pages-absent : (v : Vol) (n q : ℕ) → q ≡ objectPage v (32 * n) → q ≡ 0 → 0 ≡ pagesAt v n
 pages-absent v n q at z =
     sym (sum-none 32 (λ k. entryPages (object v (32 * n + k))) (λ k h. sym (pages-unused (object v (32 * n + k)) (λ u. omega (arith, absent-at v n k q h at z)))))
+
+-- a user has none where none of his objects is used
+pub pages-none : (v : Vol) (u : ℕ) → ((i k : ℕ) → i < 8 → k < 32 → 0 < used (object v (32 * (8 * u + i) + k)) → ⊥) → 0 ≡ pagesOf v u
+pages-none v u f =
+    sym (sum-none 8 (λ i. pagesAt v (8 * u + i)) (λ i h. sum-none 32 (λ k. entryPages (object v (32 * (8 * u + i) + k))) (λ k l. sym (pages-unused (object v (32 * (8 * u + i) + k)) (f i k h l)))))
+
+-- where the object file ends before them
+pub pages-past : (img : List ℕ) (n : ℕ) → Ends img n → (u : ℕ) → n ≤ 8 * u → u < 256 → 0 ≡ pagesOf (vol img) u
+pages-past img n d u h l = pages-none (vol img) u (λ i k a b j. omega (arith, ends-unused img n d (32 * (8 * u + i) + k) (omega arith) (omega arith)))

@@ -1,31 +1,18 @@
 -- What the tests of a file's shape decide, block by block. Assumes nothing.
-use mathlib.Core.Path.{_≡_}
 use mathlib.Core.List.{List}
 use Prim.Native.Nat.{ℕ, _-_, _*_, _≤_, _<_, min}
-use lib.ListN.{getD}
-use Rattle.book.specs.Words.{Words, Vol, two}
+use Rattle.book.specs.Words.{Words, Vol}
 use Rattle.book.specs.Entries.{object, used, pageCount, filePointer}
 use Rattle.book.specs.Files.{Shape, FileShape, BytesRight}
 use Rattle.book.specs.Pointers.{flags, page}
 use Rattle.book.specs.Trees.{Fill, Below}
+use Rattle.tree.specs.Blocks.{pointerIn}
 
 -- the tree of level l at t has positions 0 to n - 1 and no others, and all its pages are below P
 abbrev pub Filled : ℕ → Vol → ℕ → ℕ → ℕ → Type 0
 Filled P v l t n = Fill v l t n × Below v P l t
 
--- ---- a block as a part of 1,024 words
-
--- pointer i
-abbrev pub pointerIn : List ℕ → ℕ → ℕ
-pointerIn block i = two (λ k. getD block k 0) (2 * i)
-
--- pointers 0 to n - 1 are in 1..P-1
-abbrev pub Linked : ℕ → List ℕ → ℕ → Type 0
-Linked P block n = (i : ℕ) → i < n → (0 < pointerIn block i) × (pointerIn block i < P)
-
--- pointers n to z - 1 are zero
-abbrev pub Unlinked : List ℕ → ℕ → ℕ → Type 0
-Unlinked block n z = (i : ℕ) → i < z → n ≤ i → pointerIn block i ≡ 0
+-- ---- a subindex block as a part of 1,024 words
 
 -- of n positions, those under slot k of a subindex block
 abbrev pub shareOf : ℕ → ℕ → ℕ

@@ -2,68 +2,17 @@
 use crate::seen::note;
 use page::WORDS;
 use page::read::dword;
+use tree::block::filled;
+use tree::block::unlinked;
 ghost use mathlib.Core.Path.{_≡_};
 ghost use Prim.Native.Nat.{_+_, _*_, _/_, _≤_, _<_};
 ghost use lib.ListN.{length};
 ghost use Rattle.book.specs.Decides.{Decides};
 ghost use Rattle.book.specs.Image.{pages, Whole};
 ghost use Rattle.book.specs.Words.{vol};
+ghost use Rattle.tree.specs.Blocks.{Unlinked};
 ghost use Rattle.shape.specs.Seen.{Testing, Tested};
-ghost use Rattle.shape.specs.Shapes.{Filled, Linked, Unlinked, Indexes, shareOf};
-
-// Whether a page number is in 1..total-1.
-fn inside(p: u32, total: usize) -> bool
-    ensures { λ r. ⌜ Decides r ((0 < p) × (p < total)) ⌝ }
-{
-    if p == 0 {
-        return false;
-    }
-    if total <= p as usize {
-        return false;
-    }
-    true
-}
-
-// Whether pointers 0 to n - 1 of a block are in 1..total-1.
-fn linked(block: &[u16], total: usize, n: usize) -> bool
-    requires { ⌜ (length (now block) ≡ 1024) × (n ≤ 512) ⌝ }
-    ensures { λ r. ⌜ Decides r (Linked total (now (block .entry)) n) ⌝ }
-{
-    let mut i: usize = 0;
-    while i < n {
-        if !inside(dword(block, 2 * i), total) {
-            return false;
-        }
-        i += 1;
-    }
-    true
-}
-
-// Whether pointers n to 511 of a block are zero.
-fn unlinked(block: &[u16], n: usize) -> bool
-    requires { ⌜ (length (now block) ≡ 1024) × (n ≤ 512) ⌝ }
-    ensures { λ r. ⌜ Decides r (Unlinked (now (block .entry)) n 512) ⌝ }
-{
-    let mut i = n;
-    while i < 512 {
-        if dword(block, 2 * i) != 0 {
-            return false;
-        }
-        i += 1;
-    }
-    true
-}
-
-// Whether pointers 0 to n - 1 of a block are in 1..total-1 and the others zero.
-fn index_block(block: &[u16], total: usize, n: usize) -> bool
-    requires { ⌜ (length (now block) ≡ 1024) × (n ≤ 512) ⌝ }
-    ensures { λ r. ⌜ Decides r (Linked total (now (block .entry)) n × Unlinked (now (block .entry)) n 512) ⌝ }
-{
-    if !linked(block, total, n) {
-        return false;
-    }
-    unlinked(block, n)
-}
+ghost use Rattle.shape.specs.Shapes.{Filled, Indexes, shareOf};
 
 // Whether page b is an index block of n pages.
 pub fn index_ok(img: &[u16], total: usize, b: usize, n: usize) -> bool
@@ -78,7 +27,7 @@ pub fn index_ok(img: &[u16], total: usize, b: usize, n: usize) -> bool
     }
     let a = WORDS * b;
     let z = a + WORDS;
-    index_block(&img[a..z], total, n)
+    filled(&img[a..z], n, 1, total)
 }
 
 // Of n positions, those under slot k of a subindex block.
@@ -148,7 +97,7 @@ fn subindex_block(
     if !indexes_ok(img, total, seen, block, n, m) {
         return false;
     }
-    unlinked(block, m)
+    unlinked(block, m, 512)
 }
 
 // Whether page t is a subindex block of n pages.

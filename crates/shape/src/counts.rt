@@ -10,6 +10,7 @@ ghost use Rattle.book.specs.Files.{cost};
 ghost use Rattle.book.specs.Image.{pages};
 ghost use Rattle.book.specs.Words.{vol};
 ghost use Rattle.laws.specs.Charge.{charge, entryPages};
+ghost use Rattle.tree.specs.Ends.{Ends};
 ghost use Rattle.tree.specs.Reach.{entryIn};
 ghost use Rattle.shape.specs.Counts.{pagesAt, pagesOf};
 ghost use Rattle.shape.specs.Objects.{ObjectsAt};
@@ -77,11 +78,14 @@ fn position_pages(img: &[u16], flags: u16, top: usize, n: usize) -> u64
     page_pages(img, q, n)
 }
 
-// The pages of user u's files, where the object pointer has these flags and this page.
-pub fn user_pages(img: &[u16], flags: u16, top: usize, u: usize) -> u64
-    requires { ⌜ ObjectsAt (now img) flags top × (u < 256) ⌝ }
+// The pages of user u's files, where the object pointer has these flags and this page, and the object file ends at `ends`.
+pub fn user_pages(img: &[u16], flags: u16, top: usize, ends: usize, u: usize) -> u64
+    requires { ⌜ ObjectsAt (now img) flags top × Ends (now img) ends × (u < 256) ⌝ }
     ensures { λ r. ⌜ (r ≡ pagesOf (vol (now (img .entry))) u) × (r ≤ 256 * 8589934592) ⌝ }
 {
+    if ends <= 8 * u {
+        return 0;
+    }
     let mut sum: u64 = 0;
     let mut i: usize = 0;
     while i < 8 {

@@ -11,7 +11,8 @@ ghost use Rattle.book.specs.Entries.{objectPage};
 ghost use Rattle.book.specs.Image.{pages, Whole};
 ghost use Rattle.book.specs.Rules.{Rule2, Rule5, Rule7};
 ghost use Rattle.book.specs.Words.{vol};
-ghost use Rattle.shape.specs.Objects.{ObjectsAt, Positions};
+ghost use Rattle.tree.specs.Ends.{Ends};
+ghost use Rattle.shape.specs.Objects.{ObjectsAt};
 ghost use Rattle.shape.specs.Seen.{Testing, Tested};
 ghost use Rattle.shape.specs.Shapes.{FilesRight};
 
@@ -50,30 +51,16 @@ fn position_ok(
     page_ok(img, total, seen, q, n)
 }
 
-// How many pages an object file whose pointer has these flags can have.
-fn positions(flags: u16) -> usize
-    ensures { λ r. ⌜ Positions flags r ⌝ }
-{
-    if flags == 0 {
-        return 0;
-    }
-    if flags == 1 {
-        return 512;
-    }
-    2048
-}
-
-// Whether rule 7 holds.
-pub fn rule7(img: &[u16], total: usize) -> bool
-    requires { ⌜ Whole (now img) × (total ≡ pages (now img)) × Rule2 (pages (now img)) (vol (now img)) × Rule5 (pages (now img)) (vol (now img)) ⌝ }
+// Whether rule 7 holds, where the object file ends at `ends`.
+pub fn rule7(img: &[u16], total: usize, ends: usize) -> bool
+    requires { ⌜ Whole (now img) × (total ≡ pages (now img)) × Rule2 (pages (now img)) (vol (now img)) × Rule5 (pages (now img)) (vol (now img)) × Ends (now img) ends ⌝ }
     ensures { λ r. ⌜ Decides r (Rule7 (pages (now (img .entry))) (vol (now (img .entry)))) ⌝ }
 {
     let flags = flags_at(img, 0, 1016);
     let top = page_at(img, 0, 1016) as usize;
-    let end = positions(flags);
     let mut seen = no_blocks();
     let mut n: usize = 0;
-    while n < end {
+    while n < ends {
         if !position_ok(img, total, &mut seen, flags, top, n) {
             return false;
         }

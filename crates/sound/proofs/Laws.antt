@@ -20,12 +20,18 @@ use Rattle.bits.specs.File.{BitsAt}
 use Rattle.bits.proofs.Places.{bits-at}
 use Rattle.walk.specs.Marks.{marked}
 use Rattle.walk.specs.Held.{HeldOn}
+use Rattle.walk.specs.Short.{Shorts}
+use Rattle.walk.proofs.Short.{rules-short}
 use Rattle.walk.proofs.Judged.{same-rule9, rule9-same}
 use Rattle.sound.specs.Late.{Early, Late, lateRules, JudgedLate}
 
 -- the trees are within the volume
 pub early-within : (P : ℕ) (v : Vol) → Early P v → Within P v
 early-within P v E = rules-within P v (E .r1) (E .r2) (E .r3) (E .r5) (E .r7)
+
+-- and none is longer than it may be
+pub early-short : (P : ℕ) (v : Vol) → Early P v → Shorts v
+early-short P v E = rules-short P v (E .r2) (E .r3) (E .r5) (E .r7)
 
 -- the verdicts of the late rules
 module _ (P : ℕ) (v : Vol) where

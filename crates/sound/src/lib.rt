@@ -8,15 +8,16 @@ ghost use Rattle.book.specs.Words.{vol};
 ghost use Rattle.book.specs.Decides.{Decides};
 ghost use Rattle.book.specs.Image.{pages, Whole};
 ghost use Rattle.book.specs.Gate.{Judged, Gated};
+ghost use Rattle.tree.specs.Ends.{Ends};
 ghost use Rattle.sound.specs.Late.{Early, JudgedLate};
 
-// Rules 8 to 10 of an image that keeps the first seven: the walk marks each held page and counts it.
-fn judge_held(img: &[u16], total: usize) -> Verdict
-    requires { ⌜ Whole (now img) × (total ≡ pages (now img)) × Early (pages (now img)) (vol (now img)) ⌝ }
+// Rules 8 to 10 of an image that keeps the first seven: the walk marks each held page and counts it. The object file ends at position `ends`.
+fn judge_held(img: &[u16], total: usize, ends: usize) -> Verdict
+    requires { ⌜ Whole (now img) × (total ≡ pages (now img)) × Early (pages (now img)) (vol (now img)) × Ends (now img) ends ⌝ }
     ensures { λ r. ⌜ JudgedLate (pages (now (img .entry))) (vol (now (img .entry))) r ⌝ }
 {
     let mut marks = walk::marks::no_marks();
-    let w = walk::volume::mark_all(img, &mut marks, total);
+    let w = walk::volume::mark_all(img, &mut marks, total, ends);
     let Walk::On { visited } = w else {
         return Verdict::Broken { rule: 8 };
     };
@@ -24,7 +25,7 @@ fn judge_held(img: &[u16], total: usize) -> Verdict
     if !walk::same::same_bits(img, b, &marks, total) {
         return Verdict::Broken { rule: 9 };
     }
-    if !shape::rule10::rule10(img, total, visited) {
+    if !shape::rule10::rule10(img, total, visited, ends) {
         return Verdict::Broken { rule: 10 };
     }
     Verdict::Sound { visits: visited }
@@ -51,13 +52,14 @@ pub fn judge(img: &[u16]) -> Verdict
     if !heads::objects::rule5(img, total) {
         return Verdict::Broken { rule: 5 };
     }
-    if !heads::objects::rule6(img) {
+    let ends = tree::root::object_ends(img);
+    if !heads::objects::rule6(img, ends) {
         return Verdict::Broken { rule: 6 };
     }
-    if !shape::rule7::rule7(img, total) {
+    if !shape::rule7::rule7(img, total, ends) {
         return Verdict::Broken { rule: 7 };
     }
-    judge_held(img, total)
+    judge_held(img, total, ends)
 }
 
 // Whether an image is of whole pages, 8 to 16,384 of them.

@@ -1,11 +1,12 @@
 -- Roots whose pages lie in the image: what code knows of them after it has read flags, page and count. Assumes nothing.
-use mathlib.Core.Path.{_≡_, sym, ap, ap₂, _∙_, subst}
+use mathlib.Core.Path.{_≡_, refl, sym, ap, ap₂, _∙_, subst}
 use mathlib.Core.List.{List}
 use Prim.Native.Nat.{ℕ, _+_, _<_}
 use native.Mathlib.Omega.{arith}
 use Rattle.book.specs.Words.{Vol, vol}
 use Rattle.book.specs.Pointers.{flags, page}
 use Rattle.book.specs.Trees.{Root, run, rootAt, rootBy, pageAt}
+use Rattle.book.specs.Entries.{objectFile}
 use Rattle.book.specs.Image.{pages}
 use Rattle.laws.specs.Frame.{pageAt-below, upto-out}
 use Rattle.tree.specs.Reach.{Reach}
@@ -33,3 +34,8 @@ root-read w k n x t m a b c = sym (ap₂ (λ (y z : ℕ). rootBy y z m) a b ∙ 
 -- its page at position n, which code has as m
 pub page-read : (v : Vol) (r s : Root) (m n x : ℕ) → r ≡ s → m ≡ n → x ≡ pageAt v s m → x ≡ pageAt v r n
 page-read v r s m n x e d h = h ∙ ap₂ (pageAt v) (sym e) d
+
+-- the object file, from the flags x and the page t of its pointer
+pub object-root : (v : Vol) (x t : ℕ) → x ≡ flags (v 0) 1016 → t ≡ page (v 0) 1016 → objectFile v ≡ rootBy x t 0
+unfolding objectFile
+object-root v x t a b = root-read (v 0) 1016 0 x t 0 a b refl

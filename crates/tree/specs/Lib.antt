@@ -1,1 +1,3 @@
 pub mod Reach
+pub mod Blocks
+pub mod Ends

@@ -1,4 +1,6 @@
 // The page at a position: of any root, of the user file, of the object file.
+use crate::ends::slots_end;
+use crate::ends::tree_end;
 use page::entry::EntryPlace;
 ghost use mathlib.Core.Path.{_≡_};
 ghost use Prim.Native.Nat.{_<_};
@@ -7,6 +9,7 @@ ghost use Rattle.book.specs.Trees.{rootBy, pageAt};
 ghost use Rattle.book.specs.Entries.{userFile, objectFile, userPage, objectPage};
 ghost use Rattle.book.specs.Image.{pages};
 ghost use Rattle.tree.specs.Reach.{Reach};
+ghost use Rattle.tree.specs.Ends.{Ends};
 
 // The page at position n of the root with these flags, page and count; 0 where there is none.
 pub fn root_page(img: &[u16], flags: u16, top: usize, count: usize, n: usize) -> usize
@@ -57,4 +60,20 @@ pub fn object_page(img: &[u16], e: usize) -> usize
     let place = EntryPlace::of(e);
     let n = place.page;
     root_page(img, flags, top, 0, n)
+}
+
+// One more than the highest position of the object file, below 2,048, that has a page.
+pub fn object_ends(img: &[u16]) -> usize
+    requires { ⌜ Reach (now img) (objectFile (vol (now img))) ⌝ }
+    ensures { λ r. ⌜ Ends (now (img .entry)) r ⌝ }
+{
+    let flags = page::read::flags_at(img, 0, 1016);
+    let top = page::read::page_at(img, 0, 1016) as usize;
+    if flags == 1 {
+        return slots_end(img, top);
+    }
+    if flags == 2 {
+        return tree_end(img, top);
+    }
+    0
 }

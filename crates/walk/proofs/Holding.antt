@@ -4,7 +4,7 @@ use mathlib.Core.List.{List}
 use mathlib.Core.Bool.{Bool, true, false}
 use Prim.Native.Nat.{ℕ, _+_, _*_, _/_, _%_, _≤_}
 use native.Mathlib.Omega.{arith}
-use Rattle.sums.specs.Sum.{sum, is, is-sym}
+use Rattle.sums.specs.Sum.{sum, is, is-same, is-sym}
 use Rattle.book.specs.Words.{Vol, vol}
 use Rattle.book.specs.Pointers.{flags, page}
 use Rattle.book.specs.Trees.{Root, run, rootBy, weighR}
@@ -20,7 +20,7 @@ use Rattle.walk.specs.declared.Walk.{Walk}
 use Rattle.walk.specs.declared.Walk.the-variants.{On, Met}
 use Rattle.walk.specs.Marks.{marked, Unmarked, Newly, Marking}
 use Rattle.walk.specs.Walked.{Walking, Walked}
-use Rattle.walk.specs.Files.{FilesBelow}
+use Rattle.walk.specs.Files.{FilesFit}
 use Rattle.walk.specs.Held.{Held, Volume}
 use Rattle.walk.proofs.Marked.{marks-more}
 use Rattle.walk.proofs.Walks.{Counts, rowOf, walked-same}
@@ -43,14 +43,9 @@ module _ (P : ℕ) (v : Vol) (s n : ℕ) (es : s ≡ page (v 0) 1020) (en : n �
 
 -- ---- the user file and the object file
 
-module _ (v : Vol) (x t : ℕ) where
-  pub users-read : x ≡ flags (v 0) 1018 → t ≡ page (v 0) 1018 → userFile v ≡ rootBy x t 0
-  unfolding userFile
-  users-read a b = root-read (v 0) 1018 0 x t 0 a b refl
-
-  pub objects-read : x ≡ flags (v 0) 1016 → t ≡ page (v 0) 1016 → objectFile v ≡ rootBy x t 0
-  unfolding objectFile
-  objects-read a b = root-read (v 0) 1016 0 x t 0 a b refl
+pub user-root : (v : Vol) (x t : ℕ) → x ≡ flags (v 0) 1018 → t ≡ page (v 0) 1018 → userFile v ≡ rootBy x t 0
+unfolding userFile
+user-root v x t a b = root-read (v 0) 1018 0 x t 0 a b refl
 
 pub below-same : (v : Vol) (P : ℕ) (r s : Root) → r ≡ s → BelowR v P r → BelowR v P s
 below-same v P r s e b = subst (λ (x : Root). BelowR v P x) e b
@@ -77,8 +72,8 @@ module _ (img : List ℕ) (w : Volume img) where
   pub objects-reach : Reach img (objectFile (vol img))
   objects-reach = record { some = omega (arith, w .whole .least); below = w .within .objs }
 
-  pub files-below : FilesBelow img
-  files-below = record { each = λ e h. subst (λ (x : ℕ). BelowR (vol img) (pages img) (fileAt (vol img) x)) (let q : 256 * (e / 256) + e % 256 ≡ e = omega arith in q) (w .within .files (e / 256) (e % 256) (omega arith) (omega arith)) }
+  pub files-fit : FilesFit img
+  files-fit = record { short = w .short .files; below = λ e h. subst (λ (x : ℕ). BelowR (vol img) (pages img) (fileAt (vol img) x)) (let q : 256 * (e / 256) + e % 256 ≡ e = omega arith in q) (w .within .files (e / 256) (e % 256) (omega arith) (omega arith)) }
 
 -- ---- all, from no marks on
 
@@ -86,11 +81,11 @@ module _ (m : List ℕ) (u : Unmarked m) (m′ : List ℕ) where
   -- the master page's mark
   pub first-mark : (r : Bool) → Marking m 0 m′ r → Newly m 0 m′
   first-mark true d = d
-  first-mark false d = absurd (let z : ⊥ = omega (arith, d, u .none 0) in z)
+  first-mark false d = absurd (let z : ⊥ = omega (arith, d .0, u .none 0) in z)
 
   module _ (d : Newly m 0 m′) where
     pub first-walking : (img : List ℕ) → Volume img → Walking img m′ 1
-    first-walking img w = record { size = d .kept ∙ u .size; few = w .whole .most; counted = omega (arith, marks-more (pages img) m 0 m′ d (omega (arith, w .whole .least))) }
+    first-walking img w = record { size = d .kept ∙ u .size; few = w .whole .most; some = omega (arith, w .whole .least); master = omega (arith, d .more 0, u .none 0, is-same 0); counted = omega (arith, marks-more (pages img) m 0 m′ d (omega (arith, w .whole .least))) }
 
     at-first : (p : ℕ) → marked m′ p ≡ is p 0
     at-first p = omega (arith, d .more p, u .none p, is-sym 0 p)

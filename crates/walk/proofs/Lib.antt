@@ -2,6 +2,7 @@
 pub mod Lows
 pub mod Marked
 pub mod Walks
+pub mod Short
 pub mod Pointers
 pub mod Runs
 pub mod Entries

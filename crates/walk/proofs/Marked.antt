@@ -74,6 +74,11 @@ module _ (P : ℕ) (m : List ℕ) (p : ℕ) (m′ : List ℕ) (d : Newly m p m�
   pub marks-room : sum P (marked m) < P
   marks-room = omega (arith, sum-le-at P (marked m) (λ q. 1) p 1 h (λ q l. marked-le m q) (omega (arith, d .new)), sum-const P 1)
 
+-- a page that is newly marked is not one that was
+pub new-other : (m : List ℕ) (p : ℕ) (m′ : List ℕ) → Newly m p m′ → marked m 0 ≡ 1 → 0 < p
+new-other m zero m′ d h = absurd (let z : ⊥ = omega (arith, d .new, h) in z)
+new-other m (suc p) m′ d h = omega arith
+
 -- ---- after a test of the answer
 
 module _ (m : List ℕ) (p : ℕ) (m′ : List ℕ) (r : Bool) (d : Marking m p m′ r) where
@@ -84,9 +89,9 @@ module _ (m : List ℕ) (p : ℕ) (m′ : List ℕ) (r : Bool) (d : Marking m p 
       go true k e = k
       go false k e = let z : _≡_ {A = ℕ} 0 1 = cc in absurd (omega arith)
 
-  pub marking-old : not r ≡ true → marked m p ≡ 1
+  pub marking-old : not r ≡ true → (marked m p ≡ 1) × (m′ ≡ m)
   marking-old e = go r d e
     where
-      go : (s : Bool) → Marking m p m′ s → not s ≡ true → marked m p ≡ 1
+      go : (s : Bool) → Marking m p m′ s → not s ≡ true → (marked m p ≡ 1) × (m′ ≡ m)
       go false k e = k
       go true k e = let z : _≡_ {A = ℕ} 0 1 = cc in absurd (omega arith)

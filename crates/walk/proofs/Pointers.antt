@@ -1,12 +1,11 @@
 -- Walking over a pointer and over a block: one law for each way through the code. Assumes nothing.
-use mathlib.Core.Path.{_≡_, refl, sym, ap, ap₂, _∙_, subst}
-use mathlib.Core.Logic.{_≢_}
+use mathlib.Core.Path.{_≡_, refl, sym, ap, ap₂, _∙_, subst, subst₂}
 use mathlib.Core.List.{List}
-use Prim.Native.Nat.{ℕ, zero, suc, _+_, _-_, _*_, _≤_, _<_}
+use Prim.Native.Nat.{ℕ, zero, suc, _+_, _-_, _*_, _^_, _≤_, _<_}
 use native.Mathlib.Nat.{not-suc-le-zero, le-refl}
 use native.Mathlib.Numerals.{add-one}
 use native.Mathlib.Omega.{arith}
-use lib.ListN.{getD, take, drop}
+use lib.ListN.{length, getD, take, drop}
 use Rattle.sums.specs.Sum.{sum, sum-ext, is}
 use Rattle.book.specs.Words.{Vol, vol, two}
 use Rattle.book.specs.Written.{word-pos}
@@ -19,8 +18,9 @@ use Rattle.walk.specs.declared.Walk.{Walk}
 use Rattle.walk.specs.declared.Walk.the-variants.{On, Met}
 use Rattle.walk.specs.Marks.{marked, Newly}
 use Rattle.walk.specs.Walked.{Weigher, Walking, WalkedOn, Walked, slotOf}
-use Rattle.walk.proofs.Marked.{marks-more, marks-room}
-use Rattle.walk.proofs.Walks.{Counts, rowOf, row-counts, walking-on, walked-none, walked-same, walked-then}
+use Rattle.walk.specs.Short.{Short, share, PointersBelow, Pointers}
+use Rattle.walk.proofs.Marked.{marked-le, marks-more, marks-room}
+use Rattle.walk.proofs.Walks.{Counts, rowOf, row-counts, walking-on, walked-none, walked-same, walked-then, row-past}
 
 pub below-top : (v : Vol) (P l t : ℕ) → Below v P l t → t < P
 unfolding Below
@@ -42,7 +42,15 @@ unfolding hit
 hit-is zero q h = absurd (not-suc-le-zero h)
 hit-is (suc p) q h = refl
 
+pub power : (l k : ℕ) → l ≡ k → 512 ^ l ≡ 512 ^ k
+power l k e = ap (λ (x : ℕ). 512 ^ x) e
+
 -- ---- a page's part, handed over as a block
+
+-- pointer n as code reads it where it is small: its less significant word
+pub low-read : (b : List ℕ) (n x : ℕ) → slotOf b n < 65536 → x ≡ getD b (2 * n + 1) 0 → x ≡ slotOf b n
+unfolding slotOf two
+low-read b n x h e = let k : 2 * n + 1 ≡ suc (2 * n) = omega arith in omega (arith, h, e, ap (λ (j : ℕ). getD b j 0) k)
 
 -- pointer n as code reads it
 pub slot-read : (b : List ℕ) (n k x : ℕ) → k ≡ 2 * n → x ≡ getD b k 0 * 65536 + getD b (k + 1) 0 → x ≡ slotOf b n
@@ -59,17 +67,25 @@ module _ (img : List ℕ) (t : ℕ) (b : List ℕ) (is-part : b ≡ take (1024 *
       ap₂ (λ (x y : ℕ). x * 65536 + y) (word-pos (vol img) t (2 * n) h) (word-pos (vol img) t (suc (2 * n)) h)
       ∙ ap (λ (c : List ℕ). getD c (2 * n) 0 * 65536 + getD c (suc (2 * n)) 0) (sym part)
 
-  pub block-below : (P l : ℕ) → l ≢ 0 → Below (vol img) P l t → (n : ℕ) → n < 512 → Below (vol img) P (l - 1) (slotOf b n)
+  pub block-below : (l : ℕ) → 0 < l → length b ≡ 1024 → Below (vol img) (pages img) l t → PointersBelow img b (l - 1)
   unfolding Below
-  block-below P zero d w n i = absurd (d refl)
-  block-below P (suc l) d w n i =
+  block-below zero d z w = absurd (not-suc-le-zero d)
+  block-below (suc l) d z w =
       let e : suc l - 1 ≡ l = omega arith in
-      subst (λ (x : ℕ). Below (vol img) P x (slotOf b n)) (sym e) (subst (λ (x : ℕ). Below (vol img) P l x) (slot-part n) (w .1 n i))
+      record { size = z; below = λ n i. subst (λ (x : ℕ). Below (vol img) (pages img) x (slotOf b n)) (sym e) (subst (λ (x : ℕ). Below (vol img) (pages img) l x) (slot-part n) (w .1 n i)) }
+
+  pub block-short : (l n : ℕ) → 0 < l → Short (vol img) l t n → Pointers img b (l - 1) n
+  unfolding Short
+  block-short zero n d w = absurd (not-suc-le-zero d)
+  block-short (suc l) n d w =
+      let e : suc l - 1 ≡ l = omega arith in
+      subst (λ (x : ℕ). Pointers img b x n) (sym e)
+      record { none = λ k i h. sym (slot-part k) ∙ w k i .0 h; short = λ k i. subst (λ (x : ℕ). Short (vol img) l x (share l n k)) (slot-part k) (w k i .1) }
 
   -- the tree is its page and what the block's pointers name
-  pub block-weigh : (l : ℕ) → l ≢ 0 → (g : ℕ → ℕ) → g t + sum 512 (λ k. weigh (vol img) (l - 1) (slotOf b k) g) ≡ weigh (vol img) l t g
+  pub block-weigh : (l : ℕ) → 0 < l → (g : ℕ → ℕ) → g t + sum 512 (λ k. weigh (vol img) (l - 1) (slotOf b k) g) ≡ weigh (vol img) l t g
   unfolding weigh
-  block-weigh zero d g = absurd (d refl)
+  block-weigh zero d g = absurd (not-suc-le-zero d)
   block-weigh (suc l) d g =
       let e : suc l - 1 ≡ l = omega arith in
       ap (λ (s : ℕ). g t + s) (sum-ext 512 (λ k. weigh (vol img) (suc l - 1) (slotOf b k) g) (λ k. weigh (vol img) l (slot (vol img) t k) g)
@@ -96,7 +112,7 @@ module _ (img : List ℕ) (P : ℕ) (m : List ℕ) (v l t : ℕ) where
       unfolding weigh
       pointer-page z = walked-same P m v (λ g. g t) (weigh (vol img) l t) (λ g. sym (ap (λ (x : ℕ). weigh (vol img) x t g) z)) m′ (On (v + 1)) first
 
-      pub pointer-block : l ≢ 0 → (b : List ℕ) → b ≡ take (1024 * t + 1024 - 1024 * t) (drop (1024 * t) img) → (m″ : List ℕ) (r : Walk)
+      pub pointer-block : 0 < l → (b : List ℕ) → b ≡ take (1024 * t + 1024 - 1024 * t) (drop (1024 * t) img) → (m″ : List ℕ) (r : Walk)
           → Walked P m′ (v + 1) (λ g. sum 512 (λ k. weigh (vol img) (l - 1) (slotOf b k) g)) m″ r → Walked P m v (weigh (vol img) l t) m″ r
       pointer-block z b e m″ r k =
           walked-same P m v (λ g. g t + sum 512 (λ k. weigh (vol img) (l - 1) (slotOf b k) g)) (weigh (vol img) l t) (block-weigh img t b e h l z) m″ r
@@ -108,21 +124,36 @@ module _ (img m : List ℕ) (v t : ℕ) (m′ : List ℕ) (d : Newly m t m′) (
   mark-fits = omega (arith, marks-room (pages img) m t m′ d i, w .counted, w .few)
 
   pub mark-walking : Walking img m′ (v + 1)
-  mark-walking = record { size = d .kept ∙ w .size; few = w .few; counted = omega (arith, marks-more (pages img) m t m′ d i, w .counted) }
+  mark-walking = record { size = d .kept ∙ w .size; few = w .few; some = w .some; master = omega (arith, d .more 0, w .master, marked-le m′ 0); counted = omega (arith, marks-more (pages img) m t m′ d i, w .counted) }
 
 -- ---- a block: the row of its pointers
 
 abbrev pub slotsOf : List ℕ → ℕ → List ℕ → ℕ → Weigher
 slotsOf img l b = λ k. weigh (vol img) l (slotOf b k)
 
-module _ (img b : List ℕ) (l : ℕ) (within : (k : ℕ) → k < 512 → Below (vol img) (pages img) l (slotOf b k)) (i : ℕ) where
+module _ (img b : List ℕ) (l : ℕ) (within : PointersBelow img b l) (i : ℕ) where
   pub block-walking : i ≤ 512 → (m : List ℕ) (v : ℕ) (m′ : List ℕ) (x : ℕ) → Walking img m v → WalkedOn (pages img) m v (rowOf (slotsOf img l b) i) m′ x → Walking img m′ x
   block-walking h m v m′ x w k =
       walking-on img m v (rowOf (slotsOf img l b) i) m′ x w
-      (row-counts (pages img) (slotsOf img l b) i (λ j lt. tree-counts (vol img) (pages img) l (slotOf b j) (within j (omega arith)))) k
+      (row-counts (pages img) (slotsOf img l b) i (λ j lt. tree-counts (vol img) (pages img) l (slotOf b j) (within .below j (omega arith)))) k
 
   pub slot-below : i < 512 → (p : ℕ) → p ≡ slotOf b i → Below (vol img) (pages img) l p
-  slot-below h p e = subst (λ (x : ℕ). Below (vol img) (pages img) l x) (sym e) (within i h)
+  slot-below h p e = subst (λ (x : ℕ). Below (vol img) (pages img) l x) (sym e) (within .below i h)
 
   pub slot-weigh : (p : ℕ) → p ≡ slotOf b i → (g : ℕ → ℕ) → weigh (vol img) l p g ≡ slotsOf img l b i g
   slot-weigh p e g = ap (λ (x : ℕ). weigh (vol img) l x g) e
+
+module _ (img b : List ℕ) (l n : ℕ) (d : Pointers img b l n) where
+  pub slot-short : (i : ℕ) → i < 512 → (p c : ℕ) → p ≡ slotOf b i → c ≡ share l n i → Short (vol img) l p c
+  slot-short i h p c e f = subst₂ (λ (x y : ℕ). Short (vol img) l x y) (sym e) (sym f) (d .short i h)
+
+  -- the pointers that n positions need are all that name something
+  pub block-all : (k : ℕ) → k ≤ 512 → ((i : ℕ) → k ≤ i → i < 512 → n ≤ i * 512 ^ l) → (P : ℕ) (m : List ℕ) (v : ℕ) (m′ : List ℕ) (r : Walk)
+      → Walked P m v (rowOf (slotsOf img l b) k) m′ r → Walked P m v (rowOf (slotsOf img l b) 512) m′ r
+  block-all k h past P m v =
+      row-past P m v (slotsOf img l b) k 512 h (λ i a c g z. ap (λ (x : ℕ). weigh (vol img) l x g) (d .none i c (past i a c)) ∙ weigh-none (vol img) g z l)
+
+-- pointers of level 0 name pages
+pub row-level : (img b : List ℕ) (l : ℕ) → l ≡ 0 → (n P : ℕ) (m : List ℕ) (v : ℕ) (m′ : List ℕ) (r : Walk)
+    → Walked P m v (rowOf (slotsOf img 0 b) n) m′ r → Walked P m v (rowOf (slotsOf img l b) n) m′ r
+row-level img b l e n P m v m′ r k = subst (λ (x : ℕ). Walked P m v (rowOf (slotsOf img x b) n) m′ r) (sym e) k

@@ -2,6 +2,7 @@
 use mathlib.Core.Path.{_≡_, refl, sym, ap}
 use mathlib.Core.List.{List}
 use Prim.Native.Nat.{ℕ, zero, suc, _+_, _≤_, _<_}
+use native.Mathlib.Nat.{not-suc-le-zero}
 use native.Mathlib.Omega.{arith}
 use Rattle.sums.specs.Sum.{sum-zero}
 use Rattle.book.specs.Words.{Vol}
@@ -37,6 +38,14 @@ page-weigh v t g = refl
 
 -- ---- a root
 
+-- the count is a run's alone
+pub root-tree : (x t n m : ℕ) → 0 < x → rootBy x t n ≡ rootBy x t m
+unfolding rootBy
+root-tree zero t n m h = absurd (not-suc-le-zero h)
+root-tree (suc zero) t n m h = refl
+root-tree (suc (suc zero)) t n m h = refl
+root-tree (suc (suc (suc x))) t n m h = refl
+
 pub root-counts : (v : Vol) (P : ℕ) (r : Root) → BelowR v P r → Counts P (weighR v r)
 unfolding Counts
 root-counts v P r b = root-count v P r b
@@ -55,12 +64,14 @@ module _ (v : Vol) (P x t n : ℕ) (m : List ℕ) (visited : ℕ) where
   walked-tree (suc zero) e h m′ r k = walked-same P m visited (weigh v 2 t) (weighR v (rootBy x t n)) (λ g. sym (at 2 e g)) m′ r k
   walked-tree (suc (suc l)) e h m′ r k = absurd (let z : ⊥ = omega arith in z)
 
-  bad : (y : ℕ) → 2 < y → (g : ℕ → ℕ) → weighR v (rootBy y t n) g ≡ 0
+-- a root that is no tree, and of no pages
+module _ (v : Vol) (P x t : ℕ) (m : List ℕ) (visited : ℕ) where
+  bare : (y : ℕ) → (y ≡ 1 → ⊥) → (y ≡ 2 → ⊥) → (g : ℕ → ℕ) → weighR v (rootBy y t 0) g ≡ 0
   unfolding weighR rootBy
-  bad zero h g = absurd (let z : ⊥ = omega arith in z)
-  bad (suc zero) h g = absurd (let z : ⊥ = omega arith in z)
-  bad (suc (suc zero)) h g = absurd (let z : ⊥ = omega arith in z)
-  bad (suc (suc (suc y))) h g = sum-zero (λ i. g (0 + i))
+  bare zero a b g = sum-zero (λ i. g (t + i))
+  bare (suc zero) a b g = absurd (a refl)
+  bare (suc (suc zero)) a b g = absurd (b refl)
+  bare (suc (suc (suc y))) a b g = sum-zero (λ i. g (0 + i))
 
-  pub walked-bad : 2 < x → Walked P m visited (weighR v (rootBy x t n)) m (On visited)
-  walked-bad h = walked-none P m visited (weighR v (rootBy x t n)) (λ p. bad x h (hit p)) (bad x h some)
+  pub walked-bare : (x ≡ 1 → ⊥) → (x ≡ 2 → ⊥) → Walked P m visited (weighR v (rootBy x t 0)) m (On visited)
+  walked-bare a b = walked-none P m visited (weighR v (rootBy x t 0)) (λ p. bare x a b (hit p)) (bare x a b some)

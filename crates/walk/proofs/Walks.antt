@@ -9,9 +9,11 @@ use native.Mathlib.Omega.{arith}
 use Rattle.sums.specs.Sum.{sum, sum-ext, sum-add, sum-swap, sum-suc, sum-zero}
 use Rattle.book.specs.Holders.{hit, some}
 use Rattle.book.specs.Image.{pages}
+use Rattle.laws.specs.Tree.{hit-zero, some-zero}
 use Rattle.walk.specs.declared.Walk.{Walk}
 use Rattle.walk.specs.declared.Walk.the-variants.{On, Met}
 use Rattle.walk.specs.Marks.{marked}
+use Rattle.walk.proofs.Marked.{marked-le}
 use Rattle.walk.specs.Walked.{Weigher, Walking, WalkedOn, Walked}
 
 -- W counts each page below P as often as it weighs it
@@ -25,17 +27,30 @@ unfolding Counts
 walking-on img m v W m′ x d c k =
     let s : sum (pages img) (marked m′) ≡ sum (pages img) (marked m) + sum (pages img) (λ p. W (hit p)) =
     sum-ext (pages img) (marked m′) (λ p. marked m p + W (hit p)) (k .more) ∙ sum-add (pages img) (marked m) (λ p. W (hit p)) in
-    record { size = k .kept ∙ d .size; few = d .few; counted = omega (arith, s, c, k .count, d .counted) }
+    record {
+      size = k .kept ∙ d .size;
+      few = d .few;
+      some = d .some;
+      master = omega (arith, k .more 0 (d .some), d .master, marked-le m′ 0);
+      counted = omega (arith, s, c, k .count, d .counted);
+    }
 
 module _ (P : ℕ) (m : List ℕ) (v : ℕ) where
   -- nothing to walk over
   pub walked-none : (W : Weigher) → ((p : ℕ) → W (hit p) ≡ 0) → W some ≡ 0 → Walked P m v W m (On v)
   walked-none W z n = record { more = λ p h. omega (arith, z p); count = omega (arith, n); kept = refl }
 
-  -- the same pages weighed otherwise
+  -- the same pages weighed otherwise, page 0 weighing nothing
+  pub walked-real : (W X : Weigher) → ((g : ℕ → ℕ) → g 0 ≡ 0 → W g ≡ X g) → (m′ : List ℕ) (r : Walk) → Walked P m v W m′ r → Walked P m v X m′ r
+  walked-real W X e m′ (On x) k = record {
+    more = λ p h. k .more p h ∙ ap (λ (y : ℕ). marked m p + y) (e (hit p) (hit-zero p));
+    count = k .count ∙ ap (λ (y : ℕ). v + y) (e some some-zero);
+    kept = k .kept;
+  }
+  walked-real W X e m′ Met k = (k .0, k .1, omega (arith, k .2, e (hit (k .0)) (hit-zero (k .0))))
+
   pub walked-same : (W X : Weigher) → ((g : ℕ → ℕ) → W g ≡ X g) → (m′ : List ℕ) (r : Walk) → Walked P m v W m′ r → Walked P m v X m′ r
-  walked-same W X e m′ (On x) k = record { more = λ p h. k .more p h ∙ ap (λ (y : ℕ). marked m p + y) (e (hit p)); count = k .count ∙ ap (λ (y : ℕ). v + y) (e some); kept = k .kept }
-  walked-same W X e m′ Met k = (k .0, k .1, omega (arith, k .2, e (hit (k .0))))
+  walked-same W X e = walked-real W X (λ g z. e g)
 
   -- a page met among some is met among more
   pub walked-met : (W X : Weigher) → ((p : ℕ) → W (hit p) ≤ X (hit p)) → (m′ m″ : List ℕ) → Walked P m v W m′ Met → Walked P m v X m″ Met
@@ -69,6 +84,14 @@ row-le f i (suc n) h = elim (ℕ-discrete i n) [
   | no ne ↦ omega (arith, row-le f i n (omega arith), sum-suc n f)
 ]
 
+-- what weighs nothing past n may be left out
+sum-past : (f : ℕ → ℕ) (n m : ℕ) → n ≤ m → ((i : ℕ) → n ≤ i → i < m → f i ≡ 0) → sum n f ≡ sum m f
+sum-past f n zero h z = ap (λ (x : ℕ). sum x f) (let e : n ≡ 0 = omega arith in e)
+sum-past f n (suc m) h z = elim (ℕ-discrete n (suc m)) [
+  | yes e ↦ ap (λ (x : ℕ). sum x f) e
+  | no ne ↦ omega (arith, sum-past f n m (omega arith) (λ i a b. z i a (omega arith)), sum-suc m f, z m (omega arith) (omega arith))
+]
+
 pub row-counts : (P : ℕ) (F : ℕ → Weigher) (n : ℕ) → ((i : ℕ) → i < n → Counts P (F i)) → Counts P (rowOf F n)
 unfolding Counts
 row-counts P F n h = sum-swap P n (λ p i. F i (hit p)) ∙ sum-ext n (λ i. sum P (λ p. F i (hit p))) (λ i. F i some) h
@@ -92,3 +115,6 @@ module _ (P : ℕ) (m : List ℕ) (v : ℕ) (F : ℕ → Weigher) where
 
   pub row-end : (i n : ℕ) (m′ : List ℕ) (x : ℕ) → i ≡ n → WalkedOn P m v (rowOf F i) m′ x → WalkedOn P m v (rowOf F n) m′ x
   row-end i n m′ x e k = subst (λ (j : ℕ). WalkedOn P m v (rowOf F j) m′ x) e k
+
+  pub row-past : (n k : ℕ) → n ≤ k → ((i : ℕ) → n ≤ i → i < k → (g : ℕ → ℕ) → g 0 ≡ 0 → F i g ≡ 0) → (m′ : List ℕ) (r : Walk) → Walked P m v (rowOf F n) m′ r → Walked P m v (rowOf F k) m′ r
+  row-past n k h z = walked-real P m v (rowOf F n) (rowOf F k) (λ g g0. sum-past (λ i. F i g) n k h (λ i a b. z i a b g g0))

@@ -10,11 +10,13 @@ use Rattle.laws.specs.Count.{Within}
 use Rattle.walk.specs.declared.Walk.{Walk}
 use Rattle.walk.specs.declared.Walk.the-variants.{On, Met}
 use Rattle.walk.specs.Marks.{marked}
+use Rattle.walk.specs.Short.{Shorts}
 
--- whole pages, and all trees are among them: rules 1, 2, 3, 5 and 7 say so
+-- whole pages, all trees among them and none longer than it may be: rules 1, 2, 3, 5 and 7 say so
 pub record Volume (img : List ℕ) : Type 0 where
   pub whole : Whole img
   pub within : Within (pages img) (vol img)
+  pub short : Shorts (vol img)
 
 -- each page is marked as often as it is held, and all are counted
 pub record HeldOn (P : ℕ) (v : Vol) (m : List ℕ) (x : ℕ) : Type 0 where

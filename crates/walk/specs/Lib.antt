@@ -1,4 +1,5 @@
 pub mod Marks
 pub mod Walked
+pub mod Short
 pub mod Files
 pub mod Held

@@ -22,7 +22,7 @@ pub record Newly (m : List ℕ) (p : ℕ) (m′ : List ℕ) : Type 0 where
   pub more : (q : ℕ) → marked m′ q ≡ marked m q + is p q
   pub kept : length m′ ≡ length m
 
--- what marking page p answers: that it is done, or that the page was marked already
+-- what marking page p answers: that it is done, or that the page was marked already and nothing is done
 abbrev pub Marking : List ℕ → ℕ → List ℕ → Bool → Type 0
 Marking m p m′ true = Newly m p m′
-Marking m p m′ false = marked m p ≡ 1
+Marking m p m′ false = (marked m p ≡ 1) × (m′ ≡ m)

@@ -15,10 +15,12 @@ use Rattle.walk.specs.Marks.{marked}
 abbrev pub Weigher : Type 0
 Weigher = (ℕ → ℕ) → ℕ
 
--- the marks have room for each page, and at least as many are marked as were visited
+-- the marks have room for each page, the master page is marked, and at least as many are marked as were visited
 pub record Walking (img m : List ℕ) (visited : ℕ) : Type 0 where
   pub size : length m ≡ 1024
   pub few : pages img ≤ mostPages
+  pub some : 0 < pages img
+  pub master : marked m 0 ≡ 1
   pub counted : visited ≤ sum (pages img) (marked m)
 
 -- none of them was marked or is there twice: now all are marked, and counted

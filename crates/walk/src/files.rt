@@ -18,12 +18,13 @@ ghost use Rattle.book.specs.Files.{fileAt};
 ghost use Rattle.book.specs.Holders.{mine};
 ghost use Rattle.book.specs.Image.{pages};
 ghost use Rattle.tree.specs.Reach.{Reach};
+ghost use Rattle.tree.specs.Ends.{Ends};
 ghost use Rattle.walk.specs.Walked.{Walking, Walked};
-ghost use Rattle.walk.specs.Files.{FilesBelow};
+ghost use Rattle.walk.specs.Files.{FilesFit};
 
 // Marks the pages of the file in object entry e, which lies on page q; an unused entry has none.
 fn mark_entry(img: &[u16], marks: &mut [u16; 1024], q: usize, e: usize, visited: u32) -> Walk
-    requires { ⌜ Walking (now img) (now marks) visited × FilesBelow (now img) × (e < 65536) × (q ≡ objectPage (vol (now img)) e) × (q < pages (now img)) ⌝ }
+    requires { ⌜ Walking (now img) (now marks) visited × FilesFit (now img) × (e < 65536) × (q ≡ objectPage (vol (now img)) e) × (q < pages (now img)) ⌝ }
     ensures { λ r. ⌜ Walked (pages (now (img .entry))) (now (marks .entry)) visited (weighR (vol (now (img .entry))) (fileAt (vol (now (img .entry))) e)) (now (marks .exit)) r ⌝ }
 {
     if !entry_used(img, q, e) {
@@ -37,7 +38,7 @@ fn mark_entry(img: &[u16], marks: &mut [u16; 1024], q: usize, e: usize, visited:
 
 // Marks the pages of the 32 files whose entries are on page q, which is the object file's page at position n.
 fn mark_entries(img: &[u16], marks: &mut [u16; 1024], q: usize, n: usize, visited: u32) -> Walk
-    requires { ⌜ Walking (now img) (now marks) visited × FilesBelow (now img) × (n < 2048) × (q ≡ pageAt (vol (now img)) (objectFile (vol (now img))) n) × (q < pages (now img)) ⌝ }
+    requires { ⌜ Walking (now img) (now marks) visited × FilesFit (now img) × (n < 2048) × (q ≡ pageAt (vol (now img)) (objectFile (vol (now img))) n) × (q < pages (now img)) ⌝ }
     ensures { λ r. ⌜ Walked (pages (now (img .entry))) (now (marks .entry)) visited (λ g. sum 32 (λ i. weighR (vol (now (img .entry))) (fileAt (vol (now (img .entry))) (32 * n + i)) g)) (now (marks .exit)) r ⌝ }
 {
     let mut v = visited;
@@ -65,7 +66,7 @@ fn mark_position(
     n: usize,
     visited: u32,
 ) -> Walk
-    requires { ⌜ Walking (now img) (now marks) visited × FilesBelow (now img) × (n < 2048) × (objectFile (vol (now img)) ≡ rootBy flags top 0) × Reach (now img) (rootBy flags top 0) ⌝ }
+    requires { ⌜ Walking (now img) (now marks) visited × FilesFit (now img) × (n < 2048) × (objectFile (vol (now img)) ≡ rootBy flags top 0) × Reach (now img) (rootBy flags top 0) ⌝ }
     ensures { λ r. ⌜ Walked (pages (now (img .entry))) (now (marks .entry)) visited (λ g. sum 32 (λ i. weighR (vol (now (img .entry))) (fileAt (vol (now (img .entry))) (32 * n + i)) g)) (now (marks .exit)) r ⌝ }
 {
     let q = root_page(img, flags, top, 0, n);
@@ -75,16 +76,16 @@ fn mark_position(
     mark_entries(img, marks, q, n, visited)
 }
 
-// Marks the pages of all files.
-pub fn mark_files(img: &[u16], marks: &mut [u16; 1024], visited: u32) -> Walk
-    requires { ⌜ Walking (now img) (now marks) visited × Reach (now img) (objectFile (vol (now img))) × FilesBelow (now img) ⌝ }
+// Marks the pages of all files. The object file ends at position `ends`.
+pub fn mark_files(img: &[u16], marks: &mut [u16; 1024], ends: usize, visited: u32) -> Walk
+    requires { ⌜ Walking (now img) (now marks) visited × Reach (now img) (objectFile (vol (now img))) × FilesFit (now img) × Ends (now img) ends ⌝ }
     ensures { λ r. ⌜ Walked (pages (now (img .entry))) (now (marks .entry)) visited (λ g. sum 256 (λ u. mine (vol (now (img .entry))) u g)) (now (marks .exit)) r ⌝ }
 {
     let flags = flags_at(img, 0, 1016);
     let top = page_at(img, 0, 1016) as usize;
     let mut v = visited;
     let mut n: usize = 0;
-    while n < 2048 {
+    while n < ends {
         match mark_position(img, marks, flags, top, n, v) {
             Walk::On { visited: x } => {
                 v = x;

@@ -1,26 +1,125 @@
 // The pages of a tree: marking a pointer calls marking a block, which marks each of its pointers; the level falls, so the walk ends.
+// Each is told how many positions there may be below it, so that it need not look at the pointers past them.
 use crate::Walk;
 use crate::marks::mark;
 use page::WORDS;
 use page::read::dword;
 ghost use mathlib.Core.Path.{_≡_};
-ghost use Prim.Native.Nat.{ℕ, _<_};
+ghost use Prim.Native.Nat.{ℕ, _-_, _*_, _^_, _≤_, _<_, min};
 ghost use lib.ListN.{length};
 ghost use Rattle.sums.specs.Sum.{sum};
 ghost use Rattle.book.specs.Words.{vol};
 ghost use Rattle.book.specs.Trees.{weigh, Below};
 ghost use Rattle.book.specs.Image.{pages};
 ghost use Rattle.walk.specs.Walked.{Walking, Walked, slotOf};
+ghost use Rattle.walk.specs.Short.{Short, share, Pointers, PointersBelow};
 
-// Marks the page that a pointer of this level names, and all below it. Pointer 0 names none.
+// Marks one page; page 0 is none. That the master page is marked spares each other page a test for 0.
+pub fn mark_page(img: &[u16], marks: &mut [u16; 1024], page: usize, visited: u32) -> Walk
+    requires { ⌜ Walking (now img) (now marks) visited × Below (vol (now img)) (pages (now img)) 0 page ⌝ }
+    ensures { λ r. ⌜ Walked (pages (now (img .entry))) (now (marks .entry)) visited (weigh (vol (now (img .entry))) 0 page) (now (marks .exit)) r ⌝ }
+{
+    if !mark(marks, page) {
+        if page == 0 {
+            return Walk::On { visited };
+        }
+        return Walk::Met;
+    }
+    Walk::On {
+        visited: visited + 1,
+    }
+}
+
+fn wide(x: u16) -> usize
+    ensures { λ r. ⌜ r ≡ x ⌝ }
+{
+    x as usize
+}
+
+// What pointer i of a block names where that is a page: the more significant word is zero then, and is not read.
+fn page_of(block: &[u16], i: usize) -> usize
+    requires { ⌜ (length (now block) ≡ 1024) × (i < 512) × (slotOf (now block) i < 65536) ⌝ }
+    ensures { λ r. ⌜ r ≡ slotOf (now (block .entry)) i ⌝ }
+{
+    wide(block[2 * i + 1])
+}
+
+// Marks the pages that a block's first n pointers name.
+fn mark_pages(img: &[u16], marks: &mut [u16; 1024], block: &[u16], n: usize, visited: u32) -> Walk
+    requires { ⌜ Walking (now img) (now marks) visited × PointersBelow (now img) (now block) 0 × (n ≤ 512) ⌝ }
+    ensures { λ r. ⌜ Walked (pages (now (img .entry))) (now (marks .entry)) visited (λ g. sum n (λ k. weigh (vol (now (img .entry))) 0 (slotOf (now (block .entry)) k) g)) (now (marks .exit)) r ⌝ }
+{
+    let mut v = visited;
+    let mut i: usize = 0;
+    while i < n {
+        let p = page_of(block, i);
+        match mark_page(img, marks, p, v) {
+            Walk::On { visited: x } => {
+                v = x;
+            }
+            Walk::Met => {
+                return Walk::Met;
+            }
+        }
+        i += 1;
+    }
+    Walk::On { visited: v }
+}
+
+fn least(a: usize, b: usize) -> usize
+    ensures { λ r. ⌜ r ≡ min a b ⌝ }
+{
+    if a < b {
+        return a;
+    }
+    b
+}
+
+// How many positions there can be under a pointer of this level.
+fn positions(level: usize) -> usize
+    requires { ⌜ level < 2 ⌝ }
+    ensures { λ r. ⌜ (r ≡ 512 ^ level) × (r ≤ 512) ⌝ }
+{
+    if level == 0 {
+        return 1;
+    }
+    512
+}
+
+// How many of a block's 512 pointers so many positions need.
+fn pointers(count: usize, level: usize) -> usize
+    requires { ⌜ level < 2 ⌝ }
+    ensures { λ r. ⌜ (r ≤ 512) × ((k : ℕ) → r ≤ k → k < 512 → count ≤ k * 512 ^ level) ⌝ }
+{
+    if level == 0 {
+        return least(count, 512);
+    }
+    (least(count, 262144) + 511) / 512
+}
+
+// How many of the positions are under pointer i.
+fn under(count: usize, level: usize, i: usize) -> usize
+    requires { ⌜ (level < 2) × (i < 512) ⌝ }
+    ensures { λ r. ⌜ r ≡ share level count i ⌝ }
+{
+    let each = positions(level);
+    let before = i * each;
+    if count <= before {
+        return 0;
+    }
+    least(count - before, each)
+}
+
+// Marks the block that a pointer of this level names, and all below it. Pointer 0 names none.
 pub fn mark_pointer(
     img: &[u16],
     marks: &mut [u16; 1024],
     page: usize,
     level: usize,
+    count: usize,
     visited: u32,
 ) -> Walk
-    requires { ⌜ Walking (now img) (now marks) visited × Below (vol (now img)) (pages (now img)) level page ⌝ }
+    requires { ⌜ Walking (now img) (now marks) visited × Below (vol (now img)) (pages (now img)) level page × Short (vol (now img)) level page count × (0 < level) × (level < 3) ⌝ }
     ensures { λ r. ⌜ Walked (pages (now (img .entry))) (now (marks .entry)) visited (weigh (vol (now (img .entry))) level page) (now (marks .exit)) r ⌝ }
 {
     if page == 0 {
@@ -29,34 +128,34 @@ pub fn mark_pointer(
     if !mark(marks, page) {
         return Walk::Met;
     }
-    if level == 0 {
-        return Walk::On {
-            visited: visited + 1,
-        };
-    }
     let a = WORDS * page;
     let z = a + WORDS;
-    mark_block(img, marks, &img[a..z], level - 1, visited + 1)
+    mark_block(img, marks, &img[a..z], level - 1, count, visited + 1)
 }
 
-// Marks what each of a block's 512 pointers names. The level is that of the pointers in the block.
+// Marks what a block's pointers name. The level is that of the pointers in the block.
 pub fn mark_block(
     img: &[u16],
     marks: &mut [u16; 1024],
     block: &[u16],
     level: usize,
+    count: usize,
     visited: u32,
 ) -> Walk
-    requires { ⌜ Walking (now img) (now marks) visited × (length (now block) ≡ 1024) × ((k : ℕ) → k < 512 → Below (vol (now img)) (pages (now img)) level (slotOf (now block) k)) ⌝ }
+    requires { ⌜ Walking (now img) (now marks) visited × PointersBelow (now img) (now block) level × Pointers (now img) (now block) level count × (level < 2) ⌝ }
     ensures { λ r. ⌜ Walked (pages (now (img .entry))) (now (marks .entry)) visited (λ g. sum 512 (λ k. weigh (vol (now (img .entry))) level (slotOf (now (block .entry)) k) g)) (now (marks .exit)) r ⌝ }
 {
+    let n = pointers(count, level);
+    if level == 0 {
+        return mark_pages(img, marks, block, n, visited);
+    }
     let mut v = visited;
     let mut i: usize = 0;
-    while i < 512 {
+    while i < n {
         let p = dword(block, 2 * i) as usize;
-        match mark_pointer(img, marks, p, level, v) {
-            Walk::On { visited: n } => {
-                v = n;
+        match mark_pointer(img, marks, p, level, under(count, level, i), v) {
+            Walk::On { visited: x } => {
+                v = x;
             }
             Walk::Met => {
                 return Walk::Met;

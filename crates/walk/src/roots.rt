@@ -1,5 +1,6 @@
 // The pages of a run, and of any root by the flags of its pointer.
 use crate::Walk;
+use crate::pages::mark_page;
 use crate::pages::mark_pointer;
 ghost use Prim.Native.Nat.{_+_, _≤_};
 ghost use Rattle.sums.specs.Sum.{sum};
@@ -8,6 +9,7 @@ ghost use Rattle.book.specs.Trees.{weighR, rootBy};
 ghost use Rattle.book.specs.Image.{pages};
 ghost use Rattle.laws.specs.Count.{BelowR};
 ghost use Rattle.walk.specs.Walked.{Walking, Walked};
+ghost use Rattle.walk.specs.Short.{ShortR};
 
 // Marks the pages of a run.
 pub fn mark_run(
@@ -23,7 +25,7 @@ pub fn mark_run(
     let mut v = visited;
     let mut i: usize = 0;
     while i < count {
-        match mark_pointer(img, marks, start + i, 0, v) {
+        match mark_page(img, marks, start + i, v) {
             Walk::On { visited: n } => {
                 v = n;
             }
@@ -36,6 +38,27 @@ pub fn mark_run(
     Walk::On { visited: v }
 }
 
+// Marks the tree of a pointer with these flags and this page, in which at most `count` positions are filled. One without flags has none.
+pub fn mark_tree(
+    img: &[u16],
+    marks: &mut [u16; 1024],
+    flags: u16,
+    top: usize,
+    count: usize,
+    visited: u32,
+) -> Walk
+    requires { ⌜ Walking (now img) (now marks) visited × BelowR (vol (now img)) (pages (now img)) (rootBy flags top 0) × ShortR (vol (now img)) (rootBy flags top 0) count ⌝ }
+    ensures { λ r. ⌜ Walked (pages (now (img .entry))) (now (marks .entry)) visited (weighR (vol (now (img .entry))) (rootBy flags top 0)) (now (marks .exit)) r ⌝ }
+{
+    if flags == 1 {
+        return mark_pointer(img, marks, top, 1, count, visited);
+    }
+    if flags == 2 {
+        return mark_pointer(img, marks, top, 2, count, visited);
+    }
+    Walk::On { visited }
+}
+
 // Marks the pages of the root with these flags, page and count.
 pub fn mark_root(
     img: &[u16],
@@ -45,17 +68,11 @@ pub fn mark_root(
     count: usize,
     visited: u32,
 ) -> Walk
-    requires { ⌜ Walking (now img) (now marks) visited × BelowR (vol (now img)) (pages (now img)) (rootBy flags top count) ⌝ }
+    requires { ⌜ Walking (now img) (now marks) visited × BelowR (vol (now img)) (pages (now img)) (rootBy flags top count) × ShortR (vol (now img)) (rootBy flags top count) count ⌝ }
     ensures { λ r. ⌜ Walked (pages (now (img .entry))) (now (marks .entry)) visited (weighR (vol (now (img .entry))) (rootBy flags top count)) (now (marks .exit)) r ⌝ }
 {
     if flags == 0 {
         return mark_run(img, marks, top, count, visited);
     }
-    if flags == 1 {
-        return mark_pointer(img, marks, top, 1, visited);
-    }
-    if flags == 2 {
-        return mark_pointer(img, marks, top, 2, visited);
-    }
-    Walk::On { visited }
+    mark_tree(img, marks, flags, top, count, visited)
 }

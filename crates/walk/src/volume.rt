@@ -2,8 +2,8 @@
 use crate::Walk;
 use crate::files::mark_files;
 use crate::marks::mark;
-use crate::roots::mark_root;
 use crate::roots::mark_run;
+use crate::roots::mark_tree;
 use page::read::flags_at;
 use page::read::page_at;
 ghost use mathlib.Core.Path.{_≡_};
@@ -14,6 +14,7 @@ ghost use Rattle.book.specs.Bits.{bitPages, bitFile};
 ghost use Rattle.book.specs.Entries.{userFile, objectFile};
 ghost use Rattle.book.specs.Holders.{system};
 ghost use Rattle.book.specs.Image.{pages as pagesOf};
+ghost use Rattle.tree.specs.Ends.{Ends};
 ghost use Rattle.walk.specs.Marks.{Unmarked};
 ghost use Rattle.walk.specs.Walked.{Walking, Walked};
 ghost use Rattle.walk.specs.Held.{Held, Volume};
@@ -42,49 +43,72 @@ fn mark_users(img: &[u16], marks: &mut [u16; 1024], visited: u32) -> Walk
 {
     let flags = flags_at(img, 0, 1018);
     let top = page_at(img, 0, 1018) as usize;
-    mark_root(img, marks, flags, top, 0, visited)
+    mark_tree(img, marks, flags, top, 8, visited)
+}
+
+// How many positions of the object file its blocks are looked at for: of a subindexed one all that it may have, since an index block may be there without pages.
+fn object_positions(flags: u16, ends: usize) -> usize
+    ensures { λ r. ⌜ (flags ≡ 1 → r ≡ ends) × ((flags ≡ 1 → ⊥) → r ≡ 2048) ⌝ }
+{
+    if flags == 1 {
+        return ends;
+    }
+    2048
 }
 
 // The pages of the object file.
-fn mark_objects(img: &[u16], marks: &mut [u16; 1024], visited: u32) -> Walk
-    requires { ⌜ Walking (now img) (now marks) visited × Volume (now img) ⌝ }
+fn mark_objects(img: &[u16], marks: &mut [u16; 1024], ends: usize, visited: u32) -> Walk
+    requires { ⌜ Walking (now img) (now marks) visited × Volume (now img) × Ends (now img) ends ⌝ }
     ensures { λ r. ⌜ Walked (pagesOf (now (img .entry))) (now (marks .entry)) visited (weighR (vol (now (img .entry))) (objectFile (vol (now (img .entry))))) (now (marks .exit)) r ⌝ }
 {
     let flags = flags_at(img, 0, 1016);
     let top = page_at(img, 0, 1016) as usize;
-    mark_root(img, marks, flags, top, 0, visited)
+    mark_tree(
+        img,
+        marks,
+        flags,
+        top,
+        object_positions(flags, ends),
+        visited,
+    )
 }
 
 // The pages of both.
-fn mark_entry_files(img: &[u16], marks: &mut [u16; 1024], visited: u32) -> Walk
-    requires { ⌜ Walking (now img) (now marks) visited × Volume (now img) ⌝ }
+fn mark_entry_files(img: &[u16], marks: &mut [u16; 1024], ends: usize, visited: u32) -> Walk
+    requires { ⌜ Walking (now img) (now marks) visited × Volume (now img) × Ends (now img) ends ⌝ }
     ensures { λ r. ⌜ Walked (pagesOf (now (img .entry))) (now (marks .entry)) visited (λ g. weighR (vol (now (img .entry))) (userFile (vol (now (img .entry)))) g + weighR (vol (now (img .entry))) (objectFile (vol (now (img .entry)))) g) (now (marks .exit)) r ⌝ }
 {
     match mark_users(img, marks, visited) {
-        Walk::On { visited: n } => mark_objects(img, marks, n),
+        Walk::On { visited: n } => mark_objects(img, marks, ends, n),
         Walk::Met => Walk::Met,
     }
 }
 
 // The system pages but the master page.
-fn mark_system(img: &[u16], marks: &mut [u16; 1024], pages: usize, visited: u32) -> Walk
-    requires { ⌜ Walking (now img) (now marks) visited × Volume (now img) × (pages ≡ pagesOf (now img)) ⌝ }
+fn mark_system(
+    img: &[u16],
+    marks: &mut [u16; 1024],
+    pages: usize,
+    ends: usize,
+    visited: u32,
+) -> Walk
+    requires { ⌜ Walking (now img) (now marks) visited × Volume (now img) × (pages ≡ pagesOf (now img)) × Ends (now img) ends ⌝ }
     ensures { λ r. ⌜ Walked (pagesOf (now (img .entry))) (now (marks .entry)) visited (system (pagesOf (now (img .entry))) (vol (now (img .entry)))) (now (marks .exit)) r ⌝ }
 {
     match mark_bits(img, marks, pages, visited) {
-        Walk::On { visited: n } => mark_entry_files(img, marks, n),
+        Walk::On { visited: n } => mark_entry_files(img, marks, ends, n),
         Walk::Met => Walk::Met,
     }
 }
 
-// Marks every page that is held, from no marks on.
-pub fn mark_all(img: &[u16], marks: &mut [u16; 1024], pages: usize) -> Walk
-    requires { ⌜ Unmarked (now marks) × Volume (now img) × (pages ≡ pagesOf (now img)) ⌝ }
+// Marks every page that is held, from no marks on. The object file ends at position `ends`.
+pub fn mark_all(img: &[u16], marks: &mut [u16; 1024], pages: usize, ends: usize) -> Walk
+    requires { ⌜ Unmarked (now marks) × Volume (now img) × (pages ≡ pagesOf (now img)) × Ends (now img) ends ⌝ }
     ensures { λ r. ⌜ Held (pagesOf (now (img .entry))) (vol (now (img .entry))) (now (marks .exit)) r ⌝ }
 {
     mark(marks, 0);
-    match mark_system(img, marks, pages, 1) {
-        Walk::On { visited: n } => mark_files(img, marks, n),
+    match mark_system(img, marks, pages, ends, 1) {
+        Walk::On { visited: n } => mark_files(img, marks, ends, n),
         Walk::Met => Walk::Met,
     }
 }

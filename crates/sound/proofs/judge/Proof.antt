@@ -1,80 +1,128 @@
+use native.Mathlib.Omega.{arith}
 use Rattle.book.specs.Decides.{holds, fails}
+use Rattle.laws.specs.Reach.{below-objects}
 use Rattle.sound.proofs.Laws.{low-1, low-2, low-3, low-4, low-5, low-6, low-7, late-judged}
 use borrow.Author.Needs.{needs}
 use Rattle.sound.proofs.judge.Statement.{statement}
 use Rattle.sound.proofs.judge.Tie as tie
-use Rattle.sound.proofs.judge.Reads as reads
-use Rattle.sound.proofs.judge.Lts as lts
-use Rattle.heads.proofs.master.rule1.Reads as rule1-reads
-use Rattle.heads.proofs.master.rule2.Reads as rule2-reads
-use Rattle.heads.proofs.master.rule3.Reads as rule3-reads
-use Rattle.heads.proofs.objects.rule5.Reads as rule5-reads
-use Rattle.heads.proofs.objects.rule6.Reads as rule6-reads
-use Rattle.heads.proofs.users.rule4.Reads as rule4-reads
-use Rattle.shape.proofs.rule7.rule7.Reads as rule7-reads
-use Rattle.sound.proofs.judge_held.Reads as judge-held-reads
 
--- src/lib.rt:39:9
 rule1-requires : tie.Need-rule1-requires
 rule1-requires c κs = search needs
 
--- src/lib.rt:40:9
 returns : tie.Need-returns
-returns c = low-1 _ _ (fails (c .before .rule1 .result) _ (c .before .rule1 .ensures) (c .if1 .taken))
+returns c =
+    low-1 _ _
+    (fails (c .before .rule1 .result) _ (c .before .rule1 .ensures) (c .if1 .taken))
 
--- src/lib.rt:42:9
 rule2-requires : tie.Need-rule2-requires
 rule2-requires c κs = search needs
 
--- src/lib.rt:43:9
 returns-2 : tie.Need-returns-2
-returns-2 c = low-2 _ _ (holds (c .before .before .before .rule1 .result) _ (c .before .before .before .rule1 .ensures) (c .before .before .if1 .left)) (fails (c .before .rule2 .result) _ (c .before .rule2 .ensures) (c .if2 .taken))
+returns-2 c =
+    low-2 _ _
+    (holds (c .before .before .before .rule1 .result) _ (c .before .before .before .rule1 .ensures) (c .before .before .if1 .left))
+    (fails (c .before .rule2 .result) _ (c .before .rule2 .ensures) (c .if2 .taken))
 
--- src/lib.rt:45:9
 rule3-requires : tie.Need-rule3-requires
 rule3-requires c κs = (c .before .before .before .before .before .pre, search needs, (holds (c .before .rule2 .result) _ (c .before .rule2 .ensures) (c .if2 .left)))
 
--- src/lib.rt:46:9
 returns-3 : tie.Need-returns-3
-returns-3 c = low-3 _ _ (holds (c .before .before .before .before .before .rule1 .result) _ (c .before .before .before .before .before .rule1 .ensures) (c .before .before .before .before .if1 .left)) (holds (c .before .before .before .rule2 .result) _ (c .before .before .before .rule2 .ensures) (c .before .before .if2 .left)) (fails (c .before .rule3 .result) _ (c .before .rule3 .ensures) (c .if3 .taken))
+returns-3 c =
+    low-3 _ _
+    (holds (c .before .before .before .before .before .rule1 .result) _ (c .before .before .before .before .before .rule1 .ensures) (c .before .before .before .before .if1 .left))
+    (holds (c .before .before .before .rule2 .result) _ (c .before .before .before .rule2 .ensures) (c .before .before .if2 .left))
+    (fails (c .before .rule3 .result) _ (c .before .rule3 .ensures) (c .if3 .taken))
 
--- src/lib.rt:48:9
 rule4-requires : tie.Need-rule4-requires
-rule4-requires c κs = (c .before .before .before .before .before .before .before .pre, (holds (c .before .before .before .rule2 .result) _ (c .before .before .before .rule2 .ensures) (c .before .before .if2 .left)), (holds (c .before .rule3 .result) _ (c .before .rule3 .ensures) (c .if3 .left)))
+rule4-requires c κs = (
+  c .before .before .before .before .before .before .before .pre,
+  (holds (c .before .before .before .rule2 .result) _ (c .before .before .before .rule2 .ensures) (c .before .before .if2 .left)),
+  (holds (c .before .rule3 .result) _ (c .before .rule3 .ensures) (c .if3 .left)),
+)
 
--- src/lib.rt:49:9
 returns-4 : tie.Need-returns-4
-returns-4 c = low-4 _ _ (holds (c .before .before .before .before .before .before .before .rule1 .result) _ (c .before .before .before .before .before .before .before .rule1 .ensures) (c .before .before .before .before .before .before .if1 .left)) (holds (c .before .before .before .before .before .rule2 .result) _ (c .before .before .before .before .before .rule2 .ensures) (c .before .before .before .before .if2 .left)) (holds (c .before .before .before .rule3 .result) _ (c .before .before .before .rule3 .ensures) (c .before .before .if3 .left)) (fails (c .before .rule4 .result) _ (c .before .rule4 .ensures) (c .if4 .taken))
+returns-4 c =
+    low-4 _ _
+    (holds (c .before .before .before .before .before .before .before .rule1 .result) _ (c .before .before .before .before .before .before .before .rule1 .ensures) (c .before .before .before .before .before .before .if1 .left))
+    (holds (c .before .before .before .before .before .rule2 .result) _ (c .before .before .before .before .before .rule2 .ensures) (c .before .before .before .before .if2 .left))
+    (holds (c .before .before .before .rule3 .result) _ (c .before .before .before .rule3 .ensures) (c .before .before .if3 .left))
+    (fails (c .before .rule4 .result) _ (c .before .rule4 .ensures) (c .if4 .taken))
 
--- src/lib.rt:51:9
 rule5-requires : tie.Need-rule5-requires
-rule5-requires c κs = (c .before .before .before .before .before .before .before .before .before .pre, search needs, (holds (c .before .before .before .before .before .rule2 .result) _ (c .before .before .before .before .before .rule2 .ensures) (c .before .before .before .before .if2 .left)), (holds (c .before .before .before .rule3 .result) _ (c .before .before .before .rule3 .ensures) (c .before .before .if3 .left)))
+rule5-requires c κs = (
+  c .before .before .before .before .before .before .before .before .before .pre,
+  search needs,
+  (holds (c .before .before .before .before .before .rule2 .result) _ (c .before .before .before .before .before .rule2 .ensures) (c .before .before .before .before .if2 .left)),
+  (holds (c .before .before .before .rule3 .result) _ (c .before .before .before .rule3 .ensures) (c .before .before .if3 .left)),
+)
 
--- src/lib.rt:52:9
 returns-5 : tie.Need-returns-5
-returns-5 c = low-5 _ _ (holds (c .before .before .before .before .before .before .before .before .before .rule1 .result) _ (c .before .before .before .before .before .before .before .before .before .rule1 .ensures) (c .before .before .before .before .before .before .before .before .if1 .left)) (holds (c .before .before .before .before .before .before .before .rule2 .result) _ (c .before .before .before .before .before .before .before .rule2 .ensures) (c .before .before .before .before .before .before .if2 .left)) (holds (c .before .before .before .before .before .rule3 .result) _ (c .before .before .before .before .before .rule3 .ensures) (c .before .before .before .before .if3 .left)) (holds (c .before .before .before .rule4 .result) _ (c .before .before .before .rule4 .ensures) (c .before .before .if4 .left)) (fails (c .before .rule5 .result) _ (c .before .rule5 .ensures) (c .if5 .taken))
+returns-5 c =
+    low-5 _ _
+    (holds (c .before .before .before .before .before .before .before .before .before .rule1 .result) _ (c .before .before .before .before .before .before .before .before .before .rule1 .ensures) (c .before .before .before .before .before .before .before .before .if1 .left))
+    (holds (c .before .before .before .before .before .before .before .rule2 .result) _ (c .before .before .before .before .before .before .before .rule2 .ensures) (c .before .before .before .before .before .before .if2 .left))
+    (holds (c .before .before .before .before .before .rule3 .result) _ (c .before .before .before .before .before .rule3 .ensures) (c .before .before .before .before .if3 .left))
+    (holds (c .before .before .before .rule4 .result) _ (c .before .before .before .rule4 .ensures) (c .before .before .if4 .left))
+    (fails (c .before .rule5 .result) _ (c .before .rule5 .ensures) (c .if5 .taken))
 
--- src/lib.rt:54:9
+object-ends-requires : tie.Need-object-ends-requires
+object-ends-requires c κs = record { some = omega (arith, (c .before .before .before .before .before .before .before .before .before .before .before .pre) .least); below = below-objects _ _ (holds (c .before .before .before .before .before .before .before .rule2 .result) _ (c .before .before .before .before .before .before .before .rule2 .ensures) (c .before .before .before .before .before .before .if2 .left)) (holds (c .before .rule5 .result) _ (c .before .rule5 .ensures) (c .if5 .left)) }
+
 rule6-requires : tie.Need-rule6-requires
-rule6-requires c κs = (c .before .before .before .before .before .before .before .before .before .before .before .pre, (holds (c .before .before .before .before .before .before .before .rule2 .result) _ (c .before .before .before .before .before .before .before .rule2 .ensures) (c .before .before .before .before .before .before .if2 .left)), (holds (c .before .before .before .before .before .rule3 .result) _ (c .before .before .before .before .before .rule3 .ensures) (c .before .before .before .before .if3 .left)), (holds (c .before .rule5 .result) _ (c .before .rule5 .ensures) (c .if5 .left)))
+rule6-requires c κs = (
+  c .before .before .before .before .before .before .before .before .before .before .before .before .pre,
+  (holds (c .before .before .before .before .before .before .before .before .rule2 .result) _ (c .before .before .before .before .before .before .before .before .rule2 .ensures) (c .before .before .before .before .before .before .before .if2 .left)),
+  (holds (c .before .before .before .before .before .before .rule3 .result) _ (c .before .before .before .before .before .before .rule3 .ensures) (c .before .before .before .before .before .if3 .left)),
+  (holds (c .before .before .rule5 .result) _ (c .before .before .rule5 .ensures) (c .before .if5 .left)),
+  c .object-ends .ensures,
+)
 
--- src/lib.rt:55:9
 returns-6 : tie.Need-returns-6
-returns-6 c = low-6 _ _ (holds (c .before .before .before .before .before .before .before .before .before .before .before .rule1 .result) _ (c .before .before .before .before .before .before .before .before .before .before .before .rule1 .ensures) (c .before .before .before .before .before .before .before .before .before .before .if1 .left)) (holds (c .before .before .before .before .before .before .before .before .before .rule2 .result) _ (c .before .before .before .before .before .before .before .before .before .rule2 .ensures) (c .before .before .before .before .before .before .before .before .if2 .left)) (holds (c .before .before .before .before .before .before .before .rule3 .result) _ (c .before .before .before .before .before .before .before .rule3 .ensures) (c .before .before .before .before .before .before .if3 .left)) (holds (c .before .before .before .before .before .rule4 .result) _ (c .before .before .before .before .before .rule4 .ensures) (c .before .before .before .before .if4 .left)) (holds (c .before .before .before .rule5 .result) _ (c .before .before .before .rule5 .ensures) (c .before .before .if5 .left)) (fails (c .before .rule6 .result) _ (c .before .rule6 .ensures) (c .if6 .taken))
+returns-6 c =
+    low-6 _ _
+    (holds (c .before .before .before .before .before .before .before .before .before .before .before .before .rule1 .result) _ (c .before .before .before .before .before .before .before .before .before .before .before .before .rule1 .ensures) (c .before .before .before .before .before .before .before .before .before .before .before .if1 .left))
+    (holds (c .before .before .before .before .before .before .before .before .before .before .rule2 .result) _ (c .before .before .before .before .before .before .before .before .before .before .rule2 .ensures) (c .before .before .before .before .before .before .before .before .before .if2 .left))
+    (holds (c .before .before .before .before .before .before .before .before .rule3 .result) _ (c .before .before .before .before .before .before .before .before .rule3 .ensures) (c .before .before .before .before .before .before .before .if3 .left))
+    (holds (c .before .before .before .before .before .before .rule4 .result) _ (c .before .before .before .before .before .before .rule4 .ensures) (c .before .before .before .before .before .if4 .left))
+    (holds (c .before .before .before .before .rule5 .result) _ (c .before .before .before .before .rule5 .ensures) (c .before .before .before .if5 .left))
+    (fails (c .before .rule6 .result) _ (c .before .rule6 .ensures) (c .if6 .taken))
 
--- src/lib.rt:57:9
 rule7-requires : tie.Need-rule7-requires
-rule7-requires c κs = (c .before .before .before .before .before .before .before .before .before .before .before .before .before .pre, search needs, (holds (c .before .before .before .before .before .before .before .before .before .rule2 .result) _ (c .before .before .before .before .before .before .before .before .before .rule2 .ensures) (c .before .before .before .before .before .before .before .before .if2 .left)), (holds (c .before .before .before .rule5 .result) _ (c .before .before .before .rule5 .ensures) (c .before .before .if5 .left)))
+rule7-requires c κs = (
+  c .before .before .before .before .before .before .before .before .before .before .before .before .before .before .pre,
+  search needs,
+  (holds (c .before .before .before .before .before .before .before .before .before .before .rule2 .result) _ (c .before .before .before .before .before .before .before .before .before .before .rule2 .ensures) (c .before .before .before .before .before .before .before .before .before .if2 .left)),
+  (holds (c .before .before .before .before .rule5 .result) _ (c .before .before .before .before .rule5 .ensures) (c .before .before .before .if5 .left)),
+  c .before .before .object-ends .ensures,
+)
 
--- src/lib.rt:58:9
 returns-7 : tie.Need-returns-7
-returns-7 c = low-7 _ _ (holds (c .before .before .before .before .before .before .before .before .before .before .before .before .before .rule1 .result) _ (c .before .before .before .before .before .before .before .before .before .before .before .before .before .rule1 .ensures) (c .before .before .before .before .before .before .before .before .before .before .before .before .if1 .left)) (holds (c .before .before .before .before .before .before .before .before .before .before .before .rule2 .result) _ (c .before .before .before .before .before .before .before .before .before .before .before .rule2 .ensures) (c .before .before .before .before .before .before .before .before .before .before .if2 .left)) (holds (c .before .before .before .before .before .before .before .before .before .rule3 .result) _ (c .before .before .before .before .before .before .before .before .before .rule3 .ensures) (c .before .before .before .before .before .before .before .before .if3 .left)) (holds (c .before .before .before .before .before .before .before .rule4 .result) _ (c .before .before .before .before .before .before .before .rule4 .ensures) (c .before .before .before .before .before .before .if4 .left)) (holds (c .before .before .before .before .before .rule5 .result) _ (c .before .before .before .before .before .rule5 .ensures) (c .before .before .before .before .if5 .left)) (holds (c .before .before .before .rule6 .result) _ (c .before .before .before .rule6 .ensures) (c .before .before .if6 .left)) (fails (c .before .rule7 .result) _ (c .before .rule7 .ensures) (c .if7 .taken))
+returns-7 c =
+    low-7 _ _
+    (holds (c .before .before .before .before .before .before .before .before .before .before .before .before .before .before .rule1 .result) _ (c .before .before .before .before .before .before .before .before .before .before .before .before .before .before .rule1 .ensures) (c .before .before .before .before .before .before .before .before .before .before .before .before .before .if1 .left))
+    (holds (c .before .before .before .before .before .before .before .before .before .before .before .before .rule2 .result) _ (c .before .before .before .before .before .before .before .before .before .before .before .before .rule2 .ensures) (c .before .before .before .before .before .before .before .before .before .before .before .if2 .left))
+    (holds (c .before .before .before .before .before .before .before .before .before .before .rule3 .result) _ (c .before .before .before .before .before .before .before .before .before .before .rule3 .ensures) (c .before .before .before .before .before .before .before .before .before .if3 .left))
+    (holds (c .before .before .before .before .before .before .before .before .rule4 .result) _ (c .before .before .before .before .before .before .before .before .rule4 .ensures) (c .before .before .before .before .before .before .before .if4 .left))
+    (holds (c .before .before .before .before .before .before .rule5 .result) _ (c .before .before .before .before .before .before .rule5 .ensures) (c .before .before .before .before .before .if5 .left))
+    (holds (c .before .before .before .rule6 .result) _ (c .before .before .before .rule6 .ensures) (c .before .before .if6 .left))
+    (fails (c .before .rule7 .result) _ (c .before .rule7 .ensures) (c .if7 .taken))
 
--- src/lib.rt:60:5
 judge-held-requires : tie.Need-judge-held-requires
-judge-held-requires c κs = (c .before .before .before .before .before .before .before .before .before .before .before .before .before .before .before .pre, search needs, record { r1 = (holds (c .before .before .before .before .before .before .before .before .before .before .before .before .before .rule1 .result) _ (c .before .before .before .before .before .before .before .before .before .before .before .before .before .rule1 .ensures) (c .before .before .before .before .before .before .before .before .before .before .before .before .if1 .left)); r2 = (holds (c .before .before .before .before .before .before .before .before .before .before .before .rule2 .result) _ (c .before .before .before .before .before .before .before .before .before .before .before .rule2 .ensures) (c .before .before .before .before .before .before .before .before .before .before .if2 .left)); r3 = (holds (c .before .before .before .before .before .before .before .before .before .rule3 .result) _ (c .before .before .before .before .before .before .before .before .before .rule3 .ensures) (c .before .before .before .before .before .before .before .before .if3 .left)); r4 = (holds (c .before .before .before .before .before .before .before .rule4 .result) _ (c .before .before .before .before .before .before .before .rule4 .ensures) (c .before .before .before .before .before .before .if4 .left)); r5 = (holds (c .before .before .before .before .before .rule5 .result) _ (c .before .before .before .before .before .rule5 .ensures) (c .before .before .before .before .if5 .left)); r6 = (holds (c .before .before .before .rule6 .result) _ (c .before .before .before .rule6 .ensures) (c .before .before .if6 .left)); r7 = (holds (c .before .rule7 .result) _ (c .before .rule7 .ensures) (c .if7 .left)) })
+judge-held-requires c κs = (
+  c .before .before .before .before .before .before .before .before .before .before .before .before .before .before .before .before .pre,
+  search needs,
+  record {
+    r1 = (holds (c .before .before .before .before .before .before .before .before .before .before .before .before .before .before .rule1 .result) _ (c .before .before .before .before .before .before .before .before .before .before .before .before .before .before .rule1 .ensures) (c .before .before .before .before .before .before .before .before .before .before .before .before .before .if1 .left));
+    r2 = (holds (c .before .before .before .before .before .before .before .before .before .before .before .before .rule2 .result) _ (c .before .before .before .before .before .before .before .before .before .before .before .before .rule2 .ensures) (c .before .before .before .before .before .before .before .before .before .before .before .if2 .left));
+    r3 = (holds (c .before .before .before .before .before .before .before .before .before .before .rule3 .result) _ (c .before .before .before .before .before .before .before .before .before .before .rule3 .ensures) (c .before .before .before .before .before .before .before .before .before .if3 .left));
+    r4 = (holds (c .before .before .before .before .before .before .before .before .rule4 .result) _ (c .before .before .before .before .before .before .before .before .rule4 .ensures) (c .before .before .before .before .before .before .before .if4 .left));
+    r5 = (holds (c .before .before .before .before .before .before .rule5 .result) _ (c .before .before .before .before .before .before .rule5 .ensures) (c .before .before .before .before .before .if5 .left));
+    r6 = (holds (c .before .before .before .rule6 .result) _ (c .before .before .before .rule6 .ensures) (c .before .before .if6 .left));
+    r7 = (holds (c .before .rule7 .result) _ (c .before .rule7 .ensures) (c .if7 .left));
+  },
+  c .before .before .before .before .object-ends .ensures,
+)
 
--- src/lib.rt:34:1
 returns-8 : tie.Need-returns-8
 returns-8 c = late-judged _ _ (judge-held-requires (c .before) (c .judge-held .lifetimes) .2) (c .judge-held .result) (c .judge-held .ensures)
 
@@ -92,6 +140,7 @@ judge-spec =
     returns-4
     rule5-requires
     returns-5
+    object-ends-requires
     rule6-requires
     returns-6
     rule7-requires

@@ -2,7 +2,7 @@ use mathlib.Core.List.{[]}
 use native.Mathlib.Omega.{arith}
 use Rattle.book.specs.Decides.{holds, fails}
 use Rattle.walk.proofs.Judged.{held-on, held-met, met-rule8, held-rule8, held-visits}
-use Rattle.sound.proofs.Laws.{early-within, late-8, late-9, late-10, nine-bits, bits-nine, bits-here, bit-below}
+use Rattle.sound.proofs.Laws.{early-within, early-short, late-8, late-9, late-10, nine-bits, bits-nine, bits-here, bit-below}
 use borrow.Author.Needs.{needs}
 use Rattle.sound.proofs.judge_held.Statement.{statement}
 use Rattle.sound.proofs.judge_held.Tie as tie
@@ -20,7 +20,9 @@ no-marks-requires c κs = search needs
 
 -- src/lib.rt:19:9
 mark-all-requires : tie.Need-mark-all-requires
-mark-all-requires c κs = (c .before .no-marks .ensures, record { whole = c .before .before .before .pre .0; within = early-within _ _ (c .before .before .before .pre .2) }, c .before .before .before .pre .1)
+mark-all-requires c κs =
+    let s = c .before .before .before in
+    (c .before .no-marks .ensures, record { whole = s .pre .0; within = early-within _ _ (s .pre .2); short = early-short _ _ (s .pre .2) }, s .pre .1, s .pre .3)
 
 -- src/lib.rt:20:20
 enum-known-w : tie.Need-enum-known-w
@@ -57,7 +59,7 @@ returns-2 c =
 
 -- src/lib.rt:27:9
 rule10-requires : tie.Need-rule10-requires
-rule10-requires c κs = let s = c .before .before .before .before .before .before .before .before .before .before .before in let E = s .pre .2 in (s .pre .0, s .pre .1, E .r2, E .r3, E .r5, E .r7, (held-on _ _ _ (c .before .before .before .before .before .before .before .mark-all .result) (c .before .before .before .before .before .before .before .mark-all .ensures) _ (c .before .before .before .before .before .w .given .1)) .count)
+rule10-requires c κs = let s = c .before .before .before .before .before .before .before .before .before .before .before in let E = s .pre .2 in (s .pre .0, s .pre .1, E .r2, E .r3, E .r5, E .r6, E .r7, (held-on _ _ _ (c .before .before .before .before .before .before .before .mark-all .result) (c .before .before .before .before .before .before .before .mark-all .ensures) _ (c .before .before .before .before .before .w .given .1)) .count, s .pre .3)
 
 -- src/lib.rt:28:9
 returns-3 : tie.Need-returns-3

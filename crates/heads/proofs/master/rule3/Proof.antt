@@ -20,7 +20,7 @@ cast-top c = search needs
 block-ok-requires : tie.Need-block-ok-requires
 block-ok-requires c κs =
     let s = c .before .before in
-    record { count = search needs; inside = omega (arith, users-inside _ _ (s .pre .2) (omega arith)) }
+    (record { count = search needs; most = omega arith; inside = omega (arith, users-inside _ _ (s .pre .2) (omega arith)) }, omega arith)
 
 returns : tie.Need-returns
 unfolding Rule3 Slots

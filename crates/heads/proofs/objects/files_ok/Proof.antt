@@ -11,10 +11,10 @@ use Rattle.heads.proofs.objects.files_ok.Statement.{statement}
 use Rattle.heads.proofs.objects.files_ok.Tie as tie
 
 abbrev Inv-loop : tie.InvT-loop
-Inv-loop img flags top users end first₀ first = (first ≤ 256 * users) × (first % 32 ≡ 0) × Span (FileFine (user (vol img)) (entry (vol img) (rootBy flags top 0))) 0 first
+Inv-loop img flags top ends end first₀ first = (first ≤ 32 * ends) × (first % 32 ≡ 0) × Span (FileFine (user (vol img)) (entry (vol img) (rootBy flags top 0))) 0 first
 
 abbrev μ-loop : tie.MeasureT-loop
-μ-loop img flags top users end first₀ first = 256 * users - first
+μ-loop img flags top ends end first₀ first = 32 * ends - first
 
 mul-end : tie.Need-mul-end Inv-loop μ-loop
 mul-end c = omega arith
@@ -26,7 +26,7 @@ page-ok-requires : tie.Need-page-ok-requires Inv-loop μ-loop
 page-ok-requires c κs = (c .before .before .before .pre .0, c .before .before .before .pre .1, omega arith, omega arith)
 
 returns : tie.Need-returns Inv-loop μ-loop
-returns c = λ s. fails (c .before .page-ok .result) _ (c .before .page-ok .ensures) (c .if1 .taken) (span-part _ 0 _ _ (256 * (c .before .before .before .before .before .args .users)) (omega arith) (omega arith) s)
+returns c = λ s. fails (c .before .page-ok .result) _ (c .before .page-ok .ensures) (c .if1 .taken) (span-part _ 0 _ _ (32 * (c .before .before .before .before .before .args .ends)) (omega arith) (omega arith) s)
 
 add-first : tie.Need-add-first Inv-loop μ-loop
 add-first c = omega arith
@@ -39,7 +39,7 @@ loop-again c = (omega arith, omega arith, span-join _ _ _ _ (c .before .before .
 
 returns-2 : tie.Need-returns-2 Inv-loop μ-loop
 returns-2 c =
-    let a = c .before .before .before .args in let v = vol (a .img .now) in let l = c .before .loop in let e : l .first ≡ 256 * (a .users) = omega arith in
+    let a = c .before .before .before .args in let v = vol (a .img .now) in let l = c .before .loop in let e : l .first ≡ 32 * a .ends = omega arith in
     subst (λ (z : ℕ). Span (FileFine (user v) (entry v (rootBy (a .flags) (a .top) 0))) 0 z) e (l .inv .2)
 
 pub files-ok-spec : {M : Type 1} → statement M

@@ -24,7 +24,9 @@ slot-at-requires c κs = omega arith
 
 block-ok-requires : tie.Need-block-ok-requires Inv-loop μ-loop
 unfolding Slots
-block-ok-requires c κs = record { count = c .before .before .before .before .pre .0 .count; inside = omega (arith, c .slot-at .ensures .0, c .before .before .before .before .pre .1 (c .before .before .loop .i) (omega arith) .0) }
+block-ok-requires c κs =
+    let s = c .before .before .before .before in
+    (record { count = s .pre .0 .count; most = s .pre .0 .most; inside = omega (arith, c .slot-at .ensures .0, s .pre .1 (c .before .before .loop .i) (omega arith) .0) }, omega arith)
 
 returns : tie.Need-returns Inv-loop μ-loop
 returns c =

@@ -20,7 +20,7 @@ cast-top c = search needs
 block-ok-requires : tie.Need-block-ok-requires
 block-ok-requires c κs =
     let s = c .before .before .before .before in
-    record { count = s .pre .1; inside = omega (arith, objects-inside _ _ (s .pre .2) (omega arith), c .before .page-at .ensures .0) }
+    (record { count = s .pre .1; most = omega arith; inside = omega (arith, objects-inside _ _ (s .pre .2) (omega arith), c .before .page-at .ensures .0) }, omega arith)
 
 returns : tie.Need-returns
 returns c =
@@ -40,7 +40,7 @@ returns-2 c =
 block-ok-requires-2 : tie.Need-block-ok-requires-2
 block-ok-requires-2 c κs =
     let s = c .before .before .before .before .before in
-    record { count = s .pre .1; inside = omega (arith, objects-inside _ _ (s .pre .2) (omega arith), c .before .before .page-at .ensures .0) }
+    (record { count = s .pre .1; most = omega arith; inside = omega (arith, objects-inside _ _ (s .pre .2) (omega arith), c .before .before .page-at .ensures .0) }, omega arith)
 
 returns-3 : tie.Need-returns-3
 returns-3 c =
@@ -50,7 +50,7 @@ returns-3 c =
 indexes-ok-requires : tie.Need-indexes-ok-requires
 indexes-ok-requires c κs =
     let s = c .before .before .before .before .before .before .before in (
-      record { count = s .pre .1; inside = omega (arith, objects-inside _ _ (s .pre .2) (omega arith), c .before .before .before .before .page-at .ensures .0) },
+      record { count = s .pre .1; most = omega arith; inside = omega (arith, objects-inside _ _ (s .pre .2) (omega arith), c .before .before .before .before .page-at .ensures .0) },
       holds (c .before .block-ok2 .result) _ (c .before .block-ok2 .ensures) (c .if4 .left),
     )
 

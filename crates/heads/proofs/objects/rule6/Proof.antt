@@ -1,8 +1,7 @@
-use native.Mathlib.Omega.{arith}
-use Rattle.book.specs.Words.{vol}
 use Rattle.book.specs.Decides.{holds, fails}
 use Rattle.heads.proofs.Heads.{users-reach, objects-reached}
 use Rattle.heads.proofs.Judged.{rule6-wrong, rule6-right}
+use native.Mathlib.Omega.{arith}
 use borrow.Author.Needs.{needs}
 use Rattle.heads.proofs.objects.rule6.Statement.{statement}
 use Rattle.heads.proofs.objects.rule6.Tie as tie
@@ -16,39 +15,37 @@ page-at-requires c κs = search needs
 cast-top : tie.Need-cast-top
 cast-top c = search needs
 
-owners-requires : tie.Need-owners-requires
-owners-requires c κs = search needs
-
 files-ok-requires : tie.Need-files-ok-requires
 files-ok-requires c κs =
-    let s = c .before .before .before .before in (
+    let s = c .before .before .before in (
       users-reach _ (omega arith) (s .pre .1) (s .pre .2),
-      objects-reached _ (omega arith) (s .pre .1) (s .pre .3) (c .before .before .flags-at .result) (c .before .page-at .result) (c .before .before .flags-at .ensures .0) (c .before .page-at .ensures .0),
-      c .owners .ensures .most,
+      objects-reached _ (omega arith) (s .pre .1) (s .pre .3) (c .before .flags-at .result) (c .page-at .result) (c .before .flags-at .ensures .0) (c .page-at .ensures .0),
+      s .pre .4 .most,
     )
 
 returns : tie.Need-returns
 returns c =
-    let f = c .before .before .before .before .flags-at in let p = c .before .before .before .page-at in
-    rule6-wrong (vol (c .before .before .before .before .before .before .args .img .now)) (f .result) (p .result) (c .before .before .owners .result) (c .before .before .owners .ensures) (f .ensures .0) (p .ensures .0)
+    let s = c .before .before .before .before .before in let f = c .before .before .before .flags-at in let p = c .before .before .page-at in
+    rule6-wrong (s .args .img .now) (f .result) (p .result) (s .args .ends) (s .pre .4) (f .ensures .0) (p .ensures .0)
     (fails (c .before .files-ok .result) _ (c .before .files-ok .ensures) (c .if1 .taken))
 
 room-requires : tie.Need-room-requires
 room-requires c κs = search needs
 
+owners-requires : tie.Need-owners-requires
+owners-requires c κs = search needs
+
 all-apart-requires : tie.Need-all-apart-requires
 all-apart-requires c κs =
-    let s = c .before .before .before .before .before .before .before .before in (
-      objects-reached _ (omega arith) (s .pre .1) (s .pre .3) (c .before .before .before .before .before .before .flags-at .result) (c .before .before .before .before .before .page-at .result) (c .before .before .before .before .before .before .flags-at .ensures .0) (c .before .before .before .before .before .page-at .ensures .0),
-      c .before .before .before .before .owners .ensures .most,
-      c .before .room .ensures,
-    )
+    let s = c .before .before .before .before .before .before .before .before in let f = c .before .before .before .before .before .before .flags-at in let p = c .before .before .before .before .before .page-at in
+    (objects-reached _ (omega arith) (s .pre .1) (s .pre .3) (f .result) (p .result) (f .ensures .0) (p .ensures .0), c .owners .ensures .0, c .before .before .room .ensures)
 
 returns-2 : tie.Need-returns-2
 returns-2 c =
-    let f = c .before .before .before .before .before .before .before .flags-at in let p = c .before .before .before .before .before .before .page-at in
-    rule6-right (vol (c .before .before .before .before .before .before .before .before .before .args .img .now)) (f .result) (p .result) (c .before .before .before .before .before .owners .result) (c .before .before .before .before .before .owners .ensures) (f .ensures .0) (p .ensures .0) (c .all-apart .result)
-    (holds (c .before .before .before .before .files-ok .result) _ (c .before .before .before .before .files-ok .ensures) (c .before .before .before .if1 .left)) (c .all-apart .ensures)
+    let s = c .before .before .before .before .before .before .before .before .before in let f = c .before .before .before .before .before .before .before .flags-at in let p = c .before .before .before .before .before .before .page-at in
+    let w = c .before .owners in let o = c .before .before .before .before .before .files-ok in
+    rule6-right (s .args .img .now) (f .result) (p .result) (s .args .ends) (s .pre .4) (f .ensures .0) (p .ensures .0) (w .result) (w .ensures .0) (w .ensures .1) (c .all-apart .result)
+    (holds (o .result) _ (o .ensures) (c .before .before .before .before .if1 .left)) (c .all-apart .ensures)
 
 pub rule6-spec : {M : Type 1} → statement M
 rule6-spec =
@@ -57,9 +54,9 @@ rule6-spec =
     flags-at-requires
     page-at-requires
     cast-top
-    owners-requires
     files-ok-requires
     returns
     room-requires
+    owners-requires
     all-apart-requires
     returns-2)

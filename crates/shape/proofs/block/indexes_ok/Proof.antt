@@ -5,7 +5,7 @@ use Rattle.book.specs.Image.{pages}
 use Rattle.book.specs.Words.{vol}
 use Rattle.shape.specs.Seen.{Known}
 use Rattle.shape.specs.Shapes.{Filled, Indexes}
-use Rattle.shape.proofs.Blocks.{pointer-read}
+use Rattle.tree.proofs.Blocks.{pointer-read}
 use Rattle.shape.proofs.Memory.{tested-no, tested-yes, passed, failed}
 use native.Mathlib.Omega.{arith}
 use Rattle.shape.proofs.block.indexes_ok.Statement.{statement}

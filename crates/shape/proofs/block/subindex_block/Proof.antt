@@ -2,7 +2,8 @@ use Prim.Native.Nat.{_+_, _/_}
 use Rattle.book.specs.Decides.{decides-and}
 use Rattle.book.specs.Image.{pages}
 use Rattle.book.specs.Words.{vol}
-use Rattle.shape.specs.Shapes.{Unlinked, Indexes}
+use Rattle.tree.specs.Blocks.{Unlinked}
+use Rattle.shape.specs.Shapes.{Indexes}
 use Rattle.shape.proofs.Memory.{tested-no, tested-by, passed, failed}
 use borrow.Author.Needs.{needs}
 use Rattle.shape.proofs.block.subindex_block.Statement.{statement}

@@ -1,6 +1,7 @@
+use mathlib.Core.Path.{_∙_}
 use Rattle.book.specs.Image.{pages}
 use Rattle.book.specs.Words.{vol}
-use Rattle.shape.proofs.Users.{decides-sum}
+use Rattle.shape.proofs.Users.{grants-sum, taken-sum, decides-sum}
 use borrow.Author.Needs.{needs}
 use Rattle.shape.proofs.rule10.sum_ok.Statement.{statement}
 use Rattle.shape.proofs.rule10.sum_ok.Tie as tie
@@ -11,8 +12,11 @@ two-at-requires c κs = search needs
 cast-unreserved : tie.Need-cast-unreserved
 cast-unreserved c = search needs
 
-grants-requires : tie.Need-grants-requires
-grants-requires c κs = search needs
+users-sum-requires : tie.Need-users-sum-requires
+users-sum-requires c κs = search needs
+
+users-sum-requires-2 : tie.Need-users-sum-requires-2
+users-sum-requires-2 c κs = search needs
 
 add-result : tie.Need-add-result
 add-result c = search needs
@@ -25,8 +29,9 @@ add-result-3 c = search needs
 
 returns : tie.Need-returns
 returns c =
-    let s = c .before .before .before in let a = s .args in
-    decides-sum (pages (a .img .now)) (vol (a .img .now)) _ _ (a .visits) (a .total) (a .held) (c .before .two-at .ensures .0) (c .grants .ensures .0) (s .pre .3) (s .pre .1) (s .pre .4)
+    let s = c .before .before .before .before in let P = pages (s .args .img .now) in let v = vol (s .args .img .now) in
+    decides-sum P v _ _ (s .args .visits) (s .args .total) _ (c .before .before .two-at .ensures .0) (c .before .users-sum .ensures .0 ∙ grants-sum v) (s .pre .3) (s .pre .1)
+    (c .users-sum2 .ensures .0 ∙ taken-sum P v (s .pre .4) (s .pre .5) (s .pre .6))
 
 pub sum-ok-spec : {M : Type 1} → statement M
 sum-ok-spec =
@@ -34,7 +39,8 @@ sum-ok-spec =
     (tie.spec
     two-at-requires
     cast-unreserved
-    grants-requires
+    users-sum-requires
+    users-sum-requires-2
     add-result
     add-result-2
     add-result-3

@@ -1,4 +1,4 @@
-use mathlib.Core.Path.{sym, _∙_}
+use mathlib.Core.Path.{refl, sym, _∙_}
 use native.Mathlib.Omega.{arith}
 use Rattle.walk.specs.Marks.{marked}
 use Rattle.walk.proofs.Marked.{marked-le, mark-new}
@@ -17,7 +17,7 @@ bit-of-requires c κs = search needs
 
 returns : tie.Need-returns
 unfolding marked
-returns c = let a = c .before .before .before .args in omega (arith, c .before .bit-of .ensures, c .if1 .taken, marked-le (a .marks .now) (a .p))
+returns c = let a = c .before .before .before .args in (omega (arith, c .before .bit-of .ensures, c .if1 .taken, marked-le (a .marks .now) (a .p)), refl)
 
 with-bit-requires : tie.Need-with-bit-requires
 with-bit-requires c κs = search needs

@@ -19,11 +19,11 @@ abbrev μ-loop : tie.MeasureT-loop
 loop-holds : tie.Need-loop-holds Inv-loop μ-loop
 loop-holds c = (omega arith, row-start _ _ _ _)
 
-add-mark-pointer : tie.Need-add-mark-pointer Inv-loop μ-loop
-add-mark-pointer c = search needs
+add-mark-page : tie.Need-add-mark-page Inv-loop μ-loop
+add-mark-page c = search needs
 
-mark-pointer-requires : tie.Need-mark-pointer-requires Inv-loop μ-loop
-mark-pointer-requires c κs =
+mark-page-requires : tie.Need-mark-page-requires Inv-loop μ-loop
+mark-page-requires c κs =
     let s = c .before .before .before .before in let a = s .args in let l = c .before .before .loop in
     (run-walking _ _ _ (s .pre .1) _ _ _ _ _ (l .inv .0) (s .pre .0) (l .inv .1), page-below _ _ _ (omega arith))
 
@@ -36,7 +36,7 @@ enum-told c = c .match .keys2
 returns : tie.Need-returns Inv-loop μ-loop
 returns c =
     let s = c .before .before .before .before .before .before .before in let a = s .args in let l = c .before .before .before .before .before .loop in
-    row-met _ _ _ (runOf (a .start)) (l .i) _ _ (l .inv .1) _ (page-weigh (vol (a .img .now)) _) _ _ (c .before .before .mark-pointer .ensures) (c .enum-told .given .1) (a .count) (omega arith) (a .marks .now)
+    row-met _ _ _ (runOf (a .start)) (l .i) _ _ (l .inv .1) _ (page-weigh (vol (a .img .now)) _) _ _ (c .before .before .mark-page .ensures) (c .enum-told .given .1) (a .count) (omega arith) (a .marks .now)
 
 add-i : tie.Need-add-i Inv-loop μ-loop
 add-i c = search needs
@@ -47,7 +47,7 @@ loop-less c = search needs
 loop-again : tie.Need-loop-again Inv-loop μ-loop
 loop-again c =
     let s = c .before .before .before .before .before .before .before .before in let a = s .args in let l = c .before .before .before .before .before .before .loop in
-    (omega arith, row-on _ _ _ (runOf (a .start)) (l .i) _ _ (l .inv .1) _ (page-weigh (vol (a .img .now)) _) _ _ (c .before .before .before .mark-pointer .ensures) _ (c .before .n .given .1))
+    (omega arith, row-on _ _ _ (runOf (a .start)) (l .i) _ _ (l .inv .1) _ (page-weigh (vol (a .img .now)) _) _ _ (c .before .before .before .mark-page .ensures) _ (c .before .n .given .1))
 
 returns-2 : tie.Need-returns-2 Inv-loop μ-loop
 returns-2 c =
@@ -61,8 +61,8 @@ mark-run-spec =
     Inv-loop
     μ-loop
     loop-holds
-    add-mark-pointer
-    mark-pointer-requires
+    add-mark-page
+    mark-page-requires
     enum-known-n
     enum-told
     returns

@@ -5,7 +5,7 @@ use Rattle.book.specs.Image.{pages}
 use Rattle.book.specs.Words.{vol}
 use Rattle.walk.specs.declared.Walk.the-variants.{Met}
 use Rattle.walk.proofs.Walks.{marked-on, then-on, then-met, walking-on}
-use Rattle.walk.proofs.Holding.{system-counts, files-below, objects-reach, first-mark, first-walking, held}
+use Rattle.walk.proofs.Holding.{system-counts, files-fit, objects-reach, first-mark, first-walking, held}
 use Rattle.walk.proofs.volume.mark_all.Statement.{statement}
 use Rattle.walk.proofs.volume.mark_all.Tie as tie
 
@@ -15,7 +15,7 @@ mark-requires c κs = (omega arith, c .before .before .pre .0 .size)
 mark-system-requires : tie.Need-mark-system-requires
 mark-system-requires c κs =
     let s = c .before .before .before .before in let a = s .args in let v = vol (a .img .now) in let P = pages (a .img .now) in let m = a .marks .now in
-    (first-walking m (s .pre .0) _ (first-mark m (s .pre .0) _ (c .before .mark .result) (c .before .mark .ensures)) (a .img .now) (s .pre .1), s .pre .1, s .pre .2)
+    (first-walking m (s .pre .0) _ (first-mark m (s .pre .0) _ (c .before .mark .result) (c .before .mark .ensures)) (a .img .now) (s .pre .1), s .pre .1, s .pre .2, s .pre .3)
 
 enum-known-n : tie.Need-enum-known-n
 enum-known-n c = c .match .keys1
@@ -25,7 +25,8 @@ mark-files-requires c κs =
     let s = c .before .before .before .before .before .before .before .before .before in let a = s .args in let v = vol (a .img .now) in let P = pages (a .img .now) in let m = a .marks .now in (
       walking-on (a .img .now) _ 1 _ _ _ (first-walking m (s .pre .0) _ (first-mark m (s .pre .0) _ (c .before .before .before .before .before .before .mark .result) (c .before .before .before .before .before .before .mark .ensures)) (a .img .now) (s .pre .1)) (system-counts (a .img .now) (s .pre .1)) (marked-on P _ 1 _ (c .before .before .before .before .mark-system .last .1 .0) (c .before .before .before .before .mark-system .result) (c .before .before .before .before .mark-system .ensures) _ (c .before .before .n .given .1)),
       objects-reach (a .img .now) (s .pre .1),
-      files-below (a .img .now) (s .pre .1),
+      files-fit (a .img .now) (s .pre .1),
+      s .pre .3,
     )
 
 enum-told : tie.Need-enum-told

@@ -8,7 +8,7 @@ use Rattle.walk.proofs.volume.mark_entry_files.Statement.{statement}
 use Rattle.walk.proofs.volume.mark_entry_files.Tie as tie
 
 mark-users-requires : tie.Need-mark-users-requires
-mark-users-requires c κs = c .before .before .pre
+mark-users-requires c κs = let s = c .before .before in (s .pre .0, s .pre .1)
 
 enum-known-n : tie.Need-enum-known-n
 enum-known-n c = c .match .keys1
@@ -16,7 +16,7 @@ enum-known-n c = c .match .keys1
 mark-objects-requires : tie.Need-mark-objects-requires
 mark-objects-requires c κs =
     let s = c .before .before .before .before .before .before .before in let a = s .args in let v = vol (a .img .now) in let P = pages (a .img .now) in let m = a .marks .now in
-    (walking-on (a .img .now) m (a .visited) _ _ _ (s .pre .0) (users-counts (a .img .now) (s .pre .1)) (marked-on P m (a .visited) _ (c .before .before .before .before .mark-users .last .1 .0) (c .before .before .before .before .mark-users .result) (c .before .before .before .before .mark-users .ensures) _ (c .before .before .n .given .1)), s .pre .1)
+    (walking-on (a .img .now) m (a .visited) _ _ _ (s .pre .0) (users-counts (a .img .now) (s .pre .1)) (marked-on P m (a .visited) _ (c .before .before .before .before .mark-users .last .1 .0) (c .before .before .before .before .mark-users .result) (c .before .before .before .before .mark-users .ensures) _ (c .before .before .n .given .1)), s .pre .1, s .pre .2)
 
 enum-told : tie.Need-enum-told
 enum-told c = c .match .keys2

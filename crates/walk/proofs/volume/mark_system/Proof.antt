@@ -10,7 +10,7 @@ use Rattle.walk.proofs.volume.mark_system.Statement.{statement}
 use Rattle.walk.proofs.volume.mark_system.Tie as tie
 
 mark-bits-requires : tie.Need-mark-bits-requires
-mark-bits-requires c κs = c .before .before .pre
+mark-bits-requires c κs = let s = c .before .before in (s .pre .0, s .pre .1, s .pre .2)
 
 enum-known-n : tie.Need-enum-known-n
 enum-known-n c = c .match .keys1
@@ -18,7 +18,7 @@ enum-known-n c = c .match .keys1
 mark-entry-files-requires : tie.Need-mark-entry-files-requires
 mark-entry-files-requires c κs =
     let s = c .before .before .before .before .before .before .before in let a = s .args in let v = vol (a .img .now) in let P = pages (a .img .now) in let m = a .marks .now in
-    (walking-on (a .img .now) m (a .visited) _ _ _ (s .pre .0) (bits-counts (a .img .now) (s .pre .1)) (marked-on P m (a .visited) _ (c .before .before .before .before .mark-bits .last .1 .0) (c .before .before .before .before .mark-bits .result) (c .before .before .before .before .mark-bits .ensures) _ (c .before .before .n .given .1)), s .pre .1)
+    (walking-on (a .img .now) m (a .visited) _ _ _ (s .pre .0) (bits-counts (a .img .now) (s .pre .1)) (marked-on P m (a .visited) _ (c .before .before .before .before .mark-bits .last .1 .0) (c .before .before .before .before .mark-bits .result) (c .before .before .before .before .mark-bits .ensures) _ (c .before .before .n .given .1)), s .pre .1, s .pre .3)
 
 enum-told : tie.Need-enum-told
 enum-told c = c .match .keys2

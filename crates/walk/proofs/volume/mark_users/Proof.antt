@@ -1,7 +1,8 @@
 use Rattle.book.specs.Image.{pages}
 use Rattle.book.specs.Words.{vol}
 use Rattle.walk.proofs.Entries.{walked-root}
-use Rattle.walk.proofs.Holding.{users-read, below-same}
+use Rattle.walk.proofs.Holding.{user-root, below-same}
+use Rattle.walk.proofs.Short.{short-same}
 use borrow.Author.Needs.{needs}
 use Rattle.walk.proofs.volume.mark_users.Statement.{statement}
 use Rattle.walk.proofs.volume.mark_users.Tie as tie
@@ -15,16 +16,17 @@ page-at-requires c κs = search needs
 cast-top : tie.Need-cast-top
 cast-top c = search needs
 
-mark-root-requires : tie.Need-mark-root-requires
-mark-root-requires c κs =
+mark-tree-requires : tie.Need-mark-tree-requires
+mark-tree-requires c κs =
     let s = c .before .before .before .before in let a = s .args in let v = vol (a .img .now) in let P = pages (a .img .now) in let m = a .marks .now in
-    (s .pre .0, below-same v P _ _ (users-read v (c .before .before .flags-at .result) (c .before .page-at .result) (c .before .before .flags-at .ensures .0) (c .before .page-at .ensures .0)) (s .pre .1 .within .users))
+    let e = user-root v (c .before .before .flags-at .result) (c .before .page-at .result) (c .before .before .flags-at .ensures .0) (c .before .page-at .ensures .0) in
+    (s .pre .0, below-same v P _ _ e (s .pre .1 .within .users), short-same v _ _ 8 e (s .pre .1 .short .users))
 
 returns : tie.Need-returns
 returns c =
     let s = c .before .before .before .before .before in let a = s .args in let v = vol (a .img .now) in let P = pages (a .img .now) in let m = a .marks .now in
-    walked-root P m (a .visited) v _ _ (users-read v (c .before .before .before .flags-at .result) (c .before .before .page-at .result) (c .before .before .before .flags-at .ensures .0) (c .before .before .page-at .ensures .0)) (c .mark-root .last .1 .0) (c .mark-root .result) (c .mark-root .ensures)
+    walked-root P m (a .visited) v _ _ (user-root v (c .before .before .before .flags-at .result) (c .before .before .page-at .result) (c .before .before .before .flags-at .ensures .0) (c .before .before .page-at .ensures .0)) (c .mark-tree .last .1 .0) (c .mark-tree .result) (c .mark-tree .ensures)
 
 pub mark-users-spec : {M : Type 1} → statement M
 mark-users-spec =
-    tie.close (tie.spec flags-at-requires page-at-requires cast-top mark-root-requires returns)
+    tie.close (tie.spec flags-at-requires page-at-requires cast-top mark-tree-requires returns)
