@@ -6,16 +6,16 @@ use std::process::{Child, Command, Stdio};
 use std::time::{Duration, Instant};
 
 /// What each run begins with and would end with.
-struct Case {
-    folder: Folder,
-    line: String,
+pub struct Case {
+    pub folder: Folder,
+    pub line: String,
     old: Vec<u8>,
     new: Vec<u8>,
 }
 
 impl Case {
     /// Runs the line once undisturbed, to know the new image.
-    fn new(folder: Folder, line: String) -> Case {
+    pub fn new(folder: Folder, line: String) -> Case {
         let image = folder.path("disk.img");
         let old = std::fs::read(&image).unwrap();
         done(&image, &line);
@@ -40,7 +40,7 @@ impl Case {
     }
 
     /// Whether the image is the new one; if it is neither the old nor the new, the test fails. Then the old one is put back.
-    fn is_new(&self, when: &str) -> bool {
+    pub fn is_new(&self, when: &str) -> bool {
         let image = self.folder.path("disk.img");
         let now = std::fs::read(&image).unwrap();
         assert!(
@@ -56,7 +56,7 @@ impl Case {
     }
 
     /// The next run is done at once, and nothing of the killed ones is left.
-    fn next_run_is_done(&self) {
+    pub fn next_run_is_done(&self) {
         let image = self.folder.path("disk.img");
         done(&image, &format!("{} --wait 0", self.line));
         assert!(std::fs::read(&image).unwrap() == self.new, "{}", self.line);

@@ -10,5 +10,6 @@ mod names;
 mod readme;
 mod refusals;
 mod terminal;
+mod traced;
 mod transfer;
 mod writers;
