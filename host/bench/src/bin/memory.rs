@@ -1,0 +1,63 @@
+//! Memory that a call takes beyond the image: `bench-memory IMAGE` tells the stack and the heap of each call and program, in bytes.
+//! A program of its own, since its allocator counts, which would cost time in the others.
+
+use bench::calls::{ask, Program, Question, CALLS};
+use bench::scratch::{map_private, question_of, words_mut};
+use bench::stack::depth;
+use std::alloc::{GlobalAlloc, Layout, System};
+use std::hint::black_box;
+use std::io;
+use std::path::Path;
+use std::sync::atomic::{AtomicUsize, Ordering::Relaxed};
+
+/// The system's allocator, with the bytes that are out now and the most that were.
+struct Counting;
+
+static NOW: AtomicUsize = AtomicUsize::new(0);
+static PEAK: AtomicUsize = AtomicUsize::new(0);
+
+unsafe impl GlobalAlloc for Counting {
+    unsafe fn alloc(&self, layout: Layout) -> *mut u8 {
+        let now = NOW.fetch_add(layout.size(), Relaxed) + layout.size();
+        PEAK.fetch_max(now, Relaxed);
+        System.alloc(layout)
+    }
+
+    unsafe fn dealloc(&self, block: *mut u8, layout: Layout) {
+        NOW.fetch_sub(layout.size(), Relaxed);
+        System.dealloc(block, layout);
+    }
+}
+
+#[global_allocator]
+static ALLOCATOR: Counting = Counting;
+
+/// The most bytes that a piece of work had from the allocator at once.
+fn heap(work: &mut dyn FnMut()) -> usize {
+    let before = NOW.load(Relaxed);
+    PEAK.store(before, Relaxed);
+    work();
+    PEAK.load(Relaxed) - before
+}
+
+fn tell(image: &Path, question: &Question) -> io::Result<()> {
+    for call in CALLS {
+        for program in [Program::Proved, Program::Second] {
+            let (mut for_stack, mut for_heap) = (map_private(image)?, map_private(image)?);
+            let stack = depth(&mut || {
+                black_box(ask(program, call, words_mut(&mut for_stack), question));
+            });
+            let heap = heap(&mut || {
+                black_box(ask(program, call, words_mut(&mut for_heap), question));
+            });
+            println!("{} {} {stack} {heap}", call.name(), program.name());
+        }
+    }
+    Ok(())
+}
+
+fn main() -> io::Result<()> {
+    let image = std::env::args().nth(1).ok_or_else(|| io::Error::other("bench-memory IMAGE"))?;
+    let image = Path::new(&image);
+    tell(image, &question_of(image)?)
+}

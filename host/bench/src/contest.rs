@@ -1,0 +1,92 @@
+//! Calls of both programs timed on one image in memory. A call that changes words has them put back outside the timed part.
+
+use crate::calls::{ask, Call, Program, Question};
+use crate::timing::{race, side, Effort, Side, Spread, Times};
+use crate::volumes::Volume;
+use second::image::PAGE_WORDS;
+use std::cell::RefCell;
+use std::hint::black_box;
+use std::time::{Duration, Instant};
+
+/// A page as it was, by the place of its first word.
+type Kept = (usize, Vec<u16>);
+
+/// The pages that a call changes, as they are before it. Both programs have to answer the same and to leave the same words.
+fn pages_changed(image: &[u16], call: Call, q: &Question) -> Vec<Kept> {
+    let (mut first, mut other) = (image.to_vec(), image.to_vec());
+    let answers = (ask(Program::Proved, call, &mut first, q), ask(Program::Second, call, &mut other, q));
+    assert_eq!(answers.0, answers.1, "{}: the answers differ", call.name());
+    assert_eq!(answers.0[0], 0, "{}: a measured call is done", call.name());
+    assert!(first == other, "{}: the words differ", call.name());
+    let places = (0..image.len()).step_by(PAGE_WORDS);
+    let page = |words: &[u16], at: usize| words[at..at + PAGE_WORDS].to_vec();
+    places
+        .filter(|&at| page(image, at) != page(&first, at))
+        .map(|at| (at, page(image, at)))
+        .collect()
+}
+
+/// A side that asks one call. Each run of a call that changes words is timed by itself, and the words are put back after it.
+fn asking<'a>(image: &'a RefCell<Vec<u16>>, program: Program, call: Call, q: &'a Question, kept: &'a [Kept]) -> Side<'a> {
+    if !call.changes() {
+        return side(move || {
+            black_box(ask(program, call, black_box(&mut image.borrow_mut()), q));
+        });
+    }
+    Box::new(move |repeats| {
+        let words = &mut image.borrow_mut();
+        let mut spent = Duration::ZERO;
+        for _ in 0..repeats {
+            let start = Instant::now();
+            black_box(ask(program, call, black_box(words), q));
+            spent += start.elapsed();
+            kept.iter()
+                .for_each(|(at, page)| words[*at..*at + PAGE_WORDS].copy_from_slice(page));
+        }
+        spent
+    })
+}
+
+/// The proved library's and the second program's time, and their ratio.
+pub struct Figures {
+    pub proved: f64,
+    pub second: f64,
+    pub ratio: Spread,
+}
+
+fn figures(times: &[Times]) -> Figures {
+    Figures {
+        proved: Spread::of(&times[0]).median,
+        second: Spread::of(&times[1]).median,
+        ratio: Spread::of_ratio(&times[0], &times[1]),
+    }
+}
+
+/// Times one call on a volume: both programs, and the library's check alone, in turns. Gives also the call over the check, both the library's.
+pub fn contest(volume: &Volume, call: Call, effort: Effort) -> (Figures, Spread) {
+    let kept = pages_changed(&volume.words, call, &volume.question);
+    let image = RefCell::new(volume.words.clone());
+    let q = &volume.question;
+    let mut sides = vec![
+        asking(&image, Program::Proved, call, q, &kept),
+        asking(&image, Program::Second, call, q, &kept),
+    ];
+    sides.push(asking(&image, Program::Proved, Call::Check, q, &[]));
+    let times = race(&mut sides, effort);
+    drop(sides);
+    assert!(image.into_inner() == volume.words, "{}: the image is as it was", call.name());
+    (figures(&times), Spread::of_ratio(&times[0], &times[2]))
+}
+
+/// Times the check alone on words that need not be sound; both programs have to say the same.
+pub fn check_contest(words: &[u16], effort: Effort) -> Figures {
+    let (first, other) = (proved::check(words), second::check(words));
+    assert_eq!((first.number, first.rule, first.value), (other.number, other.rule, other.value));
+    let first = side(|| {
+        black_box(proved::check(black_box(words)));
+    });
+    let other = side(|| {
+        black_box(second::check(black_box(words)));
+    });
+    figures(&race(&mut [first, other], effort))
+}

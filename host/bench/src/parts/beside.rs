@@ -1,0 +1,70 @@
+//! The check beside e2fsck.
+
+use super::Run;
+use crate::ext2::{contest, version, Beside};
+use crate::progress;
+use crate::report::Table;
+use crate::timing::show;
+use crate::volumes::Volume;
+use std::io;
+
+const NOTE: &str =
+    "`e2fsck -fn` is a whole process on an ext2 image of 2,048-byte blocks (a page is 2,048 bytes, so both have the same data \
+    blocks), with the same number of files and bytes. Beside it, in the same rounds: the check in memory; a process that reads the whole \
+    image file, swaps its bytes to this machine's order and checks it; and a process that maps an image file in this machine's order and \
+    checks it. All files are in the page cache.";
+
+pub fn measure(run: &mut Run, volumes: &[Volume]) -> io::Result<()> {
+    if version().is_none() {
+        run.report.add(Table::new(
+            "Check beside e2fsck",
+            "Left out: e2fsck or mke2fs is not there (Debian's package e2fsprogs).",
+            &[],
+        ));
+        return Ok(());
+    }
+    let head = [
+        "volume",
+        "ext2 image, as e2fsck counts it",
+        "e2fsck",
+        "check in memory",
+        "/ e2fsck",
+        "process that reads",
+        "/ e2fsck",
+        "process that maps",
+        "/ e2fsck",
+    ];
+    let mut table = Table::new("Check beside e2fsck", NOTE, &head);
+    for volume in volumes {
+        progress::show(&format!("e2fsck: {}", volume.name));
+        let beside = contest(&run.scratch, volume, run.plan.process_effort)?;
+        table.row(row(volume, &beside));
+        let ratios = [
+            ("in memory", beside.check_ratio),
+            ("process that maps", beside.mapping_ratio),
+            ("process that reads", beside.reading_ratio),
+        ];
+        for (how, ratio) in ratios {
+            let on = format!("{}, {how}", volume.name);
+            run.goals
+                .at_most("check, time over e2fsck's", &on, ratio.median, 0.5, ratio.to_string());
+        }
+    }
+    progress::clear();
+    run.report.add(table);
+    Ok(())
+}
+
+fn row(volume: &Volume, beside: &Beside) -> Vec<String> {
+    vec![
+        volume.name.clone(),
+        beside.content.clone(),
+        show(beside.e2fsck),
+        show(beside.check),
+        beside.check_ratio.to_string(),
+        show(beside.reading),
+        beside.reading_ratio.to_string(),
+        show(beside.mapping),
+        beside.mapping_ratio.to_string(),
+    ]
+}

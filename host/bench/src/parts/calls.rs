@@ -1,0 +1,68 @@
+//! The seven calls on each volume, beside the second program's and beside the check alone.
+
+use super::Run;
+use crate::calls::{Call, CALLS};
+use crate::contest::contest;
+use crate::progress;
+use crate::report::Table;
+use crate::timing::{show, Spread};
+use crate::volumes::Volume;
+
+const NOTE: &str =
+    "Times are medians. A ratio is taken in each round of one run, proved over second on the same image in memory; its median \
+    is given with the 10th and 90th of a hundred. \"Over check\" is the library's call over the library's check, in the same rounds.";
+
+/// What makes up a call that asks is the check, if the call takes at most this many times as long.
+pub const DOMINATED: f64 = 1.1;
+
+pub fn measure(run: &mut Run, volumes: &[Volume]) {
+    let mut table = Table::new(
+        "Calls",
+        NOTE,
+        &["volume", "call", "proved", "second", "proved / second", "over check"],
+    );
+    for volume in volumes {
+        for call in CALLS {
+            progress::show(&format!("calls: {} on {}", call.name(), volume.name));
+            let (figures, over) = contest(volume, call, run.plan.effort);
+            let times = [show(figures.proved), show(figures.second)];
+            let [proved, second] = times;
+            table.row(vec![
+                volume.name.clone(),
+                call.name().into(),
+                proved,
+                second,
+                figures.ratio.to_string(),
+                over.to_string(),
+            ]);
+            judge(run, volume, call, figures.ratio, over);
+        }
+    }
+    progress::clear();
+    run.report.add(table);
+}
+
+fn judge(run: &mut Run, volume: &Volume, call: Call, ratio: Spread, over: Spread) {
+    match call {
+        Call::Check => {
+            run.goals.at_most(
+                "check, time over second program's",
+                &volume.name,
+                ratio.median,
+                1.0,
+                ratio.to_string(),
+            );
+        }
+        Call::Address | Call::FindUser | Call::FindFile => {
+            let told = format!("{over}, {}", call.name());
+            run.goals.at_most(
+                "address and find, time over check's, the most of the three",
+                &volume.name,
+                over.median,
+                DOMINATED,
+                told,
+            );
+        }
+        _ => (),
+    }
+}

@@ -1,0 +1,105 @@
+//! The parts of a run: each makes its tables and hands its figures to the goals.
+
+mod beside;
+mod calls;
+mod growth;
+mod hostile;
+mod instructions;
+mod memory;
+
+use crate::goals::Goals;
+use crate::report::{Report, Table};
+use crate::scratch::Scratch;
+use crate::timing::{Effort, QUICK, THOROUGH};
+use crate::volumes::{full, many, singles, yard, Volume, LARGEST};
+use crate::{machine, progress};
+use std::io;
+
+/// How large a run is.
+pub struct Plan {
+    pub effort: Effort,
+    /// For processes, whose start takes long beside a check.
+    pub process_effort: Effort,
+    /// Pages of the large volumes, and of those of the growth.
+    pub large: u32,
+    pub growth: Vec<u32>,
+    /// Users of the hostile images, 256 files each.
+    pub hostile_users: u32,
+    /// Whether callgrind counts every call, or one only.
+    pub all_instructions: bool,
+}
+
+impl Plan {
+    pub fn thorough() -> Plan {
+        Plan {
+            effort: THOROUGH,
+            process_effort: Effort { sample: 0.005, ..THOROUGH },
+            large: LARGEST,
+            growth: vec![1_000, 2_000, 4_000, 8_000, LARGEST],
+            hostile_users: 256,
+            all_instructions: true,
+        }
+    }
+
+    pub fn quick() -> Plan {
+        Plan {
+            effort: QUICK,
+            process_effort: QUICK,
+            large: 2_000,
+            growth: vec![1_000, 1_500, 2_000],
+            hostile_users: 4,
+            all_instructions: false,
+        }
+    }
+}
+
+/// A run as it goes.
+pub struct Run {
+    pub plan: Plan,
+    pub scratch: Scratch,
+    pub report: Report,
+    pub goals: Goals,
+}
+
+/// Does all parts; gives the report.
+pub fn run(plan: Plan) -> io::Result<Report> {
+    let mut run = Run {
+        plan,
+        scratch: Scratch::new()?,
+        report: Report::default(),
+        goals: Goals::default(),
+    };
+    run.report.add(machine::table());
+    progress::show("laying out the volumes");
+    let volumes = volumes(run.plan.large);
+    run.report.add(contents(&volumes));
+    calls::measure(&mut run, &volumes);
+    beside::measure(&mut run, &volumes)?;
+    growth::measure(&mut run);
+    hostile::measure(&mut run);
+    instructions::measure(&mut run, &volumes)?;
+    memory::measure(&mut run, &volumes)?;
+    run.report.add(run.goals.table());
+    Ok(run.report)
+}
+
+/// The yard's disk, and the large ones with so many pages.
+pub fn volumes(large: u32) -> [Volume; 4] {
+    [yard(), full(large), many(large), singles(large)]
+}
+
+/// The volumes and what is in them.
+fn contents(volumes: &[Volume]) -> Table {
+    let mut table = Table::new(
+        "The volumes",
+        "",
+        &["volume", "content", "users", "files", "bytes in files", "pages held"],
+    );
+    for volume in volumes {
+        let bytes = crate::report::grouped(volume.data_bytes());
+        let held = format!("{} of {}", volume.held(), volume.pages());
+        let (users, files) = (volume.files.len().to_string(), volume.file_count().to_string());
+        table.row(vec![volume.name.clone(), volume.about.clone(), users, files, bytes, held]);
+    }
+    table
+}

@@ -1,0 +1,21 @@
+//! The program works from end to end. Nothing is said of the times.
+
+use std::process::Command;
+
+#[test]
+fn a_quick_run_prints_every_table() {
+    let output = Command::new(env!("CARGO_BIN_EXE_bench")).arg("--quick").output().unwrap();
+    let text = String::from_utf8_lossy(&output.stdout);
+    assert!(output.status.success(), "{}", String::from_utf8_lossy(&output.stderr));
+    let titles = [
+        "The machine and the tools",
+        "The volumes",
+        "Calls",
+        "Check beside e2fsck",
+        "Growth of the check",
+    ];
+    let more = ["Hostile images: check", "Instructions", "Memory beyond the image", "The goals"];
+    for title in titles.iter().chain(&more) {
+        assert!(text.contains(&format!("{title}\n")), "no table {title}");
+    }
+}
