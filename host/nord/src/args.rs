@@ -1,0 +1,299 @@
+//! The arguments of every command, and its help with an example.
+
+use crate::names::{FileName, UserName};
+use clap::{Args, Parser, Subcommand, ValueEnum};
+use std::path::PathBuf;
+
+/// Check, list and change NORD File System disk images, by a proved library.
+#[derive(Parser, Debug)]
+#[command(name = "nord", version, after_help = NAMES)]
+pub struct Cli {
+    #[command(subcommand)]
+    pub command: Command,
+}
+
+const NAMES: &str =
+    "A user is named DOCK, a file DOCK/READS:DATA or, without a type, DOCK/READS. An index is a number after @: user @0, file @0/@3.
+A file is a whole number of pages of 2,048 bytes. Images are high byte first, 8 to 16,384 pages.
+Exit status: 0 done; 1 to 11 the library's refusal; 64 wrong use; 74 input or output; 75 locked or changed by somebody else.
+A refused or failed command leaves the image as it was. `nord help COMMAND` has an example for each command.";
+
+/// A command that asks an image and changes nothing.
+#[derive(Args, Debug)]
+pub struct Ask {
+    /// The image file
+    pub image: PathBuf,
+    /// Answer with a JSON object
+    #[arg(long)]
+    pub json: bool,
+}
+
+/// A command that replaces an image.
+#[derive(Args, Debug)]
+pub struct Change {
+    /// The image file
+    pub image: PathBuf,
+    /// Answer with a JSON object
+    #[arg(long)]
+    pub json: bool,
+    /// How long to wait for another writer of this image; 0 fails at once
+    #[arg(long, value_name = "SECONDS", default_value_t = 60)]
+    pub wait: u64,
+}
+
+#[derive(Subcommand, Debug)]
+pub enum Command {
+    /// Judge the ten rules of a sound image
+    #[command(after_help = "Example:\n  nord check disk.img")]
+    Check(Ask),
+    /// List the volume, its users and their files
+    #[command(after_help = "Example:\n  nord list disk.img\n  nord list disk.img --json")]
+    List(Ask),
+    /// Format an image, or make a new one of so many pages
+    #[command(
+        after_help = "Example:\n  nord format disk.img YARD --pages 154\n\nWithout --pages the image file is there, keeps its size, and loses its users and files."
+    )]
+    Format {
+        #[command(flatten)]
+        at: Change,
+        /// The volume's name
+        name: String,
+        /// Make a new image file of so many pages, 8 to 16,384; there must be none of that name
+        #[arg(long, value_name = "COUNT", value_parser = number)]
+        pages: Option<u32>,
+        /// The page of the bit file; the middle page by default
+        #[arg(long, value_name = "PAGE", value_parser = number)]
+        bit_page: Option<u32>,
+    },
+    /// Add and delete users, give and take pages
+    #[command(
+        subcommand,
+        after_help = "Example:\n  nord user add disk.img DOCK\n  nord user give disk.img DOCK 100"
+    )]
+    User(User),
+    /// Create, grow, shrink, delete and open files
+    #[command(
+        subcommand,
+        after_help = "Example:\n  nord file create disk.img DOCK/READS:DATA\n  nord file grow disk.img DOCK/READS:DATA 8"
+    )]
+    File(File),
+    /// Copy a whole file out of an image
+    #[command(
+        after_help = "Example:\n  nord read disk.img DOCK/READS:DATA reads.bin\n\nThe output is 2,048 bytes for each page: a NORD file has no length in bytes of its own."
+    )]
+    Read {
+        #[command(flatten)]
+        at: Ask,
+        #[arg(help = FILE)]
+        file: FileName,
+        /// The host's file, replaced whole; standard output by default and for -
+        output: Option<PathBuf>,
+    },
+    /// Copy a host's file into an image, whole or not at all
+    #[command(
+        after_help = "Example:\n  nord write disk.img DOCK/READS:DATA reads.bin\n\nThe file is created where it is not there, and grows or shrinks to fit. The last page is filled with zeros: a NORD file\nhas no length in bytes of its own. A contiguous file cannot change its page count, so the input has to fit exactly."
+    )]
+    Write {
+        #[command(flatten)]
+        at: Change,
+        #[arg(help = FILE)]
+        file: FileName,
+        /// The host's file; standard input for -
+        input: PathBuf,
+        /// Create a contiguous file (it must not be there)
+        #[arg(long)]
+        contiguous: bool,
+        /// The number that a new file gets as its time of creation
+        #[arg(long, value_name = "NUMBER", default_value_t = 0)]
+        created: u32,
+    },
+    /// Find the index of a user or a file by name
+    #[command(after_help = "Example:\n  nord find disk.img DOCK\n  nord find disk.img DOCK/READS:DATA")]
+    Find {
+        #[command(flatten)]
+        at: Ask,
+        /// DOCK for a user, DOCK/READS:DATA for a file
+        name: String,
+    },
+    /// Say on which page of the image a page of a file lies
+    #[command(after_help = "Example:\n  nord address disk.img DOCK/READS:DATA 0")]
+    Address {
+        #[command(flatten)]
+        at: Ask,
+        #[arg(help = FILE)]
+        file: FileName,
+        /// The page's position in the file, from 0
+        #[arg(value_parser = number)]
+        position: u32,
+    },
+    /// Say who holds a page of the image
+    #[command(after_help = "Example:\n  nord who disk.img 5")]
+    Who {
+        #[command(flatten)]
+        at: Ask,
+        /// The page's number
+        #[arg(value_parser = number)]
+        page: u32,
+    },
+    /// Draw the image: a cell for each page, coloured by its holder
+    #[command(after_help = "Example:\n  nord map disk.img\n  nord map disk.img --svg disk.svg")]
+    Map {
+        #[command(flatten)]
+        at: Ask,
+        /// Write the picture to an SVG file
+        #[arg(long, value_name = "FILE")]
+        svg: Option<PathBuf>,
+        /// Characters in a line of the text; by default the terminal's, or 80
+        #[arg(long, value_name = "N", value_parser = number)]
+        width: Option<u32>,
+        /// Colours in the text
+        #[arg(long, value_enum, default_value_t = Colour::Auto)]
+        colour: Colour,
+    },
+    /// Make a sample disk: volume YARD of 154 pages with user DOCK and two files
+    #[command(after_help = "Example:\n  nord sample sample.img")]
+    Sample(Ask),
+    /// Print the manual page
+    #[command(after_help = "Example:\n  nord manual | man -l -")]
+    Manual,
+    /// Print the completions for a shell
+    #[command(after_help = "Example:\n  nord completions bash > ~/.local/share/bash-completion/completions/nord")]
+    Completions {
+        /// The shell
+        #[arg(value_enum)]
+        shell: clap_complete::Shell,
+    },
+}
+
+const FILE: &str = "The file: DOCK/READS:DATA, or by index @0/@3";
+
+#[derive(Subcommand, Debug)]
+pub enum User {
+    /// Add a user, with no pages given
+    #[command(after_help = "Example:\n  nord user add disk.img DOCK")]
+    Add {
+        #[command(flatten)]
+        at: Change,
+        /// The new user's name
+        name: String,
+    },
+    /// Delete a user who has no files
+    #[command(after_help = "Example:\n  nord user delete disk.img DOCK")]
+    Delete {
+        #[command(flatten)]
+        at: Change,
+        /// The user: DOCK, or by index @0
+        user: UserName,
+    },
+    /// Give a user pages of the unreserved ones
+    #[command(after_help = "Example:\n  nord user give disk.img DOCK 100")]
+    Give {
+        #[command(flatten)]
+        at: Change,
+        /// The user: DOCK, or by index @0
+        user: UserName,
+        /// How many pages
+        #[arg(value_parser = number)]
+        count: u32,
+    },
+    /// Take back pages that a user does not use
+    #[command(after_help = "Example:\n  nord user take disk.img DOCK 10")]
+    Take {
+        #[command(flatten)]
+        at: Change,
+        /// The user: DOCK, or by index @0
+        user: UserName,
+        /// How many pages
+        #[arg(value_parser = number)]
+        count: u32,
+    },
+}
+
+#[derive(Subcommand, Debug)]
+pub enum File {
+    /// Create an empty indexed file, or a contiguous one of so many pages
+    #[command(
+        after_help = "Example:\n  nord file create disk.img DOCK/READS:DATA\n  nord file create disk.img DOCK/CRANE:PLAN --contiguous 10"
+    )]
+    Create {
+        #[command(flatten)]
+        at: Change,
+        /// The new file: DOCK/READS:DATA
+        file: FileName,
+        /// Make it contiguous, of so many pages of zeros
+        #[arg(long, value_name = "COUNT", value_parser = number)]
+        contiguous: Option<u32>,
+        /// The number that the file gets as its time of creation
+        #[arg(long, value_name = "NUMBER", default_value_t = 0)]
+        created: u32,
+    },
+    /// Grow an indexed file by pages of zeros, all or none
+    #[command(after_help = "Example:\n  nord file grow disk.img DOCK/READS:DATA\n  nord file grow disk.img DOCK/READS:DATA 8")]
+    Grow {
+        #[command(flatten)]
+        at: Change,
+        #[arg(help = FILE)]
+        file: FileName,
+        /// How many pages
+        #[arg(default_value = "1", value_parser = number)]
+        count: u32,
+    },
+    /// Shrink an indexed file by its last pages, all or none
+    #[command(after_help = "Example:\n  nord file shrink disk.img DOCK/READS:DATA\n  nord file shrink disk.img DOCK/READS:DATA 8")]
+    Shrink {
+        #[command(flatten)]
+        at: Change,
+        #[arg(help = FILE)]
+        file: FileName,
+        /// How many pages
+        #[arg(default_value = "1", value_parser = number)]
+        count: u32,
+    },
+    /// Delete a file
+    #[command(after_help = "Example:\n  nord file delete disk.img DOCK/READS:DATA")]
+    Delete {
+        #[command(flatten)]
+        at: Change,
+        #[arg(help = FILE)]
+        file: FileName,
+    },
+    /// Note that a file was opened
+    #[command(after_help = "Example:\n  nord file open disk.img DOCK/READS:DATA")]
+    Open {
+        #[command(flatten)]
+        at: Change,
+        #[arg(help = FILE)]
+        file: FileName,
+    },
+}
+
+#[derive(Clone, Copy, Debug, PartialEq, Eq, ValueEnum)]
+pub enum Colour {
+    Auto,
+    Always,
+    Never,
+}
+
+impl Command {
+    /// Whether the answer is wanted as JSON.
+    pub fn json(&self) -> bool {
+        match self {
+            Command::Check(at) | Command::List(at) | Command::Sample(at) => at.json,
+            Command::Read { at, .. } | Command::Find { at, .. } | Command::Address { at, .. } => at.json,
+            Command::Who { at, .. } | Command::Map { at, .. } => at.json,
+            Command::Format { at, .. } | Command::Write { at, .. } => at.json,
+            Command::User(User::Add { at, .. } | User::Delete { at, .. } | User::Give { at, .. } | User::Take { at, .. }) => at.json,
+            Command::File(File::Create { at, .. } | File::Grow { at, .. } | File::Shrink { at, .. }) => at.json,
+            Command::File(File::Delete { at, .. } | File::Open { at, .. }) => at.json,
+            Command::Manual | Command::Completions { .. } => false,
+        }
+    }
+}
+
+/// A number of decimal digits. One that is too large for the library's own numbers becomes their largest, which it refuses.
+pub fn number(text: &str) -> Result<u32, String> {
+    match text.bytes().all(|byte| byte.is_ascii_digit()) && !text.is_empty() {
+        true => Ok(text.parse().unwrap_or(u32::MAX)),
+        false => Err("a number of decimal digits is wanted".to_string()),
+    }
+}

@@ -1,0 +1,180 @@
+//! The manual page, made from the arguments' definitions, so that no command is forgotten in it.
+
+use crate::answers;
+use crate::args::Cli;
+use clap::{Arg, Command, CommandFactory};
+use std::fmt::Write;
+
+/// The page in the form that `man` reads. nord.1 is this text.
+pub fn page() -> String {
+    let mut page = String::from(HEAD);
+    let mut cli = Cli::command();
+    cli.build();
+    for command in cli.get_subcommands().filter(|command| command.get_name() != "help") {
+        match command.has_subcommands() {
+            false => section(&mut page, command, "nord"),
+            true => {
+                let name = format!("nord {}", command.get_name());
+                command
+                    .get_subcommands()
+                    .filter(|inner| inner.get_name() != "help")
+                    .for_each(|inner| section(&mut page, inner, &name));
+            }
+        }
+    }
+    page.push_str(NAMES);
+    page.push_str(FILES);
+    page.push_str(STATUS);
+    page.push_str(".SH RULES OF A SOUND IMAGE\nRefusal 3 names the lowest broken rule of these. P is the number of pages.\n");
+    for number in 1..=10 {
+        let _ = write!(page, ".TP\n{number}\n{}\n", escape(answers::rule(number)));
+    }
+    page
+}
+
+/// One command: how it is called, what it does, its arguments, an example.
+fn section(page: &mut String, command: &Command, before: &str) {
+    let name = format!("{before} {}", command.get_name());
+    let mut arguments: Vec<&Arg> = command.get_arguments().filter(|argument| argument.get_id() != "help").collect();
+    arguments.sort_by_key(|argument| argument.get_long().is_some());
+    let call = arguments.iter().map(|argument| form(argument)).collect::<Vec<_>>().join(" ");
+    let about = command.get_about().map(|about| about.to_string()).unwrap_or_default();
+    let _ = write!(
+        page,
+        ".SS {name}\n.B {}\n.PP\n{}.\n",
+        escape(format!("{name} {call}").trim()),
+        escape(&about)
+    );
+    for argument in arguments {
+        let help = argument.get_help().map(|help| help.to_string()).unwrap_or_default();
+        let _ = write!(page, ".TP\n.B {}\n{}.\n", escape(&form(argument)), escape(&help));
+    }
+    for part in command
+        .get_after_help()
+        .map(|help| help.to_string())
+        .unwrap_or_default()
+        .split("\n\n")
+    {
+        match part.trim_end().strip_prefix("Example:\n") {
+            Some(example) => _ = write!(page, ".PP\nExample:\n.PP\n.nf\n{}\n.fi\n", escape(example)),
+            None if !part.trim().is_empty() => _ = write!(page, ".PP\n{}\n", escape(part.trim())),
+            None => {}
+        }
+    }
+}
+
+/// An argument as it stands in a call: IMAGE, [OUTPUT], [--pages COUNT].
+fn form(argument: &Arg) -> String {
+    let value = argument.get_value_names().map(|names| names[0].to_string()).unwrap_or_default();
+    let text = match (argument.get_long(), argument.get_action().takes_values()) {
+        (Some(long), true) => format!("--{long} {value}"),
+        (Some(long), false) => format!("--{long}"),
+        (None, _) => value,
+    };
+    match argument.is_required_set() {
+        true => text,
+        false => format!("[{text}]"),
+    }
+}
+
+/// Text that `man` shows as it is.
+fn escape(text: &str) -> String {
+    let safe = text.replace('\\', "\\e").replace('-', "\\-");
+    safe.lines()
+        .map(|line| {
+            if line.starts_with(['.', '\'']) {
+                format!("\\&{line}")
+            } else {
+                line.to_string()
+            }
+        })
+        .collect::<Vec<_>>()
+        .join("\n")
+}
+
+const HEAD: &str = r#".TH NORD 1
+.SH NAME
+nord \- check, list and change NORD File System disk images
+.SH SYNOPSIS
+.B nord
+.I COMMAND
+.I IMAGE
+\&...
+.SH DESCRIPTION
+An image is a file of 8 to 16,384 pages of 2,048 bytes, words of 16 bits with the high byte first. Every change is made by a library whose
+calls are proved against the rules of the file system, on a copy in memory; then the image file is replaced whole. A command that is refused,
+fails or is killed leaves the image as it was, or as the whole command makes it.
+.PP
+With
+.B \-\-json
+the answer is one object on standard output: "number" is 0 and the rest says what was done; of a refusal it has "number", "rule" and "refusal"
+in words, of a failure of the host "error" and "status". Long work shows a bar on a terminal.
+.SH COMMANDS
+"#;
+
+const NAMES: &str = r#".SH NAMES
+A name is 1 to 16 of A to Z, 0 to 9 and hyphen, a type 0 to 4 of them. A user is written
+.B DOCK
+and a file
+.B DOCK/READS:DATA
+or, without a type,
+.BR DOCK/READS .
+By index they are written
+.BR @0 ", " @0/@3 " and " DOCK/@3 .
+A word without @ is always a name, also if it has digits alone.
+"#;
+
+const FILES: &str = r#".SH FILES
+The new image is written to
+.I .IMAGE.nord\-PROCESS
+in the image's folder, synced, and renamed over the image; then the folder is synced. Owner and permissions are kept. What a killed run has left
+is removed by the next one that changes the image. The image is locked (flock) while a command changes it; a second one waits.
+"#;
+
+const STATUS: &str = r#".SH EXIT STATUS
+.TP
+0
+Done.
+.TP
+1
+The length is no whole number of pages, or there are fewer than 8 or more than 16,384.
+.TP
+2
+An argument is wrong.
+.TP
+3
+The image is unsound.
+.TP
+4
+The named user, file or page position does not exist.
+.TP
+5
+The name is taken.
+.TP
+6
+Wrong kind: grow or shrink of a contiguous file, shrink of an empty one.
+.TP
+7
+The user has a file.
+.TP
+8
+All 256 entries are used.
+.TP
+9
+Given less used is below the pages needed, or below the pages to be taken back.
+.TP
+10
+Unreserved is below the system pages needed, or the pages to be given.
+.TP
+11
+There is no run for a contiguous file.
+.TP
+64
+The command was not used as its help says.
+.TP
+74
+Input or output failed: a file is not there or not readable, a disk is full. The image is as it was, unless the words say that the work is done.
+.TP
+75
+Another writer has the image, or another program has changed it meanwhile.
+"#;

@@ -1,0 +1,224 @@
+//! What the host can do to us: full disks, files that may not be read or written, folders that may not be changed, links, odd files.
+
+use crate::common::{done, fails, run, sample, words as words_of, Folder, Run, NORD};
+use std::fs::{self, Permissions};
+use std::os::unix::fs::{symlink, MetadataExt, PermissionsExt};
+use std::os::unix::process::CommandExt;
+use std::path::Path;
+use std::process::{Command, Stdio};
+
+fn mode(path: &Path, mode: u32) {
+    fs::set_permissions(path, Permissions::from_mode(mode)).unwrap();
+}
+
+fn is_root() -> bool {
+    fs::metadata("/proc/self").unwrap().uid() == 0
+}
+
+/// A run of one who may not do everything: nobody if the tests run as root, for whom permissions mean nothing.
+fn run_as_nobody(folder: &Folder, image: &Path, line: &str) -> Run {
+    let program = folder.path("nord");
+    if !program.exists() {
+        fs::copy(NORD, &program).unwrap();
+    }
+    mode(&program, 0o755);
+    let mut command = Command::new(program);
+    if is_root() {
+        command.uid(65534).gid(65534);
+    }
+    Run::of(command.args(words_of(image, line)).stdin(Stdio::null()).output().unwrap())
+}
+
+#[test]
+fn a_limit_of_file_sizes_is_a_clear_error() {
+    let (folder, image) = sample();
+    let before = fs::read(&image).unwrap();
+    let script = format!("trap '' XFSZ; ulimit -f 100; exec {NORD} user add {} CRANE", image.display());
+    let run = Run::of(Command::new("bash").args(["-c", &script]).output().unwrap());
+    assert_eq!(run.status, 74);
+    assert!(
+        run.err.contains("disk.img: not replaced, the old one is as it was: File too large"),
+        "{}",
+        run.err
+    );
+    assert!(fs::read(&image).unwrap() == before);
+    assert_eq!(folder.names(), ["disk.img"]);
+    done(&image, "user add IMAGE CRANE");
+}
+
+/// In a mount of its own, which the system takes away with the run; where mounts are not allowed the test above stands alone.
+#[test]
+fn a_full_disk_is_a_clear_error() {
+    let (folder, image) = sample();
+    let small = folder.path("small");
+    fs::create_dir(&small).unwrap();
+    let script = format!(
+        "mount -t tmpfs -o size=400k none {0} || exit 99; cp {1} {0}; cd {0}; head -c 80k /dev/zero >out.bin; \
+         {NORD} user add disk.img CRANE; echo status $?; cmp disk.img {1} && echo same; \
+         {NORD} read disk.img DOCK/CRANE:PLAN out.bin; echo status $?; stat -c %s out.bin; ls -A; {NORD} check disk.img",
+        small.display(),
+        image.display(),
+    );
+    let run = Run::of(Command::new("unshare").args(["-rm", "bash", "-c", &script]).output().unwrap());
+    if run.status == 99 || run.err.starts_with("unshare:") {
+        println!("no mount allowed here, not tried: {}", run.err);
+        return;
+    }
+    let wanted = "status 74\nsame\nstatus 74\n81920\ndisk.img\nout.bin\nsound: 20 of 154 pages are held\n";
+    assert_eq!(run.text(), wanted, "{}", run.err);
+    for name in ["disk.img", "out.bin"] {
+        assert!(
+            run.err
+                .contains(&format!("{name}: not replaced, the old one is as it was: No space left on device")),
+            "{}",
+            run.err
+        );
+    }
+}
+
+#[test]
+fn an_answer_that_cannot_be_printed_is_an_error() {
+    let (_folder, image) = sample();
+    for (line, words) in [
+        ("list IMAGE", "nord: done, but the answer could not be printed: No space left"),
+        (
+            "user add IMAGE CRANE",
+            "nord: done, but the answer could not be printed: No space left",
+        ),
+        ("read IMAGE DOCK/CRANE:PLAN", "nord: standard output: No space left"),
+    ] {
+        let full = fs::File::options().write(true).open("/dev/full").unwrap();
+        let child = Command::new(NORD)
+            .args(words_of(&image, line))
+            .stdout(full)
+            .stderr(Stdio::piped())
+            .spawn()
+            .unwrap();
+        let run = Run::of(child.wait_with_output().unwrap());
+        assert_eq!((run.status, run.err.starts_with(words)), (74, true), "{line}: {}", run.err);
+    }
+    assert!(done(&image, "list IMAGE").contains("CRANE"));
+}
+
+#[test]
+fn a_reader_that_goes_away_is_no_error_but_for_a_file_in_parts() {
+    let (_folder, image) = sample();
+    let statuses = |line: &str| {
+        let command = words_of(&image, line).join(" ");
+        let script = format!("(sleep 0.3; {NORD} {command}; echo $? >&2) | true");
+        Run::of(Command::new("bash").args(["-c", &script]).output().unwrap()).err
+    };
+    assert_eq!(statuses("list IMAGE"), "0\n");
+    assert_eq!(statuses("user add IMAGE CRANE"), "0\n");
+    assert_eq!(statuses("read IMAGE DOCK/CRANE:PLAN"), "74\n");
+    assert!(done(&image, "list IMAGE").contains("CRANE"));
+}
+
+#[test]
+fn an_unreadable_image_and_one_that_may_not_be_written() {
+    let (folder, image) = sample();
+    mode(&folder.0, 0o777);
+    let before = fs::read(&image).unwrap();
+    mode(&image, 0o000);
+    for line in ["check IMAGE", "user add IMAGE CRANE"] {
+        let run = run_as_nobody(&folder, &image, line);
+        assert_eq!(
+            (run.status, run.err.contains("disk.img: Permission denied")),
+            (74, true),
+            "{line}: {}",
+            run.err
+        );
+    }
+    mode(&image, 0o444);
+    assert_eq!(run_as_nobody(&folder, &image, "check IMAGE").status, 0);
+    let run = run_as_nobody(&folder, &image, "user add IMAGE CRANE");
+    assert_eq!(
+        (run.status, run.err.contains("disk.img: Permission denied")),
+        (74, true),
+        "{}",
+        run.err
+    );
+    assert!(fs::read(&image).unwrap() == before);
+}
+
+#[test]
+fn a_folder_that_may_not_be_written() {
+    let (folder, image) = sample();
+    let before = fs::read(&image).unwrap();
+    mode(&image, 0o666);
+    run_as_nobody(&folder, &image, "check IMAGE");
+    mode(&folder.0, 0o555);
+    let run = run_as_nobody(&folder, &image, "user add IMAGE CRANE");
+    mode(&folder.0, 0o755);
+    assert_eq!(run.status, 74);
+    assert!(
+        run.err
+            .contains("disk.img: not replaced, the old one is as it was: Permission denied"),
+        "{}",
+        run.err
+    );
+    assert!(fs::read(&image).unwrap() == before);
+    assert_eq!(folder.names(), ["disk.img", "nord"]);
+}
+
+#[test]
+fn owner_and_permissions_are_kept() {
+    let (_folder, image) = sample();
+    mode(&image, 0o640);
+    if is_root() {
+        std::os::unix::fs::chown(&image, Some(65534), Some(65534)).unwrap();
+    }
+    let before = fs::metadata(&image).unwrap();
+    done(&image, "user add IMAGE CRANE");
+    let after = fs::metadata(&image).unwrap();
+    assert_eq!(
+        (after.mode(), after.uid(), after.gid()),
+        (before.mode(), before.uid(), before.gid())
+    );
+    assert_ne!(after.ino(), before.ino());
+}
+
+#[test]
+fn a_link_to_an_image_stays_a_link() {
+    let (folder, image) = sample();
+    fs::create_dir(folder.path("else")).unwrap();
+    let link = folder.path("else/link.img");
+    symlink(&image, &link).unwrap();
+    done(&link, "user add IMAGE CRANE");
+    assert!(fs::symlink_metadata(&link).unwrap().is_symlink());
+    assert!(done(&image, "list IMAGE").contains("CRANE"));
+    assert_eq!(folder.names(), ["disk.img", "else"]);
+}
+
+#[test]
+fn what_is_no_image_file() {
+    let (folder, image) = sample();
+    for (path, words) in [
+        (folder.0.clone(), "not a file"),
+        (folder.path("absent.img"), "No such file"),
+        ("/dev/null".into(), "not a file"),
+    ] {
+        for line in ["check IMAGE", "user add IMAGE CRANE"] {
+            let run = run(&path, line);
+            assert_eq!(
+                (run.status, run.err.contains(words)),
+                (74, true),
+                "{line} {}: {}",
+                path.display(),
+                run.err
+            );
+        }
+    }
+    assert_eq!(run(&folder.path("absent/new.img"), "format IMAGE YARD --pages 10").status, 74);
+    assert!(fails(&image, "format IMAGE YARD --pages 154", 74).contains("disk.img: is there already"));
+    assert!(fails(&image, "sample IMAGE", 74).contains("disk.img: is there already"));
+    assert_eq!(folder.names(), ["disk.img"]);
+}
+
+#[test]
+fn an_error_of_the_host_as_json() {
+    let folder = Folder::new();
+    let run = run(&folder.path("absent.img"), "check IMAGE --json");
+    assert_eq!((run.status, &run.json()["status"]), (74, &serde_json::json!(74)));
+    assert!(run.json()["error"].as_str().unwrap().contains("No such file"));
+}

@@ -1,0 +1,15 @@
+//! The command as its users meet it: the real program, run on image files.
+
+mod commands;
+mod common;
+mod help;
+mod host;
+mod killed;
+mod listing;
+mod names;
+mod readme;
+mod refusals;
+mod terminal;
+mod traced;
+mod transfer;
+mod writers;
