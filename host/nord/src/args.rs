@@ -213,7 +213,7 @@ pub enum User {
 pub enum File {
     /// Create an empty indexed file, or a contiguous one of so many pages
     #[command(
-        after_help = "Example:\n  nord file create disk.img DOCK/READS:DATA\n  nord file create disk.img DOCK/CRANE:PLAN --contiguous 10"
+        after_help = "Example:\n  nord file create disk.img DOCK/READS:DATA\n  nord file create disk.img DOCK/LAMBS:DATA --contiguous 10"
     )]
     Create {
         #[command(flatten)]

@@ -15,7 +15,7 @@ fn all_calls() -> Vec<Call> {
         Box::new(|image| find_file(image, 0, b"READS", b"DATA")),
         Box::new(|image| address(image, 0, 0, 0)),
         Box::new(|image| who_holds(image, 3).reply),
-        Box::new(|image| create_user(image, b"CRANE")),
+        Box::new(|image| create_user(image, b"FLOCK")),
         Box::new(|image| delete_user(image, 1)),
         Box::new(|image| give(image, 0, 1)),
         Box::new(|image| take(image, 0, 1)),
@@ -32,7 +32,7 @@ fn all_calls() -> Vec<Call> {
 /// `reads` with a second user, so that every call above is done.
 fn two_users() -> Vec<u16> {
     let mut image = reads(32, 6, 1);
-    assert_eq!(create_user(&mut image, b"QUAY"), done(1));
+    assert_eq!(create_user(&mut image, b"RAMS"), done(1));
     image
 }
 
@@ -170,7 +170,7 @@ fn number_4() {
 #[test]
 fn number_5() {
     let image = two_users();
-    refuses(&image, 5, |image| create_user(image, b"QUAY"));
+    refuses(&image, 5, |image| create_user(image, b"RAMS"));
     refuses(&image, 5, |image| {
         create_indexed(image, 0, b"READS", b"DATA", 0)
     });
@@ -271,7 +271,7 @@ fn number_10() {
         create_contiguous(image, 0, b"NEW", b"", 0, 4)
     });
     refuses(&all_given, 10, |image| give(image, 0, 1));
-    assert_eq!(create_user(&mut all_given, b"QUAY"), done(1));
+    assert_eq!(create_user(&mut all_given, b"RAMS"), done(1));
     let mut crowded = volume(32);
     for n in 0..32 {
         create_user(&mut crowded, &nth(n));

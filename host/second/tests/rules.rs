@@ -86,7 +86,7 @@ fn rule_4() {
     assert_eq!(word(USER + 8, 0x00FF), unsound(4));
     assert_eq!(two_words(USER + 16, 7), unsound(4));
     let twins = judged(|image| {
-        create_user(image, b"QUAY");
+        create_user(image, b"RAMS");
         image.copy_within(USER + 1..USER + 9, USER + 33);
     });
     assert_eq!(twins, unsound(4));

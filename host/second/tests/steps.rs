@@ -191,7 +191,7 @@ fn the_lowest_unused_counts_absent_pages() {
 fn who_holds_what() {
     let mut image = reads(40, 9, 1);
     create_contiguous(&mut image, 0, b"RUN", b"", 0, 2);
-    create_user(&mut image, b"QUAY");
+    create_user(&mut image, b"RAMS");
     create_indexed(&mut image, 1, b"Q", b"", 0);
     let expected = [
         (0, (kind::MASTER, 0, 0, 0)),

@@ -57,9 +57,9 @@ pub fn sample(at: &Ask) -> Result<Answer, Failure> {
         )?;
     }
     done(
-        proved::create_contiguous(&mut image, user, b"CRANE", b"PLAN", 0, 10),
+        proved::create_contiguous(&mut image, user, b"LAMBS", b"DATA", 0, 10),
         Call::CreateContiguous,
-        "DOCK/CRANE:PLAN",
+        "DOCK/LAMBS:DATA",
     )?;
     store::create(&at.image, &image)?;
     Ok(Answer::new(

@@ -26,9 +26,9 @@ fn the_sample_disk_answers() {
     let ask = |line: &str| done(&image, line);
     assert_eq!(ask("check IMAGE"), "sound: 20 of 154 pages are held\n");
     assert_eq!(ask("find IMAGE DOCK"), "user 0\n");
-    assert_eq!(ask("find IMAGE DOCK/CRANE:PLAN"), "user 0 file 1\n");
+    assert_eq!(ask("find IMAGE DOCK/LAMBS:DATA"), "user 0 file 1\n");
     assert_eq!(ask("address IMAGE DOCK/READS:DATA 2"), "page 8\n");
-    assert_eq!(ask("address IMAGE DOCK/CRANE:PLAN 9"), "page 153\n");
+    assert_eq!(ask("address IMAGE DOCK/LAMBS:DATA 9"), "page 153\n");
     assert_eq!(ask("who IMAGE 0"), "master\n");
     assert_eq!(ask("who IMAGE 77"), "bit file\n");
     assert_eq!(ask("who IMAGE 2"), "user page 0\n");
@@ -60,17 +60,17 @@ fn changes_are_in_the_listing() {
     let (folder, image) = sample();
     let change = |line: &str| done(&image, line);
     assert_eq!(change("file shrink IMAGE DOCK/READS:DATA 2"), "shrunk by 2 pages\n");
-    assert_eq!(change("file delete IMAGE DOCK/CRANE:PLAN"), "user 0 file 1 deleted\n");
+    assert_eq!(change("file delete IMAGE DOCK/LAMBS:DATA"), "user 0 file 1 deleted\n");
     assert_eq!(
-        change("file create IMAGE DOCK/QUAY --contiguous 4 --created 77"),
+        change("file create IMAGE DOCK/RAMS --contiguous 4 --created 77"),
         "user 0 file 1 created\n"
     );
-    assert_eq!(change("file open IMAGE DOCK/QUAY:"), "user 0 file 1: an open is noted\n");
+    assert_eq!(change("file open IMAGE DOCK/RAMS:"), "user 0 file 1: an open is noted\n");
     assert_eq!(change("user take IMAGE DOCK 50"), "50 pages taken from user 0\n");
-    assert_eq!(change("user add IMAGE CRANE"), "user 1 CRANE added\n");
-    assert_eq!(change("user delete IMAGE CRANE"), "user 1 deleted\n");
+    assert_eq!(change("user add IMAGE FLOCK"), "user 1 FLOCK added\n");
+    assert_eq!(change("user delete IMAGE FLOCK"), "user 1 deleted\n");
     let listing = "VOLUME YARD PAGES 154 RESERVED 12 UNRESERVED 98\nUSER 0 DOCK GIVEN 50 USED 6\n\
-                   FILE 0 READS:DATA PAGES 1 INDEXED\nFILE 1 QUAY: PAGES 4 CONTIGUOUS\n";
+                   FILE 0 READS:DATA PAGES 1 INDEXED\nFILE 1 RAMS: PAGES 4 CONTIGUOUS\n";
     assert_eq!(change("list IMAGE"), listing);
     let json = run(&image, "list IMAGE --json").json();
     assert_eq!(
@@ -107,7 +107,7 @@ fn what_is_asked_has_json() {
         &[
             ("check IMAGE", json!({ "number": 0, "sound": true, "visits": 20, "pages": 154 })),
             ("find IMAGE DOCK", json!({ "number": 0, "user": 0 })),
-            ("find IMAGE DOCK/CRANE:PLAN", json!({ "number": 0, "user": 0, "file": 1 })),
+            ("find IMAGE DOCK/LAMBS:DATA", json!({ "number": 0, "user": 0, "file": 1 })),
             (
                 "address IMAGE @0/@0 1",
                 json!({ "number": 0, "page": 7, "user": 0, "file": 0, "position": 1 }),
@@ -132,10 +132,10 @@ fn what_is_changed_has_json() {
     answers(
         &image,
         &[
-            ("user add IMAGE CRANE", json!({ "number": 0, "user": 1, "name": "CRANE" })),
-            ("user give IMAGE CRANE 9", json!({ "number": 0, "user": 1, "pages": 9 })),
-            ("user take IMAGE CRANE 9", json!({ "number": 0, "user": 1, "pages": 9 })),
-            ("user delete IMAGE CRANE", json!({ "number": 0, "user": 1 })),
+            ("user add IMAGE FLOCK", json!({ "number": 0, "user": 1, "name": "FLOCK" })),
+            ("user give IMAGE FLOCK 9", json!({ "number": 0, "user": 1, "pages": 9 })),
+            ("user take IMAGE FLOCK 9", json!({ "number": 0, "user": 1, "pages": 9 })),
+            ("user delete IMAGE FLOCK", json!({ "number": 0, "user": 1 })),
             ("file create IMAGE DOCK/LOG", json!({ "number": 0, "user": 0, "file": 2 })),
             ("file grow IMAGE DOCK/LOG 2", json!({ "number": 0, "pages": [9, 11] })),
             ("file shrink IMAGE DOCK/LOG", json!({ "number": 0, "pages": 1 })),

@@ -33,7 +33,7 @@ fn run_as_nobody(folder: &Folder, image: &Path, line: &str) -> Run {
 fn a_limit_of_file_sizes_is_a_clear_error() {
     let (folder, image) = sample();
     let before = fs::read(&image).unwrap();
-    let script = format!("trap '' XFSZ; ulimit -f 100; exec {NORD} user add {} CRANE", image.display());
+    let script = format!("trap '' XFSZ; ulimit -f 100; exec {NORD} user add {} FLOCK", image.display());
     let run = Run::of(Command::new("bash").args(["-c", &script]).output().unwrap());
     assert_eq!(run.status, 74);
     assert!(
@@ -43,7 +43,7 @@ fn a_limit_of_file_sizes_is_a_clear_error() {
     );
     assert!(fs::read(&image).unwrap() == before);
     assert_eq!(folder.names(), ["disk.img"]);
-    done(&image, "user add IMAGE CRANE");
+    done(&image, "user add IMAGE FLOCK");
 }
 
 /// In a mount of its own, which the system takes away with the run; where mounts are not allowed the test above stands alone.
@@ -54,8 +54,8 @@ fn a_full_disk_is_a_clear_error() {
     fs::create_dir(&small).unwrap();
     let script = format!(
         "mount -t tmpfs -o size=400k none {0} || exit 99; cp {1} {0}; cd {0}; head -c 80k /dev/zero >out.bin; \
-         {NORD} user add disk.img CRANE; echo status $?; cmp disk.img {1} && echo same; \
-         {NORD} read disk.img DOCK/CRANE:PLAN out.bin; echo status $?; stat -c %s out.bin; ls -A; {NORD} check disk.img",
+         {NORD} user add disk.img FLOCK; echo status $?; cmp disk.img {1} && echo same; \
+         {NORD} read disk.img DOCK/LAMBS:DATA out.bin; echo status $?; stat -c %s out.bin; ls -A; {NORD} check disk.img",
         small.display(),
         image.display(),
     );
@@ -82,10 +82,10 @@ fn an_answer_that_cannot_be_printed_is_an_error() {
     for (line, words) in [
         ("list IMAGE", "nord: done, but the answer could not be printed: No space left"),
         (
-            "user add IMAGE CRANE",
+            "user add IMAGE FLOCK",
             "nord: done, but the answer could not be printed: No space left",
         ),
-        ("read IMAGE DOCK/CRANE:PLAN", "nord: standard output: No space left"),
+        ("read IMAGE DOCK/LAMBS:DATA", "nord: standard output: No space left"),
     ] {
         let full = fs::File::options().write(true).open("/dev/full").unwrap();
         let child = Command::new(NORD)
@@ -97,7 +97,7 @@ fn an_answer_that_cannot_be_printed_is_an_error() {
         let run = Run::of(child.wait_with_output().unwrap());
         assert_eq!((run.status, run.err.starts_with(words)), (74, true), "{line}: {}", run.err);
     }
-    assert!(done(&image, "list IMAGE").contains("CRANE"));
+    assert!(done(&image, "list IMAGE").contains("FLOCK"));
 }
 
 #[test]
@@ -109,9 +109,9 @@ fn a_reader_that_goes_away_is_no_error_but_for_a_file_in_parts() {
         Run::of(Command::new("bash").args(["-c", &script]).output().unwrap()).err
     };
     assert_eq!(statuses("list IMAGE"), "0\n");
-    assert_eq!(statuses("user add IMAGE CRANE"), "0\n");
-    assert_eq!(statuses("read IMAGE DOCK/CRANE:PLAN"), "74\n");
-    assert!(done(&image, "list IMAGE").contains("CRANE"));
+    assert_eq!(statuses("user add IMAGE FLOCK"), "0\n");
+    assert_eq!(statuses("read IMAGE DOCK/LAMBS:DATA"), "74\n");
+    assert!(done(&image, "list IMAGE").contains("FLOCK"));
 }
 
 #[test]
@@ -120,7 +120,7 @@ fn an_unreadable_image_and_one_that_may_not_be_written() {
     mode(&folder.0, 0o777);
     let before = fs::read(&image).unwrap();
     mode(&image, 0o000);
-    for line in ["check IMAGE", "user add IMAGE CRANE"] {
+    for line in ["check IMAGE", "user add IMAGE FLOCK"] {
         let run = run_as_nobody(&folder, &image, line);
         assert_eq!(
             (run.status, run.err.contains("disk.img: Permission denied")),
@@ -131,7 +131,7 @@ fn an_unreadable_image_and_one_that_may_not_be_written() {
     }
     mode(&image, 0o444);
     assert_eq!(run_as_nobody(&folder, &image, "check IMAGE").status, 0);
-    let run = run_as_nobody(&folder, &image, "user add IMAGE CRANE");
+    let run = run_as_nobody(&folder, &image, "user add IMAGE FLOCK");
     assert_eq!(
         (run.status, run.err.contains("disk.img: Permission denied")),
         (74, true),
@@ -148,7 +148,7 @@ fn a_folder_that_may_not_be_written() {
     mode(&image, 0o666);
     run_as_nobody(&folder, &image, "check IMAGE");
     mode(&folder.0, 0o555);
-    let run = run_as_nobody(&folder, &image, "user add IMAGE CRANE");
+    let run = run_as_nobody(&folder, &image, "user add IMAGE FLOCK");
     mode(&folder.0, 0o755);
     assert_eq!(run.status, 74);
     assert!(
@@ -169,7 +169,7 @@ fn owner_and_permissions_are_kept() {
         std::os::unix::fs::chown(&image, Some(65534), Some(65534)).unwrap();
     }
     let before = fs::metadata(&image).unwrap();
-    done(&image, "user add IMAGE CRANE");
+    done(&image, "user add IMAGE FLOCK");
     let after = fs::metadata(&image).unwrap();
     assert_eq!(
         (after.mode(), after.uid(), after.gid()),
@@ -184,9 +184,9 @@ fn a_link_to_an_image_stays_a_link() {
     fs::create_dir(folder.path("else")).unwrap();
     let link = folder.path("else/link.img");
     symlink(&image, &link).unwrap();
-    done(&link, "user add IMAGE CRANE");
+    done(&link, "user add IMAGE FLOCK");
     assert!(fs::symlink_metadata(&link).unwrap().is_symlink());
-    assert!(done(&image, "list IMAGE").contains("CRANE"));
+    assert!(done(&image, "list IMAGE").contains("FLOCK"));
     assert_eq!(folder.names(), ["disk.img", "else"]);
 }
 
@@ -198,7 +198,7 @@ fn what_is_no_image_file() {
         (folder.path("absent.img"), "No such file"),
         ("/dev/null".into(), "not a file"),
     ] {
-        for line in ["check IMAGE", "user add IMAGE CRANE"] {
+        for line in ["check IMAGE", "user add IMAGE FLOCK"] {
             let run = run(&path, line);
             assert_eq!(
                 (run.status, run.err.contains(words)),

@@ -84,7 +84,7 @@ fn other_change(line: &str) -> Case {
     let (folder, image) = disk(1024, 900);
     let bytes = folder.put("bytes.bin", &noise(3, 600 * 2048));
     done(&image, &format!("write IMAGE DOCK/READS:DATA {}", bytes.display()));
-    done(&image, "user add IMAGE CRANE");
+    done(&image, "user add IMAGE FLOCK");
     Case::new(folder, line.to_string())
 }
 
@@ -128,7 +128,7 @@ fn a_write_killed_at_many_moments() {
 #[test]
 fn other_changes_killed_at_many_moments() {
     for line in [
-        "user delete IMAGE CRANE",
+        "user delete IMAGE FLOCK",
         "file delete IMAGE DOCK/READS:DATA",
         "file grow IMAGE DOCK/READS:DATA 50",
         "format IMAGE BERTH",

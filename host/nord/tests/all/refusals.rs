@@ -75,7 +75,7 @@ fn number_3_names_the_lowest_broken_rule() {
         for line in [
             "check IMAGE",
             "list IMAGE",
-            "user add IMAGE CRANE",
+            "user add IMAGE FLOCK",
             "read IMAGE @0/@0",
             "file grow IMAGE DOCK/READS:DATA",
             "who IMAGE 0",
@@ -99,8 +99,8 @@ fn numbers_4_to_7() {
     let (_folder, image) = sample();
     done(&image, "file create IMAGE DOCK/EMPTY");
     for (line, number, words) in [
-        ("find IMAGE CRANE", 4, "there is no such user: CRANE"),
-        ("find IMAGE CRANE/READS", 4, "there is no such user: CRANE"),
+        ("find IMAGE FLOCK", 4, "there is no such user: FLOCK"),
+        ("find IMAGE FLOCK/READS", 4, "there is no such user: FLOCK"),
         ("find IMAGE DOCK/READS", 4, "there is no such file: DOCK/READS:"),
         ("read IMAGE @0/@9", 4, "there is no such file: @0/@9"),
         ("read IMAGE @9/@0", 4, "there is no such file: @9/@0"),
@@ -111,15 +111,15 @@ fn numbers_4_to_7() {
         ),
         ("user delete IMAGE @1", 4, "there is no such user: @1"),
         ("file open IMAGE @0/@7", 4, "there is no such file: @0/@7"),
-        ("file create IMAGE CRANE/READS", 4, "there is no such user: CRANE"),
+        ("file create IMAGE FLOCK/READS", 4, "there is no such user: FLOCK"),
         ("user add IMAGE DOCK", 5, "the name is taken: DOCK"),
         ("file create IMAGE DOCK/READS:DATA", 5, "the name is taken: DOCK/READS:DATA"),
         (
-            "file grow IMAGE DOCK/CRANE:PLAN",
+            "file grow IMAGE DOCK/LAMBS:DATA",
             6,
-            "a contiguous file does not grow: DOCK/CRANE:PLAN",
+            "a contiguous file does not grow: DOCK/LAMBS:DATA",
         ),
-        ("file shrink IMAGE DOCK/CRANE:PLAN", 6, "a contiguous file does not shrink"),
+        ("file shrink IMAGE DOCK/LAMBS:DATA", 6, "a contiguous file does not shrink"),
         ("file shrink IMAGE DOCK/EMPTY", 6, "nor does an empty one: DOCK/EMPTY:"),
         ("file shrink IMAGE DOCK/READS:DATA 4", 6, "(page 4 of 4 to shrink by)"),
         ("user delete IMAGE DOCK", 7, "the user has a file: DOCK"),
@@ -147,8 +147,8 @@ fn number_8_when_all_entries_are_used() {
         );
     }
     std::fs::write(&image, nord::store::bytes(&words)).unwrap();
-    assert!(fails(&image, "user add IMAGE CRANE", 8).contains("all 256 entries are used: CRANE"));
-    assert!(fails(&image, "file create IMAGE DOCK/CRANE", 8).contains("all 256 entries are used: DOCK/CRANE:"));
+    assert!(fails(&image, "user add IMAGE FLOCK", 8).contains("all 256 entries are used: FLOCK"));
+    assert!(fails(&image, "file create IMAGE DOCK/FLOCK", 8).contains("all 256 entries are used: DOCK/FLOCK:"));
 }
 
 #[test]

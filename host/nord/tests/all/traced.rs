@@ -41,7 +41,7 @@ fn name(call: &str) -> &str {
 #[test]
 fn the_new_file_is_synced_before_the_rename_and_the_folder_after_it() {
     let (folder, _image) = sample();
-    let calls = calls(&folder, "user add IMAGE CRANE");
+    let calls = calls(&folder, "user add IMAGE FLOCK");
     if calls.is_empty() {
         return;
     }
@@ -103,11 +103,11 @@ fn killed_at_each_system_call() {
     let (folder, image) = sample();
     let small = folder.put("small.bin", &noise(1, 5000));
     let write = format!("write IMAGE DOCK/READS:DATA {}", small.display());
-    done(Path::new(&image), "user add IMAGE CRANE");
+    done(Path::new(&image), "user add IMAGE FLOCK");
     let mut case = Case::new(folder, write);
     for line in [
         "",
-        "user delete IMAGE CRANE",
+        "user delete IMAGE FLOCK",
         "file grow IMAGE DOCK/READS:DATA 3",
         "format IMAGE BERTH",
     ] {

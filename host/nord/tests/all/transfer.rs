@@ -89,7 +89,7 @@ fn a_write_that_does_not_fit_changes_nothing() {
         let said = fails(&image, &format!("write IMAGE {name} {}", large.display()), 9);
         assert!(said.contains("given less used is below the pages needed"), "{said}");
     }
-    assert!(fails(&image, &format!("write IMAGE CRANE/READS {}", large.display()), 4).contains("no such user"));
+    assert!(fails(&image, &format!("write IMAGE FLOCK/READS {}", large.display()), 4).contains("no such user"));
     assert!(fails(&image, &format!("write IMAGE DOCK/reads {}", large.display()), 2).contains("an argument is wrong"));
     assert!(fails(&image, &format!("write IMAGE DOCK/NEW --contiguous {}", large.display()), 9).contains("pages needed"));
     assert!(fails(&image, &format!("write IMAGE DOCK/NEW {}", folder.path("absent").display()), 74).contains("No such file"));
@@ -109,19 +109,19 @@ fn contiguous_files_take_what_fits_exactly() {
     let ten = folder.put("ten.bin", &noise(1, 10 * 2048 - 7));
     let eleven = folder.put("eleven.bin", &noise(2, 10 * 2048 + 1));
     let nine = folder.put("nine.bin", &noise(3, 9 * 2048));
-    done(&image, &format!("write IMAGE DOCK/CRANE:PLAN {}", ten.display()));
+    done(&image, &format!("write IMAGE DOCK/LAMBS:DATA {}", ten.display()));
     assert_eq!(
-        run(&image, "read IMAGE DOCK/CRANE:PLAN").out[..10 * 2048 - 7],
+        run(&image, "read IMAGE DOCK/LAMBS:DATA").out[..10 * 2048 - 7],
         noise(1, 10 * 2048 - 7)
     );
-    assert!(fails(&image, &format!("write IMAGE DOCK/CRANE:PLAN {}", eleven.display()), 6).contains("a contiguous file does not grow"));
-    assert!(fails(&image, &format!("write IMAGE DOCK/CRANE:PLAN {}", nine.display()), 6).contains("a contiguous file does not shrink"));
+    assert!(fails(&image, &format!("write IMAGE DOCK/LAMBS:DATA {}", eleven.display()), 6).contains("a contiguous file does not grow"));
+    assert!(fails(&image, &format!("write IMAGE DOCK/LAMBS:DATA {}", nine.display()), 6).contains("a contiguous file does not shrink"));
     done(
         &image,
-        &format!("write IMAGE DOCK/QUAY:PLAN --contiguous --created 5 {}", nine.display()),
+        &format!("write IMAGE DOCK/RAMS:PLAN --contiguous --created 5 {}", nine.display()),
     );
-    assert!(done(&image, "list IMAGE").ends_with("FILE 2 QUAY:PLAN PAGES 9 CONTIGUOUS\n"));
-    assert_eq!(run(&image, "read IMAGE DOCK/QUAY:PLAN").out, noise(3, 9 * 2048));
+    assert!(done(&image, "list IMAGE").ends_with("FILE 2 RAMS:PLAN PAGES 9 CONTIGUOUS\n"));
+    assert_eq!(run(&image, "read IMAGE DOCK/RAMS:PLAN").out, noise(3, 9 * 2048));
     assert!(fails(&image, &format!("write IMAGE DOCK/READS:DATA --contiguous {}", nine.display()), 64).contains("is not contiguous"));
 }
 

@@ -53,12 +53,12 @@ pub fn yard154() -> Vec<u16> {
     let dock = user(&mut image, "DOCK", 60);
     grown(&mut image, dock, "READS", 12);
     run(&mut image, dock, "LOG", 10);
-    let crane = user(&mut image, "CRANE", 30);
+    let flock = user(&mut image, "FLOCK", 30);
     let gate = user(&mut image, "GATE", 20);
     let weigh = user(&mut image, "WEIGH-BRIDGE", 12);
-    let (loads, turns) = (grown(&mut image, crane, "LOADS", 3), grown(&mut image, gate, "TURNS", 2));
+    let (loads, turns) = (grown(&mut image, flock, "LOADS", 3), grown(&mut image, gate, "TURNS", 2));
     for _ in 0..6 {
-        done(proved::grow(&mut image, crane, loads));
+        done(proved::grow(&mut image, flock, loads));
         done(proved::grow(&mut image, gate, turns));
     }
     let old = grown(&mut image, dock, "OLD", 5);
@@ -71,7 +71,7 @@ pub fn yard154() -> Vec<u16> {
 
 /// Seventy users, so that the object file is subindexed; files of the first, the last and one between.
 pub fn many_users() -> Vec<u16> {
-    let mut image = volume("HARBOUR", 300);
+    let mut image = volume("UPLANDS", 300);
     for n in 0..70 {
         user(&mut image, &format!("U{n}"), if n % 23 == 0 { 20 } else { 0 });
     }
@@ -107,7 +107,7 @@ pub fn full() -> Vec<u16> {
     const NAMES: [&str; 12] = [
         "SYSTEM",
         "DOCK",
-        "CRANE",
+        "FLOCK",
         "GATE",
         "WEIGH-BRIDGE",
         "LIBRARY",
@@ -118,7 +118,7 @@ pub fn full() -> Vec<u16> {
         "ARCHIVE",
         "GUEST",
     ];
-    let mut image = volume("HARBOUR-MAIN-01", 16_384);
+    let mut image = volume("UPLANDS-MAIN-01", 16_384);
     let users: Vec<u32> = NAMES.iter().map(|name| user(&mut image, name, 1360)).collect();
     for round in 0..4 {
         for user in &users {
