@@ -9,6 +9,9 @@ use std::panic::{catch_unwind, AssertUnwindSafe};
 /// Stands for the answer of a program that panicked: no call answers so.
 const NO_ANSWER: Answer = Answer { number: u32::MAX, rule: 0, value: 0, kind: 0, user: 0, file: 0, position: 0, offset: 0, length: 0 };
 
+/// The pages of the largest image that the listing program takes.
+const LISTED: usize = 32;
+
 /// What a step answered: the call itself, and the check after it.
 #[derive(Clone, Copy)]
 pub struct Answered {
@@ -62,7 +65,7 @@ impl Both {
         }
     }
 
-    /// Makes a call of both and compares all answers and all words; then the same with the check.
+    /// Makes a call of both and compares all answers and all words; then the same with the check, and the listings of a small image.
     pub fn call(&mut self, call: Call, tally: &mut Tally) -> Result<Answered, Box<Disagreement>> {
         self.lend(None, call, tally)
     }
@@ -73,8 +76,21 @@ impl Both {
         self.steps.push(Step::Call { lent, call: call.clone() });
         let answer = self.one_call("the call", &call, words)?;
         let check = self.one_call("the check after the call", &Call::Check, self.start.len())?;
+        self.same_listing(check)?;
         tally.called(call.which(), &answer, &check);
         Ok(Answered { call: answer, check })
+    }
+
+    /// The listings of an image that the listing program takes are the same, byte for byte; refusals have theirs, too.
+    fn same_listing(&mut self, check: Answer) -> Result<(), Box<Disagreement>> {
+        if self.start.len() > LISTED * PAGE {
+            return Ok(());
+        }
+        let bytes: Vec<u8> = self.second.iter().flat_map(|word| word.to_be_bytes()).collect();
+        match proved::list(&self.proved) == second::list(&bytes) {
+            true => Ok(()),
+            false => Err(self.disagreement("the listing after the call differs".to_string(), check, check)),
+        }
     }
 
     /// One call of both, and what they agree on. A panic of the second program is a disagreement, too.
@@ -93,14 +109,19 @@ impl Both {
         if field.is_none() && self.proved == self.second {
             return Ok(());
         }
+        let what = match field {
+            Some(field) => format!("{of}: `{field}` of the answers differs"),
+            None => format!("{of}: the answers are the same, the images are not"),
+        };
+        Err(self.disagreement(what, proved, second))
+    }
+
+    /// What is told of a disagreement, with the first word that differs.
+    fn disagreement(&mut self, what: String, proved: Answer, second: Answer) -> Box<Disagreement> {
         let at = (0..self.start.len()).find(|&at| self.proved[at] != self.second[at]);
         let word = at.map(|at| (at, self.proved[at], self.second[at]));
-        let what = match (field, word) {
-            (Some(field), _) => format!("{of}: `{field}` of the answers differs"),
-            (None, _) => format!("{of}: the answers are the same, the images are not"),
-        };
         let (start, steps) = (std::mem::take(&mut self.start), std::mem::take(&mut self.steps));
-        Err(Box::new(Disagreement { start, steps, what, proved, second, word }))
+        Box::new(Disagreement { start, steps, what, proved, second, word })
     }
 }
 

@@ -5,7 +5,6 @@ pub mod answers;
 pub mod args;
 pub mod commands;
 pub mod failure;
-pub mod listing;
 pub mod lock;
 pub mod manual;
 pub mod map;

@@ -44,6 +44,7 @@ extern "C" {
     pub(crate) fn nord_address(image: *const u16, words: usize, user: usize, file: usize, position: usize) -> Reply;
     pub(crate) fn nord_who_holds(image: *const u16, words: usize, page: usize) -> Holder;
     pub(crate) fn nord_read_page(image: *const u16, words: usize, user: usize, file: usize, position: usize) -> Part;
+    pub(crate) fn nord_list(image: *const u16, words: usize, out: *mut u8, out_bytes: usize) -> usize;
     pub(crate) fn nord_format(image: *mut u16, words: usize, name: *const u8, name_bytes: usize, bit_page: usize) -> Reply;
     pub(crate) fn nord_format_default(image: *mut u16, words: usize, name: *const u8, name_bytes: usize) -> Reply;
     pub(crate) fn nord_create_user(image: *mut u16, words: usize, name: *const u8, name_bytes: usize) -> Reply;

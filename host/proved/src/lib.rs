@@ -38,6 +38,23 @@ pub fn read_page(image: &[u16], user: u32, file: u32, position: u32) -> &[u16] {
     &image[part.offset..part.offset + part.length]
 }
 
+/// The listing of document 01 byte for byte, or the line of its refusal.
+pub fn list(image: &[u16]) -> Vec<u8> {
+    let mut text = vec![0; 65536];
+    let length = list_into(image, &mut text);
+    if length > text.len() {
+        text.resize(length, 0);
+        list_into(image, &mut text);
+    }
+    text.truncate(length);
+    text
+}
+
+/// The listing's first bytes, as many as there is room for, and its whole length.
+fn list_into(image: &[u16], out: &mut [u8]) -> usize {
+    unsafe { boundary::nord_list(image.as_ptr(), image.len(), out.as_mut_ptr(), out.len()) }
+}
+
 /// Formats with the bit page given, or with page P/2.
 pub fn format(image: &mut [u16], name: &[u8], bit_page: Option<u32>) -> Reply {
     let (words, length) = (image.as_mut_ptr(), image.len());

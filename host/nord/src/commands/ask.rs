@@ -4,7 +4,7 @@ use crate::answers::{done, Answer, Call, Refusal};
 use crate::args::Ask;
 use crate::failure::Failure;
 use crate::names::{FileName, UserName, Within};
-use crate::{listing, store, volume, volume_json};
+use crate::{store, volume, volume_json};
 use proved::{Holder, Reply};
 use serde_json::json;
 
@@ -21,10 +21,9 @@ pub fn check(at: &Ask) -> Result<Answer, Failure> {
 pub fn list(at: &Ask) -> Result<Answer, Failure> {
     let image = store::read(&at.image)?;
     done(proved::check(&image), Call::Check, "")?;
-    let volume = volume::read(&image);
     Ok(Answer {
-        text: listing::text(&volume),
-        ..Answer::new("", volume_json::json(&volume))
+        text: String::from_utf8_lossy(&proved::list(&image)).into_owned(),
+        ..Answer::new("", volume_json::json(&volume::read(&image)))
     })
 }
 
