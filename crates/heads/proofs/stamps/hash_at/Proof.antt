@@ -39,7 +39,7 @@ loop-again c =
 returns : tie.Need-returns Inv-loop μ-loop
 returns c =
     let a = c .before .before .before .args in let l = c .before .loop in let e : l .i ≡ a .n = omega arith in
-    l .inv .1 ∙ ap (hash (vol (a .img .now) (a .p)) (a .k)) e
+    (l .inv .1 ∙ ap (hash (vol (a .img .now) (a .p)) (a .k)) e, l .inv .2)
 
 pub hash-at-spec : {M : Type 1} → statement M
 hash-at-spec =
