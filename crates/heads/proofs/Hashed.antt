@@ -99,11 +99,11 @@ module _ (E : Table) (n base y : ℕ) (T : List ℕ) (d : Stamped E n base y T) 
       keep p m = met-set E p base y R (met-set E p base y T m a s (omega (arith, d .size)) g) b s (omega (arith, long)) g
 
   fresh-low : (getD T a 0 ≡ s → ⊥) → Fresh E n base y
-  fresh-low f = met-fresh E (lowPlace n) base y T (d .low) n (by-hash n (λ h. h % 4096)) (λ e. f (ap (λ (k : ℕ). getD T k 0) ea ∙ e ∙ sym g))
+  fresh-low f = met-fresh E (lowPlace n) base y T (d .low) n (by-hash n (λ h. h / 256 % 4096)) (λ e. f (ap (λ (k : ℕ). getD T k 0) ea ∙ e ∙ sym g))
 
   fresh-high : (getD R b 0 ≡ s → ⊥) → Fresh E n base y
   fresh-high f =
-      met-fresh E (highPlace n) base y R (met-set E (highPlace n) base y T (d .high) a s (omega (arith, d .size)) g) n (by-hash n (λ h. h / 16)) (λ e. f (ap (λ (k : ℕ). getD R k 0) eb ∙ e ∙ sym g))
+      met-fresh E (highPlace n) base y R (met-set E (highPlace n) base y T (d .high) a s (omega (arith, d .size)) g) n (by-hash n (λ h. h / 1048576)) (λ e. f (ap (λ (k : ℕ). getD R k 0) eb ∙ e ∙ sym g))
 
 -- ---- as the code goes on to entry y, on page q of the file at r
 
@@ -116,25 +116,25 @@ module _ (v : Vol) (r : Root) (n base q y : ℕ) (T : List ℕ) (a : q ≡ pageA
       )
 
   -- h is the number of its words, and R and S the table after one stamp and after both
-  module _ (h s : ℕ) (e : h ≡ hash (entryIn v q y) 1 n) (l : h < 65521) (g : s ≡ stampOf base) (R : List ℕ) (once : R ≡ set T (h % 4096) s) where
+  module _ (h s : ℕ) (e : h ≡ hash (entryIn v q y) 1 n) (l : h < 4294967296) (g : s ≡ stampOf base) (R : List ℕ) (once : R ≡ set T (h / 256 % 4096) s) where
     number : h ≡ hash (entry v r y) 1 n
     number = e ∙ ap (λ (w : Words). hash w 1 n) (entry-in v r q y a)
 
-    low-is : h % 4096 ≡ lowPlace n (entry v r y)
-    low-is = ap (λ (x : ℕ). x % 4096) number
+    low-is : h / 256 % 4096 ≡ lowPlace n (entry v r y)
+    low-is = ap (λ (x : ℕ). x / 256 % 4096) number
 
-    high-is : h / 16 ≡ highPlace n (entry v r y)
-    high-is = ap (λ (x : ℕ). x / 16) number
+    high-is : h / 1048576 ≡ highPlace n (entry v r y)
+    high-is = ap (λ (x : ℕ). x / 1048576) number
 
-    pub entry-stamped : (S : List ℕ) → S ≡ set R (h / 16) s → Stamped (entry v r) n base (y + 1) S
+    pub entry-stamped : (S : List ℕ) → S ≡ set R (h / 1048576) s → Stamped (entry v r) n base (y + 1) S
     entry-stamped S twice =
-        subst (Stamped (entry v r) n base (y + 1)) (sym (twice ∙ ap (λ (X : List ℕ). set X (h / 16) s) once)) (stamped-both (entry v r) n base y T d (h % 4096) (h / 16) s low-is high-is (omega arith) (omega arith) g)
+        subst (Stamped (entry v r) n base (y + 1)) (sym (twice ∙ ap (λ (X : List ℕ). set X (h / 1048576) s) once)) (stamped-both (entry v r) n base y T d (h / 256 % 4096) (h / 1048576) s low-is high-is (omega arith) (omega arith) g)
 
-    pub entry-low : (getD T (h % 4096) 0 ≡ s → ⊥) → Fresh (entry v r) n base y
-    entry-low = fresh-low (entry v r) n base y T d (h % 4096) (h / 16) s low-is high-is (omega arith) (omega arith) g
+    pub entry-low : (getD T (h / 256 % 4096) 0 ≡ s → ⊥) → Fresh (entry v r) n base y
+    entry-low = fresh-low (entry v r) n base y T d (h / 256 % 4096) (h / 1048576) s low-is high-is (omega arith) (omega arith) g
 
-    pub entry-high : (getD R (h / 16) 0 ≡ s → ⊥) → Fresh (entry v r) n base y
-    entry-high f = fresh-high (entry v r) n base y T d (h % 4096) (h / 16) s low-is high-is (omega arith) (omega arith) g (λ x. f (ap (λ (X : List ℕ). getD X (h / 16) 0) once ∙ x))
+    pub entry-high : (getD R (h / 1048576) 0 ≡ s → ⊥) → Fresh (entry v r) n base y
+    entry-high f = fresh-high (entry v r) n base y T d (h / 256 % 4096) (h / 1048576) s low-is high-is (omega arith) (omega arith) g (λ x. f (ap (λ (X : List ℕ). getD X (h / 1048576) 0) once ∙ x))
 
 -- an absent page has no used entries
 pub stamped-page : (v : Vol) (r : Root) (n base q first : ℕ) (T : List ℕ) → first % 32 ≡ 0 → q ≡ pageAt v r (first / 32) → q ≡ 0 → Stamped (entry v r) n base first T → Stamped (entry v r) n base (first + 32) T

@@ -9,7 +9,7 @@ use Rattle.heads.specs.Span.{Span}
 
 -- one word more
 abbrev pub mix : ℕ → ℕ → ℕ
-mix h x = (h * 31415 + x) % 65521
+mix h x = (h + x) * 1597334677 % 4294967296
 
 -- a number of the n words from k on
 unfoldable pub hash : Words → ℕ → ℕ → ℕ
@@ -18,10 +18,10 @@ hash w k (suc n) = mix (hash w k n) (w (k + n))
 
 -- the two slots of an entry's n words from word 1 on
 abbrev pub lowPlace : ℕ → Words → ℕ
-lowPlace n w = hash w 1 n % 4096
+lowPlace n w = hash w 1 n / 256 % 4096
 
 abbrev pub highPlace : ℕ → Words → ℕ
-highPlace n w = hash w 1 n / 16
+highPlace n w = hash w 1 n / 1048576
 
 -- the stamp of the 256 entries from `base` on; a new table has only zeros
 abbrev pub stampOf : ℕ → ℕ

@@ -21,16 +21,16 @@ pub(crate) fn room() -> [u16; 4096]
 
 // The number of one word more.
 fn mixed(h: usize, x: u16) -> usize
-    requires { ⌜ h < 65521 ⌝ }
-    ensures { λ r. ⌜ (r ≡ mix h x) × (r < 65521) ⌝ }
+    requires { ⌜ h < 4294967296 ⌝ }
+    ensures { λ r. ⌜ (r ≡ mix h x) × (r < 4294967296) ⌝ }
 {
-    (h * 31415 + x as usize) % 65521
+    (h + x as usize) * 1597334677 % 4294967296
 }
 
 // The number of the n words from word k of page p on.
 fn hash_at(img: &[u16], p: usize, k: usize, n: usize) -> usize
     requires { ⌜ (1024 * p + 1024 ≤ length (now img)) × (k + n ≤ 1024) ⌝ }
-    ensures { λ r. ⌜ (r ≡ hash (vol (now (img .entry)) p) k n) × (r < 65521) ⌝ }
+    ensures { λ r. ⌜ (r ≡ hash (vol (now (img .entry)) p) k n) × (r < 4294967296) ⌝ }
 {
     let mut h: usize = 0;
     let mut i: usize = 0;
@@ -44,7 +44,7 @@ fn hash_at(img: &[u16], p: usize, k: usize, n: usize) -> usize
 // The number of the n words from word 1 of entry e on, which is on page q.
 pub(crate) fn hash_of(img: &[u16], q: usize, e: usize, n: usize) -> usize
     requires { ⌜ (0 < q) × (q < pages (now img)) × (n < 32) ⌝ }
-    ensures { λ r. ⌜ (r ≡ hash (entryIn (vol (now (img .entry))) q e) 1 n) × (r < 65521) ⌝ }
+    ensures { λ r. ⌜ (r ≡ hash (entryIn (vol (now (img .entry))) q e) 1 n) × (r < 4294967296) ⌝ }
 {
     let at = EntryPlace::of(e);
     let w = at.word;

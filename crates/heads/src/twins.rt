@@ -68,8 +68,8 @@ fn entry_apart(
     }
     let h = hash_of(img, q, y, n);
     let s = stamp_of(base);
-    let low = stamp(table, h % SLOTS, s);
-    let high = stamp(table, h / 16, s);
+    let low = stamp(table, h / 256 % SLOTS, s);
+    let high = stamp(table, h / 1048576, s);
     if !low {
         return true;
     }

@@ -8,7 +8,7 @@ use Rattle.heads.proofs.stamps.hash_at.Statement.{statement}
 use Rattle.heads.proofs.stamps.hash_at.Tie as tie
 
 abbrev Inv-loop : tie.InvT-loop
-Inv-loop img p k n h₀ i₀ h i = (i ≤ n) × (h ≡ hash (vol img p) k i) × (h < 65521)
+Inv-loop img p k n h₀ i₀ h i = (i ≤ n) × (h ≡ hash (vol img p) k i) × (h < 4294967296)
 
 abbrev μ-loop : tie.MeasureT-loop
 μ-loop img p k n h₀ i₀ h i = n - i
