@@ -31,6 +31,7 @@ stampOf base = base / 256 + 1
 abbrev pub Met : Table → (Words → ℕ) → ℕ → ℕ → List ℕ → Type 0
 Met E p base y T = Span (λ x. 0 < used (E x) → getD T (p (E x)) 0 ≡ stampOf base) base y
 
+-- a table in which each of them has both slots stamped
 pub record Stamped (E : Table) (n base y : ℕ) (T : List ℕ) : Type 0 where
   pub size : length T ≡ 4096
   pub low : Met E (lowPlace n) base y T

@@ -49,7 +49,7 @@ fn fresh(img: &[u16], flags: u16, top: usize, n: usize, base: usize, q: usize, y
     true
 }
 
-// The same of any entry y on page q: an unused one has no twin, and one of whose slots one has not this stamp is the first of its words.
+// The same of any entry y on page q: an unused one has no twin, and one that has a slot without this stamp is the first of its words.
 fn entry_apart(
     img: &[u16],
     table: &mut [u16; 4096],
