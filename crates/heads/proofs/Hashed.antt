@@ -1,5 +1,5 @@
 -- Stamped slots: what they say of words met before. Assumes nothing.
-use mathlib.Core.Path.{_≡_, refl, sym, ap, ap₂, _∙_}
+use mathlib.Core.Path.{_≡_, refl, sym, ap, ap₂, _∙_, subst}
 use mathlib.Core.List.{List}
 use Prim.Native.Nat.{ℕ, zero, suc, _+_, _/_, _%_, _<_}
 use native.Mathlib.Decide.{ℕ-discrete}
@@ -12,8 +12,8 @@ use Rattle.book.specs.Trees.{Root, pageAt}
 use Rattle.book.specs.Entries.{Table, entry, entryWord, used}
 use Rattle.book.specs.Names.{Same}
 use Rattle.tree.specs.Reach.{entryIn}
-use Rattle.heads.specs.Span.{Span, span-none, span-more, span-join}
-use Rattle.heads.specs.Stamps.{mix, hash, place, stampOf, Stamped}
+use Rattle.heads.specs.Span.{Span, span-none, span-more, span-join, span-by}
+use Rattle.heads.specs.Stamps.{mix, hash, lowPlace, highPlace, stampOf, Met, Stamped}
 use Rattle.heads.specs.Twins.{Fresh}
 use Rattle.heads.proofs.Pages.{entry-in, entry-on, absent-unused}
 use Rattle.heads.proofs.Named.{stored-word}
@@ -35,72 +35,114 @@ unfolding hash
 hash-same zero w x k j s = refl
 hash-same (suc n) w x k j s = ap₂ mix (hash-same n w x k j (λ i h. s i (omega arith))) (s n (omega arith))
 
-place-same : (n : ℕ) (w x : Words) → Same n w 1 x 1 → place n w ≡ place n x
-unfolding Same
-place-same n w x s = ap (λ (h : ℕ). h % 4096) (hash-same n w x 1 1 s)
-
 -- read at its place on its page
-pub place-in : (v : Vol) (q e w n h : ℕ) → 0 < q → w ≡ entryWord e → h ≡ hash (v q) (w + 1) n → h % 4096 ≡ place n (entryIn v q e)
-place-in v q e w n h g a b = ap (λ (x : ℕ). x % 4096) (b ∙ hash-same n (v q) (entryIn v q e) (w + 1) 1 (λ i l. sym (stored-word v q e w 1 g a i)))
+pub hash-in : (v : Vol) (q e w n : ℕ) → 0 < q → w ≡ entryWord e → hash (v q) (w + 1) n ≡ hash (entryIn v q e) 1 n
+hash-in v q e w n g a = hash-same n (v q) (entryIn v q e) (w + 1) 1 (λ i l. sym (stored-word v q e w 1 g a i))
 
--- ---- stamps
+-- ---- a slot stamped
 
-module _ (E : Table) (n base y : ℕ) (T : List ℕ) (d : Stamped E n base y T) where
-  -- an unused entry needs none
-  stamped-unused : (0 < used (E y) → ⊥) → Stamped E n base (y + 1) T
-  stamped-unused u = record { size = d .size; met = span-more _ base y (d .met) (λ h. absurd (u h)) }
+pub set-size : (R T : List ℕ) (h s : ℕ) → R ≡ set T h s → length T ≡ 4096 → length R ≡ 4096
+set-size R T h s e l = ap length e ∙ length-set T h s ∙ l
 
-  -- slot h is stamped
-  stamped-more : (h s : ℕ) → h < 4096 → h ≡ place n (E y) → s ≡ stampOf base → (R : List ℕ) → R ≡ set T h s → Stamped E n base (y + 1) R
+module _ (T : List ℕ) (h s m : ℕ) (l : h < length T) (g : s ≡ m) where
+  set-here : (k : ℕ) → k ≡ h → getD (set T h s) k 0 ≡ m
+  set-here k q = ap (λ (j : ℕ). getD (set T h s) j 0) q ∙ getD-set-same T h s 0 l ∙ g
+
+  -- a slot that has the stamp keeps it
+  set-keeps : (k : ℕ) → getD T k 0 ≡ m → getD (set T h s) k 0 ≡ m
+  set-keeps k e = elim (ℕ-discrete k h) [
+    | yes q ↦ set-here k q
+    | no q ↦ getD-set-other T h k s 0 q ∙ e
+  ]
+
+-- ---- entries that were met, by their slots p
+
+module _ (E : Table) (p : Words → ℕ) (base y : ℕ) (T : List ℕ) (d : Met E p base y T) where
+  -- an unused entry needs no stamp
+  met-unused : (0 < used (E y) → ⊥) → Met E p base (y + 1) T
+  met-unused u = span-more _ base y d (λ h. absurd (u h))
+
+  met-more : getD T (p (E y)) 0 ≡ stampOf base → Met E p base (y + 1) T
+  met-more e = span-more _ base y d (λ u. e)
+
+  met-set : (h s : ℕ) → h < length T → s ≡ stampOf base → Met E p base y (set T h s)
   unfolding Span
-  stamped-more h s l e g R f = record {
-    size = ap length f ∙ length-set T h s ∙ d .size;
-    met = span-more _ base y (λ x i j u. old x (d .met x i j u)) (λ u. new (place n (E y)) (sym e));
+  met-set h s l g x i j u = set-keeps T h s (stampOf base) l g (p (E x)) (d x i j u)
+
+  -- where y's slot has not the stamp, no entry before has its words
+  met-fresh : (n : ℕ) → ((w x : Words) → Same n w 1 x 1 → p w ≡ p x) → (getD T (p (E y)) 0 ≡ stampOf base → ⊥) → Fresh E n base y
+  unfolding Span
+  met-fresh n same other x i j t = other (ap (λ (k : ℕ). getD T k 0) (sym (same (E x) (E y) (t .words))) ∙ d x i j (t .first))
+
+-- words that are the same have the same slots
+by-hash : (n : ℕ) (f : ℕ → ℕ) (w x : Words) → Same n w 1 x 1 → f (hash w 1 n) ≡ f (hash x 1 n)
+unfolding Same
+by-hash n f w x s = ap f (hash-same n w x 1 1 s)
+
+-- ---- both slots of entry y stamped, first a and then b
+
+module _ (E : Table) (n base y : ℕ) (T : List ℕ) (d : Stamped E n base y T) (a b s : ℕ) (ea : a ≡ lowPlace n (E y)) (eb : b ≡ highPlace n (E y)) (la : a < 4096) (lb : b < 4096) (g : s ≡ stampOf base) where
+  abbrev R : List ℕ
+  R = set T a s
+
+  long : length R ≡ 4096
+  long = length-set T a s ∙ d .size
+
+  stamped-both : Stamped E n base (y + 1) (set R b s)
+  stamped-both = record {
+    size = length-set R b s ∙ long;
+    low = met-more E (lowPlace n) base y (set R b s) (keep (lowPlace n) (d .low)) (set-keeps R b s (stampOf base) (omega (arith, long)) g (lowPlace n (E y)) (set-here T a s (stampOf base) (omega (arith, d .size)) g (lowPlace n (E y)) (sym ea)));
+    high = met-more E (highPlace n) base y (set R b s) (keep (highPlace n) (d .high)) (set-here R b s (stampOf base) (omega (arith, long)) g (highPlace n (E y)) (sym eb));
   }
     where
-      new : (i : ℕ) → i ≡ h → getD R i 0 ≡ stampOf base
-      new i q = ap₂ (λ (Z : List ℕ) (j : ℕ). getD Z j 0) f q ∙ getD-set-same T h s 0 (omega (arith, d .size)) ∙ g
+      keep : (p : Words → ℕ) → Met E p base y T → Met E p base y (set R b s)
+      keep p m = met-set E p base y R (met-set E p base y T m a s (omega (arith, d .size)) g) b s (omega (arith, long)) g
 
-      old : (x : ℕ) → getD T (place n (E x)) 0 ≡ stampOf base → getD R (place n (E x)) 0 ≡ stampOf base
-      old x m = elim (ℕ-discrete (place n (E x)) h) [
-        | yes q ↦ new (place n (E x)) q
-        | no q ↦ ap (λ (Z : List ℕ). getD Z (place n (E x)) 0) f ∙ getD-set-other T h (place n (E x)) s 0 q ∙ m
-      ]
+  fresh-low : (getD T a 0 ≡ s → ⊥) → Fresh E n base y
+  fresh-low f = met-fresh E (lowPlace n) base y T (d .low) n (by-hash n (λ h. h / 256 % 4096)) (λ e. f (ap (λ (k : ℕ). getD T k 0) ea ∙ e ∙ sym g))
 
-  -- where slot h has not this stamp, no entry before has these words
-  fresh-new : (h s : ℕ) → h ≡ place n (E y) → s ≡ stampOf base → (getD T h 0 ≡ s → ⊥) → Fresh E n base y
-  unfolding Span
-  fresh-new h s e g other x i j t =
-      let p : h ≡ place n (E x) = e ∙ sym (place-same n (E x) (E y) (t .words)) in
-      other (ap (λ (k : ℕ). getD T k 0) p ∙ d .met x i j (t .first) ∙ sym g)
+  fresh-high : (getD R b 0 ≡ s → ⊥) → Fresh E n base y
+  fresh-high f =
+      met-fresh E (highPlace n) base y R (met-set E (highPlace n) base y T (d .high) a s (omega (arith, d .size)) g) n (by-hash n (λ h. h / 1048576)) (λ e. f (ap (λ (k : ℕ). getD R k 0) eb ∙ e ∙ sym g))
 
 -- ---- as the code goes on to entry y, on page q of the file at r
 
 module _ (v : Vol) (r : Root) (n base q y : ℕ) (T : List ℕ) (a : q ≡ pageAt v r (y / 32)) (d : Stamped (entry v r) n base y T) where
   pub entry-unused : (0 < used (entryIn v q y) → ⊥) → Fresh (entry v r) n base y × Stamped (entry v r) n base (y + 1) T
   entry-unused u =
-      let w : 0 < used (entry v r y) → ⊥ = λ h. u (omega (arith, h, used-on v r q y a)) in
-      (fresh-unused (entry v r) n base y w, stamped-unused (entry v r) n base y T d w)
+      let w : 0 < used (entry v r y) → ⊥ = λ h. u (omega (arith, h, used-on v r q y a)) in (
+        fresh-unused (entry v r) n base y w,
+        record { size = d .size; low = met-unused (entry v r) (lowPlace n) base y T (d .low) w; high = met-unused (entry v r) (highPlace n) base y T (d .high) w },
+      )
 
-  -- its words fall into slot h
-  module _ (h s : ℕ) (p : h ≡ place n (entryIn v q y)) (g : s ≡ stampOf base) where
-    slot-in : h ≡ place n (entry v r y)
-    slot-in = p ∙ ap (place n) (entry-in v r q y a)
+  -- h is the number of its words, and R and S the table after one stamp and after both
+  module _ (h s : ℕ) (e : h ≡ hash (entryIn v q y) 1 n) (l : h < 4294967296) (g : s ≡ stampOf base) (R : List ℕ) (once : R ≡ set T (h / 256 % 4096) s) where
+    number : h ≡ hash (entry v r y) 1 n
+    number = e ∙ ap (λ (w : Words). hash w 1 n) (entry-in v r q y a)
 
-    pub entry-stamped : h < 4096 → (R : List ℕ) → R ≡ set T h s → Stamped (entry v r) n base (y + 1) R
-    entry-stamped l R f = stamped-more (entry v r) n base y T d h s l slot-in g R f
+    low-is : h / 256 % 4096 ≡ lowPlace n (entry v r y)
+    low-is = ap (λ (x : ℕ). x / 256 % 4096) number
 
-    pub entry-first : (getD T h 0 ≡ s → ⊥) → Fresh (entry v r) n base y
-    entry-first f = fresh-new (entry v r) n base y T d h s slot-in g f
+    high-is : h / 1048576 ≡ highPlace n (entry v r y)
+    high-is = ap (λ (x : ℕ). x / 1048576) number
+
+    pub entry-stamped : (S : List ℕ) → S ≡ set R (h / 1048576) s → Stamped (entry v r) n base (y + 1) S
+    entry-stamped S twice =
+        subst (Stamped (entry v r) n base (y + 1)) (sym (twice ∙ ap (λ (X : List ℕ). set X (h / 1048576) s) once)) (stamped-both (entry v r) n base y T d (h / 256 % 4096) (h / 1048576) s low-is high-is (omega arith) (omega arith) g)
+
+    pub entry-low : (getD T (h / 256 % 4096) 0 ≡ s → ⊥) → Fresh (entry v r) n base y
+    entry-low = fresh-low (entry v r) n base y T d (h / 256 % 4096) (h / 1048576) s low-is high-is (omega arith) (omega arith) g
+
+    pub entry-high : (getD R (h / 1048576) 0 ≡ s → ⊥) → Fresh (entry v r) n base y
+    entry-high f = fresh-high (entry v r) n base y T d (h / 256 % 4096) (h / 1048576) s low-is high-is (omega arith) (omega arith) g (λ x. f (ap (λ (X : List ℕ). getD X (h / 1048576) 0) once ∙ x))
 
 -- an absent page has no used entries
 pub stamped-page : (v : Vol) (r : Root) (n base q first : ℕ) (T : List ℕ) → first % 32 ≡ 0 → q ≡ pageAt v r (first / 32) → q ≡ 0 → Stamped (entry v r) n base first T → Stamped (entry v r) n base (first + 32) T
-unfolding Span
-stamped-page v r n base q first T f e z d = record {
-  size = d .size;
-  met = span-join _ base first (first + 32) (d .met) (λ x h l u. absurd (let w : ⊥ = omega (arith, absent-unused v q x _ (entry-on v q first x f h l r e) z) in w));
-}
+stamped-page v r n base q first T f e z d = record { size = d .size; low = past (lowPlace n) (d .low); high = past (highPlace n) (d .high) }
+  where
+    past : (p : Words → ℕ) → Met (entry v r) p base first T → Met (entry v r) p base (first + 32) T
+    past p m = span-join _ base first (first + 32) m (span-by _ first (first + 32) (λ x h l u. absurd (let w : ⊥ = omega (arith, absent-unused v q x _ (entry-on v q first x f h l r e) z) in w)))
 
 -- before the first entry
 pub stamped-none : (E : Table) (n base : ℕ) (T : List ℕ) → length T ≡ 4096 → Stamped E n base base T
-stamped-none E n base T e = record { size = e; met = span-none _ base }
+stamped-none E n base T e = record { size = e; low = span-none _ base; high = span-none _ base }

@@ -31,6 +31,10 @@ module _ (Q : ℕ → Type 0) where
   unfolding Span
   span-at a z s = s
 
+  pub span-by : (a z : ℕ) → ((x : ℕ) → a ≤ x → x < z → Q x) → Span Q a z
+  unfolding Span
+  span-by a z s = s
+
   pub span-part : (a b y z : ℕ) → a ≤ b → y ≤ z → Span Q a z → Span Q b y
   unfolding Span
   span-part a b y z h l s x i j = s x (omega arith) (omega arith)

@@ -1,4 +1,4 @@
--- A table of stamps that tells which words were met before: equal words fall into one slot. Assumes nothing.
+-- A table of stamps that tells which words were met before: equal words have the same two slots. Assumes nothing.
 use mathlib.Core.Path.{_≡_}
 use mathlib.Core.List.{List}
 use Prim.Native.Nat.{ℕ, zero, suc, _+_, _*_, _/_, _%_, _<_}
@@ -9,22 +9,30 @@ use Rattle.heads.specs.Span.{Span}
 
 -- one word more
 abbrev pub mix : ℕ → ℕ → ℕ
-mix h x = (h * 31415 + x) % 65521
+mix h x = (h + x) * 1597334677 % 4294967296
 
 -- a number of the n words from k on
 unfoldable pub hash : Words → ℕ → ℕ → ℕ
 hash w k zero = 0
 hash w k (suc n) = mix (hash w k n) (w (k + n))
 
--- the slot of an entry's n words from word 1 on
-abbrev pub place : ℕ → Words → ℕ
-place n w = hash w 1 n % 4096
+-- the two slots of an entry's n words from word 1 on
+abbrev pub lowPlace : ℕ → Words → ℕ
+lowPlace n w = hash w 1 n / 256 % 4096
+
+abbrev pub highPlace : ℕ → Words → ℕ
+highPlace n w = hash w 1 n / 1048576
 
 -- the stamp of the 256 entries from `base` on; a new table has only zeros
 abbrev pub stampOf : ℕ → ℕ
 stampOf base = base / 256 + 1
 
--- each used entry from `base` on below y has its slot stamped
+-- each used entry from `base` on below y has its slot p stamped
+abbrev pub Met : Table → (Words → ℕ) → ℕ → ℕ → List ℕ → Type 0
+Met E p base y T = Span (λ x. 0 < used (E x) → getD T (p (E x)) 0 ≡ stampOf base) base y
+
+-- a table in which each of them has both slots stamped
 pub record Stamped (E : Table) (n base y : ℕ) (T : List ℕ) : Type 0 where
   pub size : length T ≡ 4096
-  pub met : Span (λ x. 0 < used (E x) → getD T (place n (E x)) 0 ≡ stampOf base) base y
+  pub low : Met E (lowPlace n) base y T
+  pub high : Met E (highPlace n) base y T

@@ -1,5 +1,6 @@
 // Equal names: used entries of one file whose n words from word 1 on are the same. The file is given by its flags and top page.
-use crate::stamps::slot_of;
+use crate::stamps::SLOTS;
+use crate::stamps::hash_of;
 use crate::stamps::stamp;
 use crate::stamps::stamp_of;
 use crate::stored::entry_same;
@@ -48,7 +49,7 @@ fn fresh(img: &[u16], flags: u16, top: usize, n: usize, base: usize, q: usize, y
     true
 }
 
-// The same of any entry y on page q: an unused one has no twin, and one whose slot has not this stamp is the first of its words.
+// The same of any entry y on page q: an unused one has no twin, and one that has a slot without this stamp is the first of its words.
 fn entry_apart(
     img: &[u16],
     table: &mut [u16; 4096],
@@ -65,8 +66,14 @@ fn entry_apart(
     if !entry_used(img, q, y) {
         return true;
     }
-    let h = slot_of(img, q, y, n);
-    if !stamp(table, h, stamp_of(base)) {
+    let h = hash_of(img, q, y, n);
+    let s = stamp_of(base);
+    let low = stamp(table, h / 256 % SLOTS, s);
+    let high = stamp(table, h / 1048576, s);
+    if !low {
+        return true;
+    }
+    if !high {
         return true;
     }
     fresh(img, flags, top, n, base, q, y)

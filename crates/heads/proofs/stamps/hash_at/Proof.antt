@@ -8,7 +8,7 @@ use Rattle.heads.proofs.stamps.hash_at.Statement.{statement}
 use Rattle.heads.proofs.stamps.hash_at.Tie as tie
 
 abbrev Inv-loop : tie.InvT-loop
-Inv-loop img p k n h₀ i₀ h i = (i ≤ n) × (h ≡ hash (vol img p) k i) × (h < 65521)
+Inv-loop img p k n h₀ i₀ h i = (i ≤ n) × (h ≡ hash (vol img p) k i) × (h < 4294967296)
 
 abbrev μ-loop : tie.MeasureT-loop
 μ-loop img p k n h₀ i₀ h i = n - i
@@ -39,7 +39,7 @@ loop-again c =
 returns : tie.Need-returns Inv-loop μ-loop
 returns c =
     let a = c .before .before .before .args in let l = c .before .loop in let e : l .i ≡ a .n = omega arith in
-    l .inv .1 ∙ ap (hash (vol (a .img .now) (a .p)) (a .k)) e
+    (l .inv .1 ∙ ap (hash (vol (a .img .now) (a .p)) (a .k)) e, l .inv .2)
 
 pub hash-at-spec : {M : Type 1} → statement M
 hash-at-spec =
