@@ -7,7 +7,7 @@ use crate::spell::part_of;
 use crate::spell::reply_of;
 ghost use Rattle.edge.specs.Replied.{Replied, Held, Lies};
 ghost use Rattle.book.specs.Calls.{checkCall, findUserCall, findFileCall, addressCall, whoCall};
-ghost use Rattle.listing.specs.Listing.{Reported};
+ghost use Rattle.book.specs.Listing.{Reported};
 
 // Judges the image: done with the pages visited.
 #[no_mangle]

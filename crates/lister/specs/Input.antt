@@ -4,7 +4,7 @@ use mathlib.Core.List.{List}
 use Prim.Native.Nat.{ℕ, _*_}
 use lib.ListN.{length}
 use Rattle.book.specs.Names.{packed}
-use Rattle.listing.specs.Listing.{Reported}
+use Rattle.book.specs.Listing.{Reported}
 use Rattle.page.specs.Parts.{Begins}
 
 -- the words of the bytes s, high byte first

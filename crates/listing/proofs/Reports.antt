@@ -18,7 +18,7 @@ use Rattle.book.specs.declared.Gate.{Gate}
 use Rattle.book.specs.declared.Gate.the-variants.{Shut, Open}
 use Rattle.book.specs.declared.Refusal.{Refusal}
 use Rattle.book.specs.declared.Refusal.the-variants.{Size, Argument, Unsound, Missing, Taken, Kind, HasFiles, Full, Allowance, Unreserved, NoRun}
-use Rattle.listing.specs.Listing.{Bytes, field, refusedIs, ruleIs, newline, refusedLine, listing, report, Listed, Reported}
+use Rattle.book.specs.Listing.{Bytes, field, refusedIs, ruleIs, newline, refusedLine, listing, report, Listed, Reported}
 use Rattle.listing.specs.Wrote.{Wrote}
 use Rattle.listing.proofs.Writing.{wrote-shown}
 

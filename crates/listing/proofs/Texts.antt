@@ -15,7 +15,7 @@ use Rattle.page.proofs.Stored.{byte-high}
 use Rattle.tree.specs.Reach.{entryIn}
 use Rattle.tree.proofs.Entries.{there-word, user-in, object-in}
 use Rattle.seek.proofs.Search.{absent-used}
-use Rattle.listing.specs.Listing.{Bytes, joined, digits, letter, spelled, empty, index, subindex, contiguous, kindOf, fileLine, fileLines, fileOf, userLine, userLines}
+use Rattle.book.specs.Listing.{Bytes, joined, digits, letter, spelled, empty, index, subindex, contiguous, kindOf, fileLine, fileLines, fileOf, userLine, userLines}
 
 -- ---- rows
 

@@ -7,7 +7,7 @@ use native.Mathlib.Omega.{arith}
 use lib.ListN.{length, getD, set, take, length-append, length-set}
 use lib.Seq.{sets, length-sets, length-take-le, take-all, take-suc, getD-set-same, getD-set-other}
 use native.Mathlib.Numerals.{add-one}
-use Rattle.listing.specs.Listing.{Bytes, Shown}
+use Rattle.book.specs.Listing.{Bytes, Shown}
 use Rattle.listing.specs.Wrote.{Wrote}
 
 -- two runs of stores in a row

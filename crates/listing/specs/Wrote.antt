@@ -3,7 +3,7 @@ use mathlib.Core.Path.{_≡_}
 use Prim.Native.Nat.{ℕ, _+_}
 use lib.ListN.{length}
 use lib.Seq.{sets}
-use Rattle.listing.specs.Listing.{Bytes}
+use Rattle.book.specs.Listing.{Bytes}
 
 -- no text is as long as this: the place of one that begins below 1 to 6 times it fits, the more so the fewer functions lie beneath
 abbrev pub far : ℕ

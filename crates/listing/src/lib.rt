@@ -6,7 +6,7 @@ mod refusal;
 mod walk;
 
 use book::Gate;
-ghost use Rattle.listing.specs.Listing.{Reported};
+ghost use Rattle.book.specs.Listing.{Reported};
 
 // Writes the text for the image as far as the buffer reaches, and gives the whole length of the text.
 pub fn list(img: &[u16], out: &mut [u8]) -> usize

@@ -16,7 +16,7 @@ ghost use Rattle.book.specs.Entries.{user};
 ghost use Rattle.book.specs.Image.{pages, Ready};
 ghost use Rattle.book.specs.Calls.{HasUser};
 ghost use Rattle.tree.specs.Reach.{entryIn};
-ghost use Rattle.listing.specs.Listing.{kindOf, headLine, userLine, fileTitle, fileLines};
+ghost use Rattle.book.specs.Listing.{kindOf, headLine, userLine, fileTitle, fileLines};
 ghost use Rattle.listing.specs.Wrote.{far, Wrote};
 
 // Where the volume's name and the bit pointer stand in the master page.

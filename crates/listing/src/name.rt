@@ -1,6 +1,8 @@
 // Names and types as they are stored, written without their fill.
 use crate::put::put_letter;
 use page::entry::EntryPlace;
+use page::names::high;
+use page::names::low;
 use page::read::word_at;
 ghost use mathlib.Core.Path.{_≡_};
 ghost use Prim.Native.Nat.{_+_, _*_, _/_, _%_, _≤_, _<_};
@@ -9,20 +11,8 @@ ghost use Rattle.book.specs.Words.{vol};
 ghost use Rattle.book.specs.Names.{byteAt};
 ghost use Rattle.book.specs.Image.{pages};
 ghost use Rattle.tree.specs.Reach.{entryIn};
-ghost use Rattle.listing.specs.Listing.{spelled};
+ghost use Rattle.book.specs.Listing.{spelled};
 ghost use Rattle.listing.specs.Wrote.{far, Wrote};
-
-fn high(w: u16) -> u8
-    ensures { λ r. ⌜ r ≡ w / 256 ⌝ }
-{
-    (w / 256) as u8
-}
-
-fn low(w: u16) -> u8
-    ensures { λ r. ⌜ r ≡ w % 256 ⌝ }
-{
-    (w % 256) as u8
-}
 
 // Byte i of those from word k of page p on.
 fn byte_at(img: &[u16], p: usize, k: usize, i: usize) -> u8

@@ -3,7 +3,7 @@ ghost use mathlib.Core.Path.{_≡_};
 ghost use mathlib.Core.List.{_∷_, []};
 ghost use Prim.Native.Nat.{_+_, _*_, _≤_, _<_};
 ghost use lib.ListN.{length, set};
-ghost use Rattle.listing.specs.Listing.{digits, decimal, letter, field};
+ghost use Rattle.book.specs.Listing.{digits, decimal, letter, field};
 ghost use Rattle.listing.specs.Wrote.{far, Wrote};
 
 // One byte; the buffer stays as it is where it does not reach.

@@ -5,7 +5,7 @@ use book::Refusal;
 ghost use mathlib.Core.Path.{_≡_};
 ghost use Prim.Native.Nat.{_≤_};
 ghost use Rattle.book.specs.Answers.{numberOf, ruleOf};
-ghost use Rattle.listing.specs.Listing.{refusedLine};
+ghost use Rattle.book.specs.Listing.{refusedLine};
 ghost use Rattle.listing.specs.Wrote.{Wrote};
 
 // The number of a refusal.

@@ -7,7 +7,7 @@ use tree::root::object_page;
 ghost use Prim.Native.Nat.{ℕ, _+_, _*_, _≤_, _<_};
 ghost use Rattle.book.specs.Words.{vol};
 ghost use Rattle.book.specs.Image.{pages, Ready};
-ghost use Rattle.listing.specs.Listing.{joined, fileOf, userLines, listing};
+ghost use Rattle.book.specs.Listing.{joined, fileOf, userLines, listing};
 ghost use Rattle.listing.specs.Wrote.{far, Wrote};
 
 // The lines of user u's files on page i of his 8; an absent page has none.

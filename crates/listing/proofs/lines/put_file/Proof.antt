@@ -1,7 +1,7 @@
 use mathlib.Core.Path.{ap, ap₂}
 use native.Mathlib.Omega.{arith}
 use Rattle.book.specs.Decides.{holds, fails}
-use Rattle.listing.specs.Listing.{fileLine, field, pagesAre, kindOf}
+use Rattle.book.specs.Listing.{fileLine, field, pagesAre, kindOf}
 use Rattle.listing.proofs.Writing.{wrote-none, wrote-as, wrote-then}
 use Rattle.listing.proofs.Texts.{lines-none, lines-one}
 use borrow.Author.Needs.{needs}

@@ -5,7 +5,7 @@ use Rattle.book.specs.Words.{vol}
 use Rattle.book.specs.Image.{pages}
 use Rattle.bits.specs.File.{BitsAt}
 use Rattle.bits.proofs.Places.{bits-at}
-use Rattle.listing.specs.Listing.{headLine, field, reservedAre, unreservedAre}
+use Rattle.book.specs.Listing.{headLine, field, reservedAre, unreservedAre}
 use Rattle.listing.proofs.Writing.{wrote-as, wrote-then}
 use borrow.Author.Needs.{needs}
 use Rattle.listing.proofs.lines.put_head.Statement.{statement}

@@ -1,5 +1,5 @@
 use native.Mathlib.Omega.{arith}
-use Rattle.listing.specs.Listing.{fileTitle}
+use Rattle.book.specs.Listing.{fileTitle}
 use Rattle.listing.proofs.Writing.{wrote-then}
 use borrow.Author.Needs.{needs}
 use Rattle.listing.proofs.lines.put_title.Statement.{statement}

@@ -3,7 +3,7 @@ use native.Mathlib.Omega.{arith}
 use Rattle.book.specs.Words.{Words, vol}
 use Rattle.seek.proofs.Ready.{ready-users}
 use Rattle.tree.proofs.Entries.{user-in}
-use Rattle.listing.specs.Listing.{userLine, field, givenAre, usedAre, spelled}
+use Rattle.book.specs.Listing.{userLine, field, givenAre, usedAre, spelled}
 use Rattle.listing.proofs.Writing.{wrote-as, wrote-then}
 use Rattle.listing.proofs.Texts.{user-there}
 use borrow.Author.Needs.{needs}

@@ -7,8 +7,8 @@ use Rattle.listing.proofs.name.byte_at.Statement.{statement}
 use Rattle.listing.proofs.name.byte_at.Tie as tie
 use Rattle.listing.proofs.name.byte_at.Reads as reads
 use Rattle.listing.proofs.name.byte_at.Lts as lts
-use Rattle.listing.proofs.name.high.Reads as high-reads
-use Rattle.listing.proofs.name.low.Reads as low-reads
+use Rattle.page.proofs.names.high.Reads as high-reads
+use Rattle.page.proofs.names.low.Reads as low-reads
 use Rattle.page.proofs.read.word_at.Reads as word-at-reads
 
 -- src/name.rt:32:29

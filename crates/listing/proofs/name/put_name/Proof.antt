@@ -3,7 +3,7 @@ use mathlib.Core.List.{_++_}
 use Prim.Native.Nat.{ℕ, _+_, _-_, _≤_}
 use native.Mathlib.Omega.{arith}
 use Rattle.book.specs.Words.{vol}
-use Rattle.listing.specs.Listing.{Bytes, letter, spelled}
+use Rattle.book.specs.Listing.{Bytes, letter, spelled}
 use Rattle.listing.specs.Wrote.{Wrote}
 use Rattle.listing.proofs.Writing.{wrote-none, wrote-as, wrote-then, wrote-size}
 use Rattle.listing.proofs.Texts.{spelled-zero, spelled-more}

@@ -1,5 +1,5 @@
 use native.Mathlib.Omega.{arith}
-use Rattle.listing.specs.Listing.{field}
+use Rattle.book.specs.Listing.{field}
 use Rattle.listing.proofs.Writing.{wrote-then}
 use borrow.Author.Needs.{needs}
 use Rattle.listing.proofs.put.put_field.Statement.{statement}

@@ -1,5 +1,5 @@
 use mathlib.Core.Path.{ap₂}
-use Rattle.listing.specs.Listing.{refusedLine}
+use Rattle.book.specs.Listing.{refusedLine}
 use Rattle.listing.proofs.Writing.{wrote-as}
 use borrow.Author.Needs.{needs}
 use Rattle.listing.proofs.refusal.put_refusal.Statement.{statement}

@@ -3,7 +3,7 @@ use Prim.Native.Nat.{ℕ, _+_, _-_, _*_, _≤_}
 use native.Mathlib.Omega.{arith}
 use Rattle.book.specs.Words.{vol}
 use Rattle.seek.proofs.Ready.{ready-objects}
-use Rattle.listing.specs.Listing.{Bytes, joined, fileOf}
+use Rattle.book.specs.Listing.{Bytes, joined, fileOf}
 use Rattle.listing.specs.Wrote.{Wrote}
 use Rattle.listing.proofs.Writing.{wrote-none, wrote-as, wrote-then, wrote-size}
 use Rattle.listing.proofs.Texts.{joined-zero, joined-one, file-on, page-none}
