@@ -63,6 +63,11 @@ nord_reply nord_address(const uint16_t *img, size_t words, size_t user, size_t f
 nord_holder nord_who_holds(const uint16_t *img, size_t words, size_t page);
 nord_part nord_read_page(const uint16_t *img, size_t words, size_t user, size_t file, size_t position);
 
+/* Lists the image: a line for the volume, for each user and for each of his files, ascending, each ended by byte 10; or `REFUSED n`, and
+ * `REFUSED 3 RULE r`, by the numbers of check. The text is written as far as `out` reaches, and no other byte of it changes. The result is
+ * the length of the whole text, so it fits exactly if that is at most `out_bytes`; a call with 0 bytes asks for the length alone. */
+size_t nord_list(const uint16_t *img, size_t words, uint8_t *out, size_t out_bytes);
+
 /* calls that change */
 nord_reply nord_format(uint16_t *img, size_t words, const uint8_t *name, size_t name_bytes, size_t bit_page);
 nord_reply nord_format_default(uint16_t *img, size_t words, const uint8_t *name, size_t name_bytes);

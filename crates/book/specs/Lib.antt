@@ -24,3 +24,4 @@ pub mod Written
 pub mod Coincide
 pub mod Gate
 pub mod Return
+pub mod Listing

@@ -7,6 +7,7 @@ use crate::spell::part_of;
 use crate::spell::reply_of;
 ghost use Rattle.edge.specs.Replied.{Replied, Held, Lies};
 ghost use Rattle.book.specs.Calls.{checkCall, findUserCall, findFileCall, addressCall, whoCall};
+ghost use Rattle.book.specs.Listing.{Reported};
 
 // Judges the image: done with the pages visited.
 #[no_mangle]
@@ -54,4 +55,12 @@ pub extern "C" fn nord_read_page(img: &[u16], user: usize, file: usize, position
     ensures { λ r. ⌜ Lies (addressCall (now (img .entry)) user file position) (now (img .entry)) r ⌝ }
 {
     part_of(nord::ask::address(img, user, file, position))
+}
+
+// Lists the image: writes the text as far as the buffer reaches, and gives the whole length of the text.
+#[no_mangle]
+pub extern "C" fn nord_list(img: &[u16], out: &mut [u8]) -> usize
+    ensures { λ r. ⌜ Reported (now (img .entry)) (now (out .entry)) (now (out .exit)) r ⌝ }
+{
+    listing::list(img, out)
 }

@@ -39,13 +39,14 @@ pub fn text(s: &[u8], m: usize, n: usize) -> bool
     true
 }
 
-fn high(w: u16) -> u8
+// The two bytes of a word.
+pub fn high(w: u16) -> u8
     ensures { λ r. ⌜ r ≡ w / 256 ⌝ }
 {
     (w / 256) as u8
 }
 
-fn low(w: u16) -> u8
+pub fn low(w: u16) -> u8
     ensures { λ r. ⌜ r ≡ w % 256 ⌝ }
 {
     (w % 256) as u8

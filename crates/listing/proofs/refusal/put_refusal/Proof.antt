@@ -1,0 +1,46 @@
+use mathlib.Core.Path.{ap₂}
+use Rattle.book.specs.Listing.{refusedLine}
+use Rattle.listing.proofs.Writing.{wrote-as}
+use borrow.Author.Needs.{needs}
+use Rattle.listing.proofs.refusal.put_refusal.Statement.{statement}
+use Rattle.listing.proofs.refusal.put_refusal.Tie as tie
+use Rattle.listing.proofs.refusal.put_refusal.Reads as reads
+use Rattle.listing.proofs.refusal.put_refusal.Lts as lts
+use Rattle.listing.proofs.refusal.number_of.Reads as number-of-reads
+use Rattle.listing.proofs.refusal.put_numbers.Reads as put-numbers-reads
+use Rattle.listing.proofs.refusal.rule_of.Reads as rule-of-reads
+
+-- src/refusal.rt:65:9
+number-of-requires : tie.Need-number-of-requires
+number-of-requires c κs = search needs
+
+-- src/refusal.rt:66:16
+rule-of-requires : tie.Need-rule-of-requires
+rule-of-requires c κs = search needs
+
+-- src/refusal.rt:66:16
+cast-rule : tie.Need-cast-rule
+cast-rule c = search needs
+
+-- src/refusal.rt:67:5
+put-numbers-requires : tie.Need-put-numbers-requires
+put-numbers-requires c κs = search needs
+
+-- src/refusal.rt:62:1
+same-length : tie.Need-same-length
+same-length c = search needs
+
+-- src/refusal.rt:62:1
+returns : tie.Need-returns
+returns c = wrote-as (ap₂ refusedLine (c .before .before .before .before .before .number-of .ensures) (c .before .before .before .before .rule-of .ensures)) (c .before .before .put-numbers .ensures)
+
+pub put-refusal-spec : {M : Type 1} → statement M
+put-refusal-spec =
+    tie.close
+    (tie.spec
+    number-of-requires
+    rule-of-requires
+    cast-rule
+    put-numbers-requires
+    same-length
+    returns)

@@ -1,0 +1,66 @@
+use mathlib.Core.Path.{_≡_, ap, _∙_}
+use Prim.Native.Nat.{ℕ, _+_, _-_, _*_, _≤_}
+use native.Mathlib.Omega.{arith}
+use Rattle.book.specs.Words.{vol}
+use Rattle.book.specs.Listing.{joined, fileOf}
+use Rattle.listing.specs.Wrote.{Wrote}
+use Rattle.listing.proofs.Writing.{wrote-none, wrote-as, wrote-then, wrote-size}
+use Rattle.listing.proofs.Texts.{joined-zero, joined-add}
+use Rattle.listing.proofs.walk.put_files.Statement.{statement}
+use Rattle.listing.proofs.walk.put_files.Tie as tie
+use Rattle.listing.proofs.walk.put_files.Reads as reads
+use Rattle.listing.proofs.walk.put_files.Lts as lts
+use Rattle.listing.proofs.walk.put_page.Reads as put-page-reads
+
+abbrev Inv-loop : tie.InvT-loop
+Inv-loop img out₀ at u z₀ i₀ out z i = (i ≤ 8) × (z ≤ at + 4096 * i) × Wrote (joined (fileOf (vol img) u) (32 * i)) out₀ at out z
+
+abbrev μ-loop : tie.MeasureT-loop
+μ-loop img out₀ at u z₀ i₀ out z i = 8 - i
+
+-- src/walk.rt:39:5
+loop-holds : tie.Need-loop-holds Inv-loop μ-loop
+loop-holds c = (omega arith, omega arith, wrote-as (joined-zero _) (wrote-none _ _))
+
+-- src/walk.rt:40:9
+put-page-requires : tie.Need-put-page-requires Inv-loop μ-loop
+put-page-requires c κs = ((c .before .before .before .before .before) .pre .0, (c .before .before .before .before .before) .pre .1, c .before .loop-test .taken, omega arith)
+
+-- src/walk.rt:41:9
+add-i : tie.Need-add-i Inv-loop μ-loop
+add-i c = omega arith
+
+-- src/walk.rt:39:5
+loop-less : tie.Need-loop-less Inv-loop μ-loop
+loop-less c = omega arith
+
+-- src/walk.rt:39:5
+loop-again : tie.Need-loop-again Inv-loop μ-loop
+loop-again c = let a = (c .before .before .before .before .before .before .before .before) .args in let l = c .before .before .before .before .before .loop in
+    let e : 32 * l .i + 32 ≡ 32 * (l .i + 1) = omega arith in
+    let s = joined-add (fileOf (vol (a .img .now)) (a .u)) (32 * l .i) 32 ∙ ap (joined (fileOf (vol (a .img .now)) (a .u))) e in
+    (omega arith, omega (arith, c .before .before .put-page .ensures .1), wrote-as s (wrote-then (l .inv .2) (c .before .before .put-page .ensures .0)))
+
+-- src/walk.rt:33:1
+same-length : tie.Need-same-length Inv-loop μ-loop
+same-length c = wrote-size (c .before .loop .inv .2)
+
+-- src/walk.rt:33:1
+returns : tie.Need-returns Inv-loop μ-loop
+returns c = let a = (c .before .before .before .before) .args in let l = c .before .loop in
+    let e : 32 * l .i ≡ 256 = omega arith in
+    (wrote-as (ap (joined (fileOf (vol (a .img .now)) (a .u))) e) (l .inv .2), omega arith)
+
+pub put-files-spec : {M : Type 1} → statement M
+put-files-spec =
+    tie.close
+    (tie.spec
+    Inv-loop
+    μ-loop
+    loop-holds
+    put-page-requires
+    add-i
+    loop-less
+    loop-again
+    same-length
+    returns)
