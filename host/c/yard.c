@@ -229,6 +229,30 @@ static void great_volume(void)
     free(img);
 }
 
+/* The listing of document 01's example, into buffers that are too short, of the right length and longer; and of a refused image. */
+static void listing(void)
+{
+    static const char text[] = "VOLUME YARD PAGES 16 RESERVED 8 UNRESERVED 5\n"
+                               "USER 0 DOCK GIVEN 5 USED 2\n"
+                               "FILE 0 READS:DATA PAGES 1 INDEXED\n";
+    size_t words = 16 * PAGE, length = strlen(text);
+    uint16_t *img = blank(16);
+    uint8_t out[200];
+    nord_format_default(img, words, TEXT("YARD"));
+    nord_create_user(img, words, TEXT("DOCK"));
+    nord_give(img, words, 0, 5);
+    nord_create_indexed(img, words, 0, TEXT("READS"), TEXT("DATA"), 0);
+    nord_grow(img, words, 0, 0);
+    told("the listing's length, asked with no room", nord_list(img, words, NULL, 0) == length);
+    memset(out, '#', sizeof out);
+    told("the listing with room for 10 bytes", nord_list(img, words, out, 10) == length && memcmp(out, text, 10) == 0 && out[10] == '#');
+    told("the listing", nord_list(img, words, out, sizeof out) == length && memcmp(out, text, length) == 0 && out[length] == '#');
+    img[1023] = 6;
+    told("REFUSED 3 RULE 10", nord_list(img, words, out, sizeof out) == 18 && memcmp(out, "REFUSED 3 RULE 10\n", 18) == 0);
+    told("REFUSED 1", nord_list(img, 1023, out, sizeof out) == 10 && memcmp(out, "REFUSED 1\n", 10) == 0);
+    free(img);
+}
+
 int main(void)
 {
     size_t words = 154 * PAGE;
@@ -240,6 +264,7 @@ int main(void)
     refusals(img, words);
     way_back(img, words);
     great_volume();
+    listing();
     free(img);
     printf("yard: %d cases, %d wrong\n", cases, wrong);
     return wrong != 0;
