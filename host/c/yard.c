@@ -243,7 +243,7 @@ static void listing(void)
     nord_give(img, words, 0, 5);
     nord_create_indexed(img, words, 0, TEXT("READS"), TEXT("DATA"), 0);
     nord_grow(img, words, 0, 0);
-    told("the listing's length, asked with no room", nord_list(img, words, NULL, 0) == length);
+    told("the listing's length, asked with no room", nord_list(img, words, out, 0) == length);
     memset(out, '#', sizeof out);
     told("the listing with room for 10 bytes", nord_list(img, words, out, 10) == length && memcmp(out, text, 10) == 0 && out[10] == '#');
     told("the listing", nord_list(img, words, out, sizeof out) == length && memcmp(out, text, length) == 0 && out[length] == '#');
