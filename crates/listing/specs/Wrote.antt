@@ -5,7 +5,7 @@ use lib.ListN.{length}
 use lib.Seq.{sets}
 use Rattle.book.specs.Listing.{Bytes}
 
--- no text is as long as this: the place of one that begins below 1 to 6 times it fits, the more so the fewer functions lie beneath
+-- far past the end of any text. The lowest functions ask for a place below 6 * far, those that call them below 5 * far, and so on, so that no place wraps
 abbrev pub far : ℕ
 far = 1099511627776
 

@@ -24,7 +24,7 @@ loop-holds c = (omega arith, omega arith, wrote-as (joined-zero _) (wrote-none _
 
 -- src/walk.rt:40:9
 put-page-requires : tie.Need-put-page-requires Inv-loop μ-loop
-put-page-requires c κs = ((c .before .before .before .before .before) .pre .0, (c .before .before .before .before .before) .pre .1, c .before .loop-test .taken, omega arith)
+put-page-requires c κs = ((c .before .before .before .before .before) .pre .0, (c .before .before .before .before .before) .pre .1, omega arith, omega arith)
 
 -- src/walk.rt:41:9
 add-i : tie.Need-add-i Inv-loop μ-loop
