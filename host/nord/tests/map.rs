@@ -180,7 +180,7 @@ fn rows_of_text_have_a_character_for_each_page() {
 fn characters_are_the_holders() {
     let rows = page_rows(&lines(&yard154(), 80, false));
     let cells: String = rows.into_iter().map(|(_, cells)| cells).collect();
-    assert!(cells.starts_with("MUuOodDdddddddddddocCccogGgc"));
+    assert!(cells.starts_with("MUuOodDdddddddddddofFffogGgf"));
     assert_eq!((&cells[77..78], &cells[138..]), ("B", "ggggggdddddddddd"));
     assert_eq!(cells.matches('.').count(), 92);
 }
