@@ -1,8 +1,8 @@
 //! Images made to cost a check the most: as many files as there are entries, which share blocks (rules 1 to 7 hold, rule 8 is broken), or
-//! whose names all fall into one slot of the library's table (these are sound).
+//! whose names all fall into few slots of the library's table (these are sound).
 
 use crate::disk::{Disk, Entry};
-use crate::names::{in_order, of_one_slot, COMMON};
+use crate::names::{in_order, of_few_slots, COMMON};
 use second::image::put_pair;
 use second::pointer::{Pointer, SLOTS};
 
@@ -125,14 +125,14 @@ pub fn names_in_order(pages: u32, users: u32) -> Hostile {
     )
 }
 
-/// All names of each user in one slot.
-pub fn names_of_one_slot(pages: u32, users: u32) -> Hostile {
+/// All names of each user in few slots.
+pub fn names_of_few_slots(pages: u32, users: u32) -> Hostile {
     named(
-        "names of one slot",
-        "empty files; each user's 256 names and types fall into one slot",
+        "names of few slots",
+        "empty files; each user's 256 names and types fall into few slots",
         pages,
         users,
-        &of_one_slot(256),
+        &of_few_slots(256),
     )
 }
 
@@ -143,6 +143,6 @@ pub fn all(pages: u32, users: u32) -> Vec<Hostile> {
         one_tree("one tree, last block not full", pages, users, SLOTS - 1),
         one_block(pages, users),
         names_in_order(pages, users),
-        names_of_one_slot(pages, users),
+        names_of_few_slots(pages, users),
     ]
 }

@@ -105,6 +105,15 @@ fn of_calls(run: &mut Run, volumes: &[Volume]) -> io::Result<()> {
     Ok(())
 }
 
+/// A check of a volume, to be counted.
+fn check_of(run: &Run, volume: &Volume) -> io::Result<Job> {
+    Ok(Job {
+        call: Call::Check,
+        program: Program::Proved,
+        image: run.scratch.native_volume(volume)?,
+    })
+}
+
 fn of_growth(run: &mut Run) -> io::Result<()> {
     let mut table = Table::new(
         "Growth of the check: instructions",
@@ -112,14 +121,7 @@ fn of_growth(run: &mut Run) -> io::Result<()> {
         &["P", "pages held", "proved", "a held page"],
     );
     let volumes = growing(&run.plan.growth);
-    let mut jobs = Vec::new();
-    for volume in &volumes {
-        jobs.push(Job {
-            call: Call::Check,
-            program: Program::Proved,
-            image: run.scratch.native_volume(volume)?,
-        });
-    }
+    let jobs = volumes.iter().map(|volume| check_of(run, volume)).collect::<io::Result<Vec<Job>>>()?;
     let mut points = Vec::new();
     for (volume, count) in volumes.iter().zip(counted("growth", &jobs)) {
         let held = volume.held();
