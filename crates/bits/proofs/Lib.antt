@@ -1,3 +1,4 @@
 -- Laws that proofs of this crate and of its users cite.
 pub mod Digits
 pub mod Places
+pub mod Ready

@@ -5,6 +5,8 @@ use book::Holder;
 use book::Holding;
 use book::Refusal;
 use book::Role;
+use sound::numbers::number_of;
+use sound::numbers::rule_of;
 ghost use mathlib.Core.Path.{_≡_};
 ghost use Rattle.book.specs.Answers.{numbers, numberOf, ruleOf, holding, roleNumbers, holderNumbers};
 ghost use Rattle.edge.specs.Replied.{Spelled, Told, HeldBy, HeldAs, Placed};
@@ -35,37 +37,14 @@ pub struct Part {
     pub length: usize,
 }
 
-// A refusal other than 3.
-fn plain(number: u32) -> Reply
-    ensures { λ r. ⌜ (r .number ≡ number) × (r .rule ≡ 0) × (r .value ≡ 0) ⌝ }
-{
-    Reply {
-        number,
-        rule: 0,
-        value: 0,
-    }
-}
-
 // The number of a refusal, and with 3 the broken rule.
 fn refusal_of(why: Refusal) -> Reply
     ensures { λ r. ⌜ (r .number ≡ numberOf why) × (r .rule ≡ ruleOf why) × (r .value ≡ 0) ⌝ }
 {
-    match why {
-        Refusal::Size => plain(1),
-        Refusal::Argument => plain(2),
-        Refusal::Unsound { rule } => Reply {
-            number: 3,
-            rule,
-            value: 0,
-        },
-        Refusal::Missing => plain(4),
-        Refusal::Taken => plain(5),
-        Refusal::Kind => plain(6),
-        Refusal::HasFiles => plain(7),
-        Refusal::Full => plain(8),
-        Refusal::Allowance => plain(9),
-        Refusal::Unreserved => plain(10),
-        Refusal::NoRun => plain(11),
+    Reply {
+        number: number_of(why),
+        rule: rule_of(why),
+        value: 0,
     }
 }
 

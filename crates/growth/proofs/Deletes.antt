@@ -29,7 +29,7 @@ use Rattle.laws.specs.Tree.{Agree, Below-frame}
 use Rattle.growth.specs.declared.entries.Head.{Head}
 use Rattle.growth.specs.Head.{FileHead, heldBy}
 use Rattle.growth.specs.Freeing.{Freeing, RootApart}
-use Rattle.growth.proofs.Ready.{ready-some}
+use Rattle.tree.proofs.Ready.{ready-some}
 use Rattle.growth.proofs.Files.{file-shape, file-root, file-held, file-entry-pos, file-owner-pos}
 
 below-frame : (P : ℕ) (v v′ : Vol) (C : ℕ → ℕ) → Agree C v v′ → (r : Root) → blocksR v r C ≡ 0 → BelowR v P r → BelowR v′ P r

@@ -27,7 +27,7 @@ use Rattle.growth.specs.declared.entries.Head.{Head}
 use Rattle.growth.specs.Head.{FileHead, heldBy}
 use Rattle.growth.proofs.Held.{held-le, held-more}
 use Rattle.growth.proofs.Blocks.{top-in, index-lt, page-lt, index-pos, slot-one, slot-two}
-use Rattle.growth.proofs.Ready.{ready-some}
+use Rattle.tree.proofs.Ready.{ready-some}
 
 module _ (img : List ℕ) (u f : ℕ) (h : Head) (a : FileHead img u f h) where
   abbrev P : ℕ

@@ -1,5 +1,5 @@
 -- Laws that proofs of this crate cite.
-pub mod Ready
+pub mod Entered
 pub mod Heads
 pub mod Held
 pub mod Blocks

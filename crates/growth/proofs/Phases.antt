@@ -29,7 +29,7 @@ use Rattle.bits.specs.File.{BitsAt}
 use Rattle.bits.proofs.Places.{bits-claim}
 use Rattle.growth.specs.declared.entries.Head.{Head}
 use Rattle.growth.specs.Head.{FileHead, Growing}
-use Rattle.growth.proofs.Ready.{ready-some}
+use Rattle.tree.proofs.Ready.{ready-some}
 use Rattle.growth.proofs.Files.{file-shape, file-root, file-owner, file-used-lt, file-count-lt}
 
 -- ---- a page taken, on an image that code has since changed

@@ -1,18 +1,13 @@
--- An image that is ready: its bit page; and ready again after a step that leaves its volume sound. Assumes nothing.
+-- An image that is ready is so again after a step that leaves its volume sound. Assumes nothing.
 use mathlib.Core.Path.{_≡_, sym, ap, subst}
 use mathlib.Core.List.{List}
 use Prim.Native.Nat.{ℕ, _/_}
 use native.Mathlib.Omega.{arith}
 use lib.ListN.{length}
 use Rattle.book.specs.Words.{Vol, vol}
-use Rattle.book.specs.Pointers.{page}
 use Rattle.book.specs.Image.{pages, Ready}
 use Rattle.book.specs.Rules.{Sound}
 use Rattle.bits.specs.File.{BitsAt}
-use Rattle.bits.proofs.Places.{bits-at}
-
-pub ready-bits : (img : List ℕ) → Ready img → (b : ℕ) → b ≡ page (vol img 0) 1020 → BitsAt (pages img) (vol img) b
-ready-bits img d b e = subst (λ (x : ℕ). BitsAt (pages img) (vol img) x) (sym e) (bits-at (pages img) (vol img) (d .whole .most) (d .sound .r1))
 
 pub bits-pages : (P P′ : ℕ) (v : Vol) (b : ℕ) → BitsAt P′ v b → P′ ≡ P → BitsAt P v b
 bits-pages P P′ v b B e = subst (λ (n : ℕ). BitsAt n v b) e B

@@ -3,3 +3,4 @@ pub mod Reach
 pub mod Entries
 pub mod Blocks
 pub mod Absent
+pub mod Ready

@@ -3,7 +3,9 @@ use Rattle.book.specs.Words.{Words, vol, two}
 use Rattle.book.specs.Pointers.{flags, page}
 use Rattle.book.specs.Entries.{fileEntry, usedPages}
 use Rattle.tree.proofs.Entries.{user-in}
-use Rattle.growth.proofs.Ready.{ready-users, ready-objects, ready-bits, entry-at, entry-words}
+use Rattle.growth.proofs.Entered.{entry-at, entry-words}
+use Rattle.tree.proofs.Ready.{ready-users, ready-objects}
+use Rattle.bits.proofs.Ready.{ready-bits}
 use borrow.Author.Needs.{needs}
 use Rattle.growth.proofs.entries.head_of.Statement.{statement}
 use Rattle.growth.proofs.entries.head_of.Tie as tie

@@ -1,7 +1,7 @@
 use mathlib.Core.Path.{sym, ap}
 use native.Mathlib.Omega.{arith}
 use Rattle.book.specs.Words.{Words, vol}
-use Rattle.seek.proofs.Ready.{ready-users}
+use Rattle.tree.proofs.Ready.{ready-users}
 use Rattle.tree.proofs.Entries.{user-in}
 use Rattle.book.specs.Listing.{userLine, field, givenAre, usedAre, spelled}
 use Rattle.listing.proofs.Writing.{wrote-as, wrote-then}

@@ -6,13 +6,16 @@ use Rattle.listing.proofs.refusal.put_refusal.Statement.{statement}
 use Rattle.listing.proofs.refusal.put_refusal.Tie as tie
 use Rattle.listing.proofs.refusal.put_refusal.Reads as reads
 use Rattle.listing.proofs.refusal.put_refusal.Lts as lts
-use Rattle.listing.proofs.refusal.number_of.Reads as number-of-reads
+use Rattle.sound.proofs.numbers.number_of.Reads as number-of-reads
 use Rattle.listing.proofs.refusal.put_numbers.Reads as put-numbers-reads
-use Rattle.listing.proofs.refusal.rule_of.Reads as rule-of-reads
+use Rattle.sound.proofs.numbers.rule_of.Reads as rule-of-reads
 
 -- src/refusal.rt:65:9
 number-of-requires : tie.Need-number-of-requires
 number-of-requires c κs = search needs
+
+cast-number : tie.Need-cast-number
+cast-number c = search needs
 
 -- src/refusal.rt:66:16
 rule-of-requires : tie.Need-rule-of-requires
@@ -39,6 +42,7 @@ put-refusal-spec =
     tie.close
     (tie.spec
     number-of-requires
+    cast-number
     rule-of-requires
     cast-rule
     put-numbers-requires

@@ -2,7 +2,7 @@ use mathlib.Core.Path.{_≡_, ap}
 use Prim.Native.Nat.{ℕ, _+_, _-_, _*_, _≤_}
 use native.Mathlib.Omega.{arith}
 use Rattle.book.specs.Words.{vol}
-use Rattle.seek.proofs.Ready.{ready-objects}
+use Rattle.tree.proofs.Ready.{ready-objects}
 use Rattle.book.specs.Listing.{Bytes, joined, fileOf}
 use Rattle.listing.specs.Wrote.{Wrote}
 use Rattle.listing.proofs.Writing.{wrote-none, wrote-as, wrote-then, wrote-size}

@@ -3,7 +3,7 @@ use Rattle.book.specs.Image.{pages}
 use Rattle.book.specs.Words.{vol}
 use Rattle.making.proofs.Made.{entry-reached, entry-room, file-ready, used-room, run-inside, create-contiguous-is}
 use Rattle.making.proofs.Ready.{bits-pages}
-use Rattle.seek.proofs.Ready.{ready-users, ready-objects}
+use Rattle.tree.proofs.Ready.{ready-users, ready-objects}
 use borrow.Author.Needs.{needs}
 use native.Mathlib.Omega.{arith}
 use Rattle.making.proofs.file.create_contiguous_step.Statement.{statement}

@@ -2,7 +2,7 @@
 use Rattle.book.specs.Image.{pages}
 use Rattle.book.specs.Words.{vol}
 use Rattle.making.proofs.Made.{entry-reached, entry-room, file-ready, create-indexed-is}
-use Rattle.seek.proofs.Ready.{ready-objects}
+use Rattle.tree.proofs.Ready.{ready-objects}
 use borrow.Author.Needs.{needs}
 use native.Mathlib.Omega.{arith}
 use Rattle.making.proofs.file.create_indexed_step.Statement.{statement}

@@ -1,5 +1,5 @@
 -- `making::place::bit_page` meets its contract. Assumes nothing.
-use Rattle.making.proofs.Ready.{ready-bits}
+use Rattle.bits.proofs.Ready.{ready-bits}
 use borrow.Author.Needs.{needs}
 use Rattle.making.proofs.place.bit_page.Statement.{statement}
 use Rattle.making.proofs.place.bit_page.Tie as tie

@@ -8,7 +8,7 @@ use Rattle.book.specs.Words.{vol, Vol}
 use Rattle.making.proofs.Between.{with-page, place-first, place-later}
 use Rattle.making.proofs.Ready.{ready-next}
 use Rattle.making.proofs.Needs.{need-first, need-later}
-use Rattle.seek.proofs.Ready.{ready-some}
+use Rattle.tree.proofs.Ready.{ready-some}
 use borrow.Author.Needs.{needs}
 use mathlib.Core.Path.{sym, subst, _≡_}
 use native.Mathlib.Omega.{arith}

@@ -7,7 +7,7 @@ use Rattle.book.specs.Words.{vol}
 use Rattle.laws.specs.Join.{Vacant}
 use Rattle.laws.specs.Vacant.{top-vacant}
 use Rattle.making.proofs.Between.{index-kept, index-new, need-one}
-use Rattle.seek.proofs.Ready.{ready-some}
+use Rattle.tree.proofs.Ready.{ready-some}
 use borrow.Author.Needs.{needs}
 use mathlib.Core.Path.{refl, sym, subst, _≡_}
 use native.Mathlib.Omega.{arith}

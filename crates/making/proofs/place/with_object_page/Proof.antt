@@ -6,7 +6,7 @@ use Rattle.book.specs.Words.{vol}
 use Rattle.laws.specs.Join.{Vacant}
 use Rattle.laws.specs.Vacant.{index-vacant}
 use Rattle.making.proofs.Between.{object-kept, object-new}
-use Rattle.seek.proofs.Ready.{ready-objects}
+use Rattle.tree.proofs.Ready.{ready-objects}
 use borrow.Author.Needs.{needs}
 use mathlib.Core.Path.{refl, sym, subst, _≡_}
 use native.Mathlib.Omega.{arith}

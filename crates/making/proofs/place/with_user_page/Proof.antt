@@ -5,7 +5,7 @@ use Rattle.book.specs.Image.{pages}
 use Rattle.book.specs.Words.{vol}
 use Rattle.laws.specs.Join.{Vacant}
 use Rattle.making.proofs.Between.{user-room, page-kept, page-new}
-use Rattle.seek.proofs.Ready.{ready-users, ready-some}
+use Rattle.tree.proofs.Ready.{ready-users, ready-some}
 use borrow.Author.Needs.{needs}
 use mathlib.Core.Path.{refl, sym, subst, _≡_}
 use native.Mathlib.Omega.{arith}

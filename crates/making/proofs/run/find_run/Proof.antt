@@ -5,7 +5,7 @@ use Rattle.book.specs.Image.{pages}
 use Rattle.book.specs.Words.{vol}
 use Rattle.laws.specs.Vacant.{used-reached}
 use Rattle.making.proofs.Beside.{beside-zero, beside-one, beside-two}
-use Rattle.seek.proofs.Ready.{ready-some}
+use Rattle.tree.proofs.Ready.{ready-some}
 use mathlib.Core.Path.{ap, _∙_}
 use native.Mathlib.Omega.{arith}
 use Rattle.making.proofs.run.find_run.Statement.{statement}

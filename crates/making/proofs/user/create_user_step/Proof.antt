@@ -2,7 +2,7 @@
 use Rattle.book.specs.Image.{pages}
 use Rattle.book.specs.Words.{vol}
 use Rattle.making.proofs.Made.{user-ready, create-user-is}
-use Rattle.seek.proofs.Ready.{ready-users}
+use Rattle.tree.proofs.Ready.{ready-users}
 use borrow.Author.Needs.{needs}
 use native.Mathlib.Omega.{arith}
 use Rattle.making.proofs.user.create_user_step.Statement.{statement}

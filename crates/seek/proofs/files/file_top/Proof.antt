@@ -3,7 +3,7 @@ use mathlib.Core.Path.{ap, _∙_}
 use Rattle.book.specs.Words.{Words, vol}
 use Rattle.book.specs.Pointers.{page}
 use Rattle.tree.proofs.Entries.{object-in}
-use Rattle.seek.proofs.Ready.{ready-objects}
+use Rattle.tree.proofs.Ready.{ready-objects}
 use borrow.Author.Needs.{needs}
 use Rattle.seek.proofs.files.file_top.Statement.{statement}
 use Rattle.seek.proofs.files.file_top.Tie as tie

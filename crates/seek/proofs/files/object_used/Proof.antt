@@ -5,7 +5,7 @@ use Rattle.book.specs.Words.{Words, vol}
 use Rattle.book.specs.Entries.{used}
 use Rattle.book.specs.Decides.{Decides}
 use Rattle.tree.proofs.Entries.{object-in}
-use Rattle.seek.proofs.Ready.{ready-objects}
+use Rattle.tree.proofs.Ready.{ready-objects}
 use borrow.Author.Needs.{needs}
 use Rattle.seek.proofs.files.object_used.Statement.{statement}
 use Rattle.seek.proofs.files.object_used.Tie as tie

@@ -2,7 +2,7 @@
 use mathlib.Core.Path.{ap, _∙_}
 use Rattle.book.specs.Words.{Words, vol, two}
 use Rattle.tree.proofs.Entries.{object-in}
-use Rattle.seek.proofs.Ready.{ready-objects}
+use Rattle.tree.proofs.Ready.{ready-objects}
 use borrow.Author.Needs.{needs}
 use Rattle.seek.proofs.files.page_count.Statement.{statement}
 use Rattle.seek.proofs.files.page_count.Tie as tie

@@ -4,7 +4,7 @@ use Rattle.book.specs.Words.{vol}
 use Rattle.book.specs.Entries.{objectFile}
 use Rattle.tree.proofs.Reach.{reach-same, root-read}
 use Rattle.seek.proofs.Search.{files-found}
-use Rattle.seek.proofs.Ready.{ready-objects}
+use Rattle.tree.proofs.Ready.{ready-objects}
 use borrow.Author.Needs.{needs}
 use native.Mathlib.Omega.{arith}
 use Rattle.seek.proofs.find.find_file.Statement.{statement}

@@ -4,7 +4,7 @@ use Rattle.book.specs.Words.{vol}
 use Rattle.book.specs.Entries.{userFile}
 use Rattle.tree.proofs.Reach.{reach-same, root-read}
 use Rattle.seek.proofs.Search.{users-found}
-use Rattle.seek.proofs.Ready.{ready-users}
+use Rattle.tree.proofs.Ready.{ready-users}
 use borrow.Author.Needs.{needs}
 use native.Mathlib.Omega.{arith}
 use Rattle.seek.proofs.find.find_user.Statement.{statement}

@@ -1,6 +1,6 @@
 -- `seek::needs::file_need` meets its contract. Assumes nothing.
 use Rattle.book.specs.Create.{fileNeed}
-use Rattle.seek.proofs.Ready.{ready-objects}
+use Rattle.tree.proofs.Ready.{ready-objects}
 use borrow.Author.Needs.{needs}
 use native.Mathlib.Omega.{arith}
 use Rattle.seek.proofs.needs.file_need.Statement.{statement}

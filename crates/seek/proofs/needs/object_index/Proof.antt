@@ -5,7 +5,7 @@ use Rattle.book.specs.Words.{vol}
 use Rattle.book.specs.Pointers.{slot}
 use Rattle.book.specs.Image.{pages}
 use Rattle.laws.specs.Indexes.{index-read, index-none, index-one, index-two, object-top, index-below}
-use Rattle.seek.proofs.Ready.{ready-some}
+use Rattle.tree.proofs.Ready.{ready-some}
 use borrow.Author.Needs.{needs}
 use native.Mathlib.Omega.{arith}
 use Rattle.seek.proofs.needs.object_index.Statement.{statement}

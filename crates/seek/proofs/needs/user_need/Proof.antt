@@ -6,7 +6,7 @@ use Rattle.book.specs.Words.{vol}
 use Rattle.book.specs.Entries.{userPage}
 use Rattle.book.specs.Pointers.{page}
 use Rattle.book.specs.Create.{userNeed, raises}
-use Rattle.seek.proofs.Ready.{ready-users}
+use Rattle.tree.proofs.Ready.{ready-users}
 use borrow.Author.Needs.{needs}
 use native.Mathlib.Omega.{arith}
 use Rattle.seek.proofs.needs.user_need.Statement.{statement}

@@ -7,7 +7,7 @@ use Rattle.book.specs.Entries.{fileEntry}
 use Rattle.book.specs.Files.{fileAt}
 use Rattle.book.specs.Image.{pages}
 use Rattle.laws.specs.There.{position-page}
-use Rattle.seek.proofs.Ready.{ready-objects, ready-file}
+use Rattle.tree.proofs.Ready.{ready-objects, ready-file}
 use borrow.Author.Needs.{needs}
 use native.Mathlib.Omega.{arith}
 use Rattle.seek.proofs.positions.address.Statement.{statement}

@@ -5,7 +5,7 @@ use Rattle.book.specs.Words.{Words, vol}
 use Rattle.book.specs.Entries.{used}
 use Rattle.book.specs.Decides.{Decides}
 use Rattle.tree.proofs.Entries.{user-in}
-use Rattle.seek.proofs.Ready.{ready-users}
+use Rattle.tree.proofs.Ready.{ready-users}
 use borrow.Author.Needs.{needs}
 use Rattle.seek.proofs.users.has_user.Statement.{statement}
 use Rattle.seek.proofs.users.has_user.Tie as tie

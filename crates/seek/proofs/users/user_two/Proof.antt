@@ -2,7 +2,7 @@
 use mathlib.Core.Path.{ap, _∙_}
 use Rattle.book.specs.Words.{Words, vol, two}
 use Rattle.tree.proofs.Entries.{user-in}
-use Rattle.seek.proofs.Ready.{ready-users}
+use Rattle.tree.proofs.Ready.{ready-users}
 use borrow.Author.Needs.{needs}
 use Rattle.seek.proofs.users.user_two.Statement.{statement}
 use Rattle.seek.proofs.users.user_two.Tie as tie

@@ -3,7 +3,7 @@ use mathlib.Core.Path.{ap, _∙_}
 use Rattle.book.specs.Words.{Words, vol, two}
 use Rattle.book.specs.Entries.{given}
 use Rattle.tree.proofs.Entries.{user-in}
-use Rattle.steps.proofs.Ready.{ready-users}
+use Rattle.tree.proofs.Ready.{ready-users}
 use borrow.Author.Needs.{needs}
 use Rattle.steps.proofs.counts.given_to.Statement.{statement}
 use Rattle.steps.proofs.counts.given_to.Tie as tie

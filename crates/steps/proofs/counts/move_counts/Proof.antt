@@ -1,5 +1,5 @@
 -- `steps::counts::move_counts` meets its contract. Assumes nothing.
-use Rattle.steps.proofs.Ready.{ready-users}
+use Rattle.tree.proofs.Ready.{ready-users}
 use Rattle.steps.proofs.Written.{moved-is}
 use borrow.Author.Needs.{needs}
 use Rattle.steps.proofs.counts.move_counts.Statement.{statement}

@@ -1,6 +1,6 @@
 -- `steps::opens::open_step` meets its contract. Assumes nothing.
 use Rattle.book.specs.Words.{vol}
-use Rattle.steps.proofs.Ready.{ready-objects}
+use Rattle.tree.proofs.Ready.{ready-objects}
 use Rattle.steps.proofs.Written.{opened-is}
 use borrow.Author.Needs.{needs}
 use Rattle.steps.proofs.opens.open_step.Statement.{statement}

@@ -1,7 +1,8 @@
 -- `steps::users::delete_user_step` meets its contract. Assumes nothing.
 use native.Mathlib.Omega.{arith}
 use Rattle.book.specs.Words.{vol}
-use Rattle.steps.proofs.Ready.{ready-users, ready-room}
+use Rattle.steps.proofs.Ready.{ready-room}
+use Rattle.tree.proofs.Ready.{ready-users}
 use Rattle.steps.proofs.Written.{deleted-is}
 use borrow.Author.Needs.{needs}
 use Rattle.steps.proofs.users.delete_user_step.Statement.{statement}

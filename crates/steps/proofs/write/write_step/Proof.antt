@@ -1,6 +1,6 @@
 -- `steps::write::write_step` meets its contract. Assumes nothing.
 use Rattle.book.specs.Words.{vol}
-use Rattle.steps.proofs.Ready.{ready-objects, ready-file}
+use Rattle.tree.proofs.Ready.{ready-objects, ready-file}
 use Rattle.steps.proofs.Written.{written-is}
 use borrow.Author.Needs.{needs}
 use Rattle.steps.proofs.write.write_step.Statement.{statement}

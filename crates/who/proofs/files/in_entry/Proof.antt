@@ -7,7 +7,7 @@ use Rattle.book.specs.Files.{fileAt}
 use Rattle.book.specs.Decides.{holds, fails}
 use Rattle.tree.proofs.Reach.{reach-same}
 use Rattle.tree.proofs.Entries.{file-in, file-in-none}
-use Rattle.seek.proofs.Ready.{ready-file}
+use Rattle.tree.proofs.Ready.{ready-file}
 use Rattle.who.specs.Places.{In}
 use Rattle.who.proofs.ByKind.{empty-none}
 use borrow.Author.Needs.{needs}

@@ -7,7 +7,7 @@ use native.Mathlib.Omega.{arith}
 use Rattle.book.specs.Words.{vol}
 use Rattle.book.specs.Entries.{objectFile}
 use Rattle.tree.proofs.Reach.{reach-same, root-read, page-read}
-use Rattle.seek.proofs.Ready.{ready-objects}
+use Rattle.tree.proofs.Ready.{ready-objects}
 use Rattle.who.specs.Places.{Owned}
 use Rattle.who.proofs.Among.{Without}
 use Rattle.who.proofs.files.in_files.Statement.{statement}

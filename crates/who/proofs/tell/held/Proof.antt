@@ -5,7 +5,7 @@ use native.Mathlib.Omega.{arith}
 use Rattle.book.specs.Words.{vol}
 use Rattle.book.specs.Entries.{userFile, objectFile}
 use Rattle.book.specs.Image.{pages}
-use Rattle.seek.proofs.Ready.{ready-users, ready-objects}
+use Rattle.tree.proofs.Ready.{ready-users, ready-objects}
 use Rattle.who.specs.Places.{In, Owned}
 use Rattle.who.proofs.Telling.{told-user, told-object, told-file, told-nobody}
 use borrow.Author.Needs.{needs}
