@@ -20,7 +20,15 @@ pub fn find_user(image: &[u16], name: &[u8]) -> Reply {
 
 pub fn find_file(image: &[u16], user: u32, name: &[u8], kind: &[u8]) -> Reply {
     unsafe {
-        boundary::nord_find_file(image.as_ptr(), image.len(), user as usize, name.as_ptr(), name.len(), kind.as_ptr(), kind.len())
+        boundary::nord_find_file(
+            image.as_ptr(),
+            image.len(),
+            user as usize,
+            name.as_ptr(),
+            name.len(),
+            kind.as_ptr(),
+            kind.len(),
+        )
     }
 }
 
@@ -83,14 +91,33 @@ pub fn take(image: &mut [u16], user: u32, count: u32) -> Reply {
 pub fn create_indexed(image: &mut [u16], user: u32, name: &[u8], kind: &[u8], created: u32) -> Reply {
     let (words, length) = (image.as_mut_ptr(), image.len());
     unsafe {
-        boundary::nord_create_indexed(words, length, user as usize, name.as_ptr(), name.len(), kind.as_ptr(), kind.len(), created)
+        boundary::nord_create_indexed(
+            words,
+            length,
+            user as usize,
+            name.as_ptr(),
+            name.len(),
+            kind.as_ptr(),
+            kind.len(),
+            created,
+        )
     }
 }
 
 pub fn create_contiguous(image: &mut [u16], user: u32, name: &[u8], kind: &[u8], created: u32, count: u32) -> Reply {
     let (words, length) = (image.as_mut_ptr(), image.len());
     unsafe {
-        boundary::nord_create_contiguous(words, length, user as usize, name.as_ptr(), name.len(), kind.as_ptr(), kind.len(), created, count)
+        boundary::nord_create_contiguous(
+            words,
+            length,
+            user as usize,
+            name.as_ptr(),
+            name.len(),
+            kind.as_ptr(),
+            kind.len(),
+            created,
+            count,
+        )
     }
 }
 
@@ -108,7 +135,17 @@ pub fn delete_file(image: &mut [u16], user: u32, file: u32) -> Reply {
 
 pub fn write_page(image: &mut [u16], user: u32, file: u32, position: u32, data: &[u16]) -> Reply {
     let (words, length) = (image.as_mut_ptr(), image.len());
-    unsafe { boundary::nord_write_page(words, length, user as usize, file as usize, position as usize, data.as_ptr(), data.len()) }
+    unsafe {
+        boundary::nord_write_page(
+            words,
+            length,
+            user as usize,
+            file as usize,
+            position as usize,
+            data.as_ptr(),
+            data.len(),
+        )
+    }
 }
 
 pub fn note_open(image: &mut [u16], user: u32, file: u32) -> Reply {

@@ -2,14 +2,8 @@
 //! hold.
 
 use crate::bits::{bits_below, words_in_use};
-use crate::entry::{
-    entry_words, file_pointer, is_used, name_words, object, type_words, user, EntryPlace, ENTRIES,
-    ENTRIES_TO_A_PAGE,
-};
-use crate::image::{
-    all_zero, page_count, page_words, pair, BIT_POINTER, OBJECT_POINTER, UNRESERVED, USER_POINTER,
-    VOLUME_NAME,
-};
+use crate::entry::{entry_words, file_pointer, is_used, name_words, object, type_words, user, EntryPlace, ENTRIES, ENTRIES_TO_A_PAGE};
+use crate::image::{all_zero, page_count, page_words, pair, BIT_POINTER, OBJECT_POINTER, UNRESERVED, USER_POINTER, VOLUME_NAME};
 use crate::name::{are_name_words, are_type_words, sort_key, NAME_WORDS};
 use crate::pointer::{pages_held, slot, Pointer, SLOTS};
 use crate::reply::{Outcome, Refusal, Reply};
@@ -17,9 +11,7 @@ use crate::walk::Walk;
 
 /// Checks the image; with 0, the value is the number of visits.
 pub fn check(image: &[u16]) -> Reply {
-    page_count(image)
-        .and_then(|pages| demand_sound(image, pages))
-        .into()
+    page_count(image).and_then(|pages| demand_sound(image, pages)).into()
 }
 
 /// Number 3 and its rule where the image is unsound, else the visits.
@@ -163,11 +155,7 @@ impl<'a> Parts<'a> {
             let own = u32::from(entry[user::OWN_INDEX]) == number;
             rule(4, own && are_name_words(name) && used <= given)?;
             names.push(sort_key(name));
-            self.users[number as usize] = Some(User {
-                given,
-                used,
-                held: 0,
-            });
+            self.users[number as usize] = Some(User { given, used, held: 0 });
         }
         rule(4, all_differ(names))
     }
@@ -205,8 +193,7 @@ impl<'a> Parts<'a> {
         for (number, entry) in used_entries(self.image, &self.object_pages) {
             let user = (number / ENTRIES) as usize;
             let (name, kind) = (name_words(entry), type_words(entry));
-            let numbered = usize::from(entry[object::USER]) == user
-                && u32::from(entry[object::OWN_NUMBER]) == number;
+            let numbered = usize::from(entry[object::USER]) == user && u32::from(entry[object::OWN_NUMBER]) == number;
             let named = are_name_words(name) && are_type_words(kind);
             rule(6, self.users[user].is_some() && numbered && named)?;
             self.files.push(File {
@@ -218,10 +205,7 @@ impl<'a> Parts<'a> {
             });
         }
         let mut by_user = self.files.chunk_by(|a, b| a.user == b.user);
-        rule(
-            6,
-            by_user.all(|files| all_differ(files.iter().map(|file| file.key).collect())),
-        )
+        rule(6, by_user.all(|files| all_differ(files.iter().map(|file| file.key).collect())))
     }
 
     /// The files' shapes; also marks every held page, and adds up what each
@@ -232,10 +216,7 @@ impl<'a> Parts<'a> {
         }
         for file in &self.files {
             let bytes = 2048 * u64::from(file.pages);
-            rule(
-                7,
-                u64::from(file.bytes) == bytes && walk.mark_file(file.pages, file.pointer),
-            )?;
+            rule(7, u64::from(file.bytes) == bytes && walk.mark_file(file.pages, file.pointer))?;
             if let Some(user) = &mut self.users[file.user] {
                 user.held += match file.pointer {
                     Pointer::Plain(_) => u64::from(file.pages),
@@ -251,8 +232,7 @@ impl<'a> Parts<'a> {
         let bits = page_words(self.image, bit_page);
         rule(
             9,
-            (0..words_in_use(self.pages))
-                .all(|word| bits[word] & bits_below(self.pages, word) == held[word]),
+            (0..words_in_use(self.pages)).all(|word| bits[word] & bits_below(self.pages, word) == held[word]),
         )
     }
 
@@ -269,18 +249,10 @@ impl<'a> Parts<'a> {
 
 /// The used entries of an entry file with their numbers, its pages being
 /// given with their positions.
-fn used_entries<'b>(
-    image: &'b [u16],
-    pages: &'b [(u32, u32)],
-) -> impl Iterator<Item = (u32, &'b [u16])> {
+fn used_entries<'b>(image: &'b [u16], pages: &'b [(u32, u32)]) -> impl Iterator<Item = (u32, &'b [u16])> {
     pages.iter().flat_map(move |&(position, page)| {
         (0..ENTRIES_TO_A_PAGE)
-            .map(move |n| {
-                (
-                    position * ENTRIES_TO_A_PAGE + n,
-                    EntryPlace::of(n).start_in(page),
-                )
-            })
+            .map(move |n| (position * ENTRIES_TO_A_PAGE + n, EntryPlace::of(n).start_in(page)))
             .map(move |(number, start)| (number, entry_words(image, start)))
             .filter(|(_, entry)| is_used(entry))
     })

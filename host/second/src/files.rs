@@ -4,21 +4,16 @@
 use crate::arguments::{is_count, is_index};
 use crate::bits::{highest_run, lowest_free, reserve};
 use crate::check::demand_sound;
-use crate::entry::{
-    entry_words, object, object_number, user, EntryPlace, ENTRIES, ENTRY_WORDS, NAME, TYPE,
-    USED_WORD,
-};
+use crate::entry::{entry_words, object, object_number, user, EntryPlace, ENTRIES, ENTRY_WORDS, NAME, TYPE, USED_WORD};
 use crate::find::{file_named, named_file, try_address};
 use crate::image::{page_count, page_words_mut, pair, put_pair, PAGE_WORDS, UNRESERVED};
 use crate::name::{is_name, is_type, pack, NAME_WORDS, TYPE_WORDS};
 use crate::pointer::{block_and_slot, put_slot, Pointer};
 use crate::reply::{
-    demand, Outcome, Refusal, Reply, ABSENT, BAD_ARGUMENT, ENTRIES_FULL, GIVEN_SHORT, NAME_TAKEN,
-    NO_RUN, UNRESERVED_SHORT,
+    demand, Outcome, Refusal, Reply, ABSENT, BAD_ARGUMENT, ENTRIES_FULL, GIVEN_SHORT, NAME_TAKEN, NO_RUN, UNRESERVED_SHORT,
 };
 use crate::volume::{
-    bits, file_entry, file_pages, free_page, object_index, object_page, object_pointer, take_page,
-    take_this, unreserved, user_entry,
+    bits, file_entry, file_pages, free_page, object_index, object_page, object_pointer, take_page, take_this, unreserved, user_entry,
 };
 
 /// What a caller says of a new file; a count makes it contiguous.
@@ -41,13 +36,7 @@ struct Plan {
 }
 
 /// Creates an empty indexed file.
-pub fn create_indexed(
-    image: &mut [u16],
-    user: u32,
-    name: &[u8],
-    kind: &[u8],
-    created: u32,
-) -> Reply {
+pub fn create_indexed(image: &mut [u16], user: u32, name: &[u8], kind: &[u8], created: u32) -> Reply {
     create(
         image,
         &NewFile {
@@ -62,14 +51,7 @@ pub fn create_indexed(
 }
 
 /// Creates a contiguous file of so many pages.
-pub fn create_contiguous(
-    image: &mut [u16],
-    user: u32,
-    name: &[u8],
-    kind: &[u8],
-    created: u32,
-    count: u32,
-) -> Reply {
+pub fn create_contiguous(image: &mut [u16], user: u32, name: &[u8], kind: &[u8], created: u32, count: u32) -> Reply {
     create(
         image,
         &NewFile {
@@ -106,25 +88,16 @@ fn plan_file(image: &[u16], new: &NewFile) -> Result<Plan, Refusal> {
     demand(is_index(new.user) && named && counted, BAD_ARGUMENT)?;
     demand_sound(image, pages)?;
     let owner = user_entry(image, new.user).ok_or(ABSENT)?;
-    demand(
-        file_named(image, new.user, new.name, new.kind).is_none(),
-        NAME_TAKEN,
-    )?;
+    demand(file_named(image, new.user, new.name, new.kind).is_none(), NAME_TAKEN)?;
     let mut unused = (0..ENTRIES).filter(|&file| file_entry(image, new.user, file).is_none());
     let file = unused.next().ok_or(ENTRIES_FULL)?;
-    let (given, used) = (
-        pair(image, owner + user::GIVEN),
-        pair(image, owner + user::USED),
-    );
+    let (given, used) = (pair(image, owner + user::GIVEN), pair(image, owner + user::USED));
     demand(given - used >= new.count.unwrap_or(0), GIVEN_SHORT)?;
     let system_pages = system_pages_needed(image, new.user, file);
     demand(unreserved(image) >= system_pages, UNRESERVED_SHORT)?;
     let run = match new.count {
         None => (0, 0),
-        Some(count) => (
-            run_left(image, pages, system_pages, count).ok_or(NO_RUN)?,
-            count,
-        ),
+        Some(count) => (run_left(image, pages, system_pages, count).ok_or(NO_RUN)?, count),
     };
     Ok(Plan {
         owner,

@@ -34,10 +34,7 @@ pub fn find_file(image: &[u16], user: u32, name: &[u8], kind: &[u8]) -> Reply {
 
 fn try_find_file(image: &[u16], user: u32, name: &[u8], kind: &[u8]) -> Outcome {
     let pages = page_count(image)?;
-    demand(
-        is_index(user) && is_name(name) && is_type(kind),
-        BAD_ARGUMENT,
-    )?;
+    demand(is_index(user) && is_name(name) && is_type(kind), BAD_ARGUMENT)?;
     demand_sound(image, pages)?;
     file_named(image, user, name, kind).ok_or(ABSENT)
 }

@@ -1,10 +1,7 @@
 //! Format: a fresh volume without users.
 
 use crate::bits::reserve;
-use crate::image::{
-    page_count, page_words_mut, put_pair, BIT_POINTER, OBJECT_POINTER, UNRESERVED, USER_POINTER,
-    VOLUME_NAME,
-};
+use crate::image::{page_count, page_words_mut, put_pair, BIT_POINTER, OBJECT_POINTER, UNRESERVED, USER_POINTER, VOLUME_NAME};
 use crate::name::{is_name, pack, NAME_WORDS};
 use crate::reply::{demand, Outcome, Reply, BAD_ARGUMENT};
 
@@ -17,10 +14,7 @@ pub fn format(image: &mut [u16], name: &[u8], bit_page: Option<u32>) -> Reply {
 fn try_format(image: &mut [u16], name: &[u8], bit_page: Option<u32>) -> Outcome {
     let pages = page_count(image)?;
     let bit_page = bit_page.unwrap_or(pages / 2);
-    demand(
-        is_name(name) && (1..pages).contains(&bit_page),
-        BAD_ARGUMENT,
-    )?;
+    demand(is_name(name) && (1..pages).contains(&bit_page), BAD_ARGUMENT)?;
     image[VOLUME_NAME..][..NAME_WORDS].copy_from_slice(&pack::<NAME_WORDS>(name));
     put_pair(image, OBJECT_POINTER, 0);
     put_pair(image, USER_POINTER, 0);

@@ -6,10 +6,7 @@ use crate::entry::{ENTRIES, ENTRIES_TO_A_PAGE};
 use crate::image::{page_count, pair, BIT_POINTER};
 use crate::pointer::{Pointer, SLOTS};
 use crate::reply::{demand, kind, HolderReply, Refusal, Reply, BAD_ARGUMENT};
-use crate::volume::{
-    bits, file_pages, files, object_index, object_page, object_pointer, user_page, user_pointer,
-    users, Role,
-};
+use crate::volume::{bits, file_pages, files, object_index, object_page, object_pointer, user_page, user_pointer, users, Role};
 
 /// The holder of a page, or that it is free.
 pub fn who_holds(image: &[u16], page: u32) -> HolderReply {
@@ -26,9 +23,7 @@ fn try_who_holds(image: &[u16], page: u32) -> Result<HolderReply, Refusal> {
     if !is_reserved(bits(image), page) {
         return Ok(holder(kind::FREE, 0));
     }
-    Ok(system_holder(image, page)
-        .or_else(|| file_holder(image, page))
-        .unwrap_or_default())
+    Ok(system_holder(image, page).or_else(|| file_holder(image, page)).unwrap_or_default())
 }
 
 /// A holder without user and file.
@@ -55,20 +50,12 @@ fn system_holder(image: &[u16], page: u32) -> Option<HolderReply> {
     }
     let at = |found: Option<u32>, kind| found.map(|position| holder(kind, position));
     let user_pages = ENTRIES / ENTRIES_TO_A_PAGE;
-    at(
-        (0..user_pages).find(|&n| user_page(image, n) == Some(page)),
-        kind::USER_PAGE,
-    )
-    .or_else(|| {
-        at(
-            (0..4).find(|&n| object_index(image, n) == Some(page)),
-            kind::OBJECT_INDEX,
-        )
-    })
-    .or_else(|| {
-        let found = (0..4 * SLOTS).find(|&n| object_page(image, n) == Some(page));
-        at(found, kind::OBJECT_PAGE)
-    })
+    at((0..user_pages).find(|&n| user_page(image, n) == Some(page)), kind::USER_PAGE)
+        .or_else(|| at((0..4).find(|&n| object_index(image, n) == Some(page)), kind::OBJECT_INDEX))
+        .or_else(|| {
+            let found = (0..4 * SLOTS).find(|&n| object_page(image, n) == Some(page));
+            at(found, kind::OBJECT_PAGE)
+        })
 }
 
 fn file_holder(image: &[u16], page: u32) -> Option<HolderReply> {

@@ -52,10 +52,7 @@ pub fn grow(image: &mut [u16], user: u32, file: u32) -> Reply {
 fn try_grow(image: &mut [u16], user: u32, file: u32) -> Outcome {
     let changing = Changing::find(image, user, file)?;
     let needed = pages_to_grow(changing.pages);
-    let (given, used) = (
-        pair(image, changing.owner + user::GIVEN),
-        changing.used(image),
-    );
+    let (given, used) = (pair(image, changing.owner + user::GIVEN), changing.used(image));
     demand(given - used >= needed, GIVEN_SHORT)?;
     let (n, in_block) = block_and_slot(changing.pages);
     let data = take_page(image);

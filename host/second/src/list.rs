@@ -16,10 +16,7 @@ pub fn list(bytes: &[u8]) -> Vec<u8> {
     if !bytes.len().is_multiple_of(2) || bytes.len() > MOST_BYTES {
         return b"REFUSED 1\n".to_vec();
     }
-    let image: Vec<u16> = bytes
-        .chunks_exact(2)
-        .map(|two| u16::from_be_bytes([two[0], two[1]]))
-        .collect();
+    let image: Vec<u16> = bytes.chunks_exact(2).map(|two| u16::from_be_bytes([two[0], two[1]])).collect();
     let reply = check(&image);
     match reply.number {
         0 => list_sound(&image).into_bytes(),
@@ -52,10 +49,7 @@ fn list_sound(image: &[u16]) -> String {
 
 fn user_line(index: u32, entry: &[u16]) -> String {
     let (given, used) = (pair(entry, user::GIVEN), pair(entry, user::USED));
-    format!(
-        "USER {index} {} GIVEN {given} USED {used}\n",
-        text(name_words(entry))
-    )
+    format!("USER {index} {} GIVEN {given} USED {used}\n", text(name_words(entry)))
 }
 
 fn file_line(file: u32, entry: &[u16]) -> String {

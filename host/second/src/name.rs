@@ -65,7 +65,5 @@ pub fn are_type_words(words: &[u16]) -> bool {
 
 /// A name's or type's words as one number, to sort by.
 pub fn sort_key(words: &[u16]) -> u128 {
-    words
-        .iter()
-        .fold(0, |key, &word| key << 16 | u128::from(word))
+    words.iter().fold(0, |key, &word| key << 16 | u128::from(word))
 }

@@ -88,11 +88,7 @@ impl From<Refusal> for Reply {
 impl From<Outcome> for Reply {
     fn from(outcome: Outcome) -> Reply {
         match outcome {
-            Ok(value) => Reply {
-                number: 0,
-                rule: 0,
-                value,
-            },
+            Ok(value) => Reply { number: 0, rule: 0, value },
             Err(refusal) => refusal.into(),
         }
     }

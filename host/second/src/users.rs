@@ -7,13 +7,8 @@ use crate::find::{named_user, user_named};
 use crate::image::{page_count, pair, put_pair, OBJECT_POINTER, UNRESERVED, USER_POINTER};
 use crate::name::{is_name, pack, NAME_WORDS};
 use crate::pointer::{put_slot, Pointer};
-use crate::reply::{
-    demand, Outcome, Reply, BAD_ARGUMENT, ENTRIES_FULL, GIVEN_SHORT, HAS_FILE, NAME_TAKEN,
-    UNRESERVED_SHORT,
-};
-use crate::volume::{
-    files, object_pointer, take_page, unreserved, user_entry, user_page, user_pointer,
-};
+use crate::reply::{demand, Outcome, Reply, BAD_ARGUMENT, ENTRIES_FULL, GIVEN_SHORT, HAS_FILE, NAME_TAKEN, UNRESERVED_SHORT};
+use crate::volume::{files, object_pointer, take_page, unreserved, user_entry, user_page, user_pointer};
 
 /// Creates a user at the lowest unused index, given 0.
 pub fn create_user(image: &mut [u16], name: &[u8]) -> Reply {
@@ -81,11 +76,7 @@ fn make_first_pages(image: &mut [u16], position: u32) -> u32 {
     let object_index = take_page(image);
     put_slot(image, user_index, position, user_page);
     put_pair(image, USER_POINTER, Pointer::Indexed(user_index).value());
-    put_pair(
-        image,
-        OBJECT_POINTER,
-        Pointer::Indexed(object_index).value(),
-    );
+    put_pair(image, OBJECT_POINTER, Pointer::Indexed(object_index).value());
     user_page
 }
 
@@ -138,10 +129,7 @@ fn try_take(image: &mut [u16], user: u32, count: u32) -> Outcome {
     demand(is_count(count), BAD_ARGUMENT)?;
     let start = named_user(image, user)?;
     let (given, rest) = (pair(image, start + user::GIVEN), unreserved(image));
-    demand(
-        given - pair(image, start + user::USED) >= count,
-        GIVEN_SHORT,
-    )?;
+    demand(given - pair(image, start + user::USED) >= count, GIVEN_SHORT)?;
     put_pair(image, start + user::GIVEN, given - count);
     put_pair(image, UNRESERVED, rest + count);
     Ok(0)

@@ -2,13 +2,8 @@
 //! Nothing here is asked before the check has passed.
 
 use crate::bits::{lowest_free, release, reserve};
-use crate::entry::{
-    entry_words, file_pointer, is_used, object, object_number, EntryPlace, ENTRIES,
-};
-use crate::image::{
-    page_words, page_words_mut, pair, BIT_POINTER, OBJECT_POINTER, PAGE_WORDS, UNRESERVED,
-    USER_POINTER,
-};
+use crate::entry::{entry_words, file_pointer, is_used, object, object_number, EntryPlace, ENTRIES};
+use crate::image::{page_words, page_words_mut, pair, BIT_POINTER, OBJECT_POINTER, PAGE_WORDS, UNRESERVED, USER_POINTER};
 use crate::pointer::{block_and_slot, index_blocks, slot, Pointer};
 
 /// What a page of a file is to it.
@@ -89,8 +84,7 @@ pub(crate) fn users(image: &[u16]) -> impl Iterator<Item = (u32, &[u16])> {
 
 /// A user's files' indexes and entries, ascending.
 pub(crate) fn files(image: &[u16], user: u32) -> impl Iterator<Item = (u32, &[u16])> {
-    (0..ENTRIES)
-        .filter_map(move |file| Some((file, entry_words(image, file_entry(image, user, file)?))))
+    (0..ENTRIES).filter_map(move |file| Some((file, entry_words(image, file_entry(image, user, file)?))))
 }
 
 /// The page at a position of a file, or None from the file's end on.

@@ -65,9 +65,7 @@ impl<'a> Walk<'a> {
         match pointer {
             Pointer::Zero => count == 0,
             Pointer::Plain(first) => self.mark_run(first, count),
-            Pointer::Indexed(block) => {
-                (1..=SLOTS).contains(&count) && self.mark_index_block(block, count)
-            }
+            Pointer::Indexed(block) => (1..=SLOTS).contains(&count) && self.mark_index_block(block, count),
             Pointer::Subindexed(block) => self.mark_subindex_block(block, count),
             Pointer::Error => false,
         }
@@ -97,11 +95,7 @@ impl<'a> Walk<'a> {
         self.mark(block);
         let image = self.image;
         let filled = (0..blocks).all(|n| {
-            let in_block = if n + 1 < blocks {
-                SLOTS
-            } else {
-                count - n * SLOTS
-            };
+            let in_block = if n + 1 < blocks { SLOTS } else { count - n * SLOTS };
             self.mark_index_block(slot(image, block, n), in_block)
         });
         let rest = &page_words(image, block)[2 * blocks as usize..];

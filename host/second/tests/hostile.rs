@@ -19,11 +19,7 @@ fn full_of(pages: u32, pointer: u32) -> Vec<u16> {
     image[8_192 * 1024 + unused / 16] &= !(1 << (unused % 16));
     for block in 0..4_u32 {
         let index = 100 + block;
-        put_pair(
-            &mut image,
-            subindex as usize * 1024 + 2 * block as usize,
-            index,
-        );
+        put_pair(&mut image, subindex as usize * 1024 + 2 * block as usize, index);
         for slot in 0..512_u32 {
             let page = 1_000 + 512 * block + slot;
             put_pair(&mut image, index as usize * 1024 + 2 * slot as usize, page);
@@ -104,11 +100,7 @@ fn chance_words() {
         let mut image = sound.clone();
         for _ in 0..=chance.below(3) {
             let page = [0, 1, 2, 3, 4, 6, 16][chance.below(7) as usize];
-            let near = if page == 0 {
-                1008 + chance.below(16)
-            } else {
-                chance.below(80)
-            };
+            let near = if page == 0 { 1008 + chance.below(16) } else { chance.below(80) };
             let value = chance.below(40) | chance.below(4) << 14;
             image[page * 1024 + near as usize] = value as u16;
         }

@@ -13,10 +13,7 @@ fn kinds_and_order() {
     let mut image = dock(32, 6);
     create_user(&mut image, b"A-2");
     give(&mut image, 1, 3);
-    assert_eq!(
-        create_contiguous(&mut image, 1, b"RUN", b"X-1", 0, 3),
-        done(0)
-    );
+    assert_eq!(create_contiguous(&mut image, 1, b"RUN", b"X-1", 0, 3), done(0));
     assert_eq!(create_indexed(&mut image, 0, b"ZERO", b"", 0), done(0));
     assert_eq!(create_indexed(&mut image, 0, b"ONE", b"1", 0), done(1));
     grow(&mut image, 0, 1);

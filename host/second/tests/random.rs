@@ -45,21 +45,12 @@ fn call(image: &mut [u16], chance: &mut Chance) -> (&'static str, Reply) {
         4 => ("delete user", delete_user(image, user)),
         5..=9 => ("give", give(image, user, count)),
         10 => ("take", take(image, user, count)),
-        11..=15 => (
-            "create indexed",
-            create_indexed(image, user, &name, kind, created),
-        ),
-        16..=18 => (
-            "create contiguous",
-            create_contiguous(image, user, &name, kind, created, count),
-        ),
+        11..=15 => ("create indexed", create_indexed(image, user, &name, kind, created)),
+        16..=18 => ("create contiguous", create_contiguous(image, user, &name, kind, created, count)),
         19..=27 => ("grow", grow(image, user, file)),
         28..=31 => ("shrink", shrink(image, user, file)),
         32..=33 => ("delete file", delete_file(image, user, file)),
-        34..=36 => (
-            "write",
-            write_page(image, user, file, position, &[created as u16; 1024]),
-        ),
+        34..=36 => ("write", write_page(image, user, file, position, &[created as u16; 1024])),
         37 => ("note open", note_open(image, user, file)),
         38 => ("find user", find_user(image, &name)),
         _ => ("find file", find_file(image, user, &name, kind)),
@@ -70,9 +61,7 @@ fn call(image: &mut [u16], chance: &mut Chance) -> (&'static str, Reply) {
 fn assert_sound(image: &[u16], after: &str) {
     let bit_page = pair(image, 1020) as usize * 1024;
     let pages = image.len() / 1024;
-    let reserved = (0..pages)
-        .filter(|p| image[bit_page + p / 16] >> (p % 16) & 1 == 1)
-        .count();
+    let reserved = (0..pages).filter(|p| image[bit_page + p / 16] >> (p % 16) & 1 == 1).count();
     assert_eq!(check(image), done(reserved as u32), "after {after}");
 }
 
@@ -115,9 +104,7 @@ fn assert_shrink_undoes_grow(image: &[u16], user: u32, file: u32) {
 /// So many calls on a fresh volume; gives how often each number was met.
 fn run(pages: usize, calls: u32, seed: u64) -> [u32; 12] {
     let mut chance = Chance::new(seed);
-    let mut image: Vec<u16> = (0..pages * 1024)
-        .map(|_| chance.below(65_536) as u16)
-        .collect();
+    let mut image: Vec<u16> = (0..pages * 1024).map(|_| chance.below(65_536) as u16).collect();
     let bit_page = 1 + chance.below(pages as u32 - 1);
     assert_eq!(format(&mut image, b"YARD", Some(bit_page)), done(0));
     let mut numbers = [0; 12];
@@ -163,16 +150,8 @@ fn long_files() {
     let mut addresses: Vec<u32> = Vec::new();
     let mut longest = 0;
     for n in 0..3_000 {
-        let up = if n < 1_600 {
-            chance.below(10) < 9
-        } else {
-            chance.below(10) < 1
-        };
-        let reply = if up {
-            grow(&mut image, 0, 0)
-        } else {
-            shrink(&mut image, 0, 0)
-        };
+        let up = if n < 1_600 { chance.below(10) < 9 } else { chance.below(10) < 1 };
+        let reply = if up { grow(&mut image, 0, 0) } else { shrink(&mut image, 0, 0) };
         match (reply.number, up) {
             (0, true) => addresses.push(reply.value),
             (0, false) => drop(addresses.pop()),

@@ -67,12 +67,8 @@ fn number_2_for_indexes_and_counts() {
         refuses(&image, 2, |image| delete_user(image, bad));
         refuses(&image, 2, |image| give(image, bad, 1));
         refuses(&image, 2, |image| take(image, bad, 1));
-        refuses(&image, 2, |image| {
-            create_indexed(image, bad, b"NEW", b"", 0)
-        });
-        refuses(&image, 2, |image| {
-            create_contiguous(image, bad, b"NEW", b"", 0, 1)
-        });
+        refuses(&image, 2, |image| create_indexed(image, bad, b"NEW", b"", 0));
+        refuses(&image, 2, |image| create_contiguous(image, bad, b"NEW", b"", 0, 1));
         refuses(&image, 2, |image| grow(image, bad, 0));
         refuses(&image, 2, |image| shrink(image, 0, bad));
         refuses(&image, 2, |image| delete_file(image, 0, bad));
@@ -82,9 +78,7 @@ fn number_2_for_indexes_and_counts() {
     for bad in [0, 16_385, u32::MAX] {
         refuses(&image, 2, |image| give(image, 0, bad));
         refuses(&image, 2, |image| take(image, 0, bad));
-        refuses(&image, 2, |image| {
-            create_contiguous(image, 0, b"NEW", b"", 0, bad)
-        });
+        refuses(&image, 2, |image| create_contiguous(image, 0, b"NEW", b"", 0, bad));
     }
     assert_eq!(who_holds(&image, 32).reply, refused(2));
     assert_eq!(who_holds(&image, u32::MAX).reply, refused(2));
@@ -102,17 +96,13 @@ fn number_2_for_names_and_types() {
         refuses(&image, 2, |image| find_file(image, 0, name, b""));
         refuses(&image, 2, |image| create_user(image, name));
         refuses(&image, 2, |image| create_indexed(image, 0, name, b"", 0));
-        refuses(&image, 2, |image| {
-            create_contiguous(image, 0, name, b"", 0, 1)
-        });
+        refuses(&image, 2, |image| create_contiguous(image, 0, name, b"", 0, 1));
     }
     let kinds: [&[u8]; 4] = [b"a", b"ABCDE", b"A\0", b":"];
     for kind in kinds {
         refuses(&image, 2, |image| find_file(image, 0, b"A", kind));
         refuses(&image, 2, |image| create_indexed(image, 0, b"A", kind, 0));
-        refuses(&image, 2, |image| {
-            create_contiguous(image, 0, b"A", kind, 0, 1)
-        });
+        refuses(&image, 2, |image| create_contiguous(image, 0, b"A", kind, 0, 1));
     }
 }
 
@@ -153,9 +143,7 @@ fn number_4() {
     refuses(&image, 4, |image| give(image, 2, 16_384));
     refuses(&image, 4, |image| take(image, 2, 16_384));
     refuses(&image, 4, |image| create_indexed(image, 2, b"NEW", b"", 0));
-    refuses(&image, 4, |image| {
-        create_contiguous(image, 2, b"NEW", b"", 0, 16_384)
-    });
+    refuses(&image, 4, |image| create_contiguous(image, 2, b"NEW", b"", 0, 16_384));
     refuses(&image, 4, |image| grow(image, 0, 1));
     refuses(&image, 4, |image| shrink(image, 1, 0));
     refuses(&image, 4, |image| delete_file(image, 0, 1));
@@ -171,20 +159,10 @@ fn number_4() {
 fn number_5() {
     let image = two_users();
     refuses(&image, 5, |image| create_user(image, b"RAMS"));
-    refuses(&image, 5, |image| {
-        create_indexed(image, 0, b"READS", b"DATA", 0)
-    });
-    refuses(&image, 5, |image| {
-        create_contiguous(image, 0, b"READS", b"DATA", 0, 16_384)
-    });
-    assert_eq!(
-        create_indexed(&mut image.clone(), 0, b"READS", b"DAT", 0),
-        done(1)
-    );
-    assert_eq!(
-        create_indexed(&mut image.clone(), 1, b"READS", b"DATA", 0),
-        done(0)
-    );
+    refuses(&image, 5, |image| create_indexed(image, 0, b"READS", b"DATA", 0));
+    refuses(&image, 5, |image| create_contiguous(image, 0, b"READS", b"DATA", 0, 16_384));
+    assert_eq!(create_indexed(&mut image.clone(), 0, b"READS", b"DAT", 0), done(1));
+    assert_eq!(create_indexed(&mut image.clone(), 1, b"READS", b"DATA", 0), done(0));
 }
 
 #[test]
@@ -221,21 +199,12 @@ fn number_8_for_files() {
     for n in 0..256 {
         assert_eq!(create_indexed(&mut image, 0, &nth(n), b"", n), done(n));
     }
-    refuses(&image, 5, |image| {
-        create_indexed(image, 0, b"N-255", b"", 0)
-    });
+    refuses(&image, 5, |image| create_indexed(image, 0, b"N-255", b"", 0));
     refuses(&image, 8, |image| create_indexed(image, 0, b"MORE", b"", 0));
-    refuses(&image, 8, |image| {
-        create_contiguous(image, 0, b"MORE", b"", 0, 2)
-    });
+    refuses(&image, 8, |image| create_contiguous(image, 0, b"MORE", b"", 0, 2));
     assert_eq!(delete_file(&mut image, 0, 100), done(0));
-    refuses(&image, 9, |image| {
-        create_contiguous(image, 0, b"MORE", b"", 0, 2)
-    });
-    assert_eq!(
-        create_contiguous(&mut image, 0, b"MORE", b"", 0, 1),
-        done(100)
-    );
+    refuses(&image, 9, |image| create_contiguous(image, 0, b"MORE", b"", 0, 2));
+    assert_eq!(create_contiguous(&mut image, 0, b"MORE", b"", 0, 1), done(100));
 }
 
 #[test]
@@ -243,9 +212,7 @@ fn number_9() {
     let image = reads(32, 2, 1);
     refuses(&image, 9, |image| grow(image, 0, 0));
     refuses(&image, 9, |image| take(image, 0, 1));
-    refuses(&image, 9, |image| {
-        create_contiguous(image, 0, b"RUN", b"", 0, 1)
-    });
+    refuses(&image, 9, |image| create_contiguous(image, 0, b"RUN", b"", 0, 1));
     refuses(&reads(32, 1, 0), 9, |image| grow(image, 0, 0));
     // From 512 a grow takes three.
     let mut image = reads(600, 515, 512);
@@ -261,15 +228,9 @@ fn number_10() {
     refuses(&image, 10, |image| give(image, 0, 4));
     let mut all_given = image.clone();
     assert_eq!(give(&mut all_given, 0, 3), done(0));
-    refuses(&all_given, 10, |image| {
-        create_indexed(image, 0, b"NEW", b"", 0)
-    });
-    refuses(&all_given, 10, |image| {
-        create_contiguous(image, 0, b"NEW", b"", 0, 3)
-    });
-    refuses(&all_given, 9, |image| {
-        create_contiguous(image, 0, b"NEW", b"", 0, 4)
-    });
+    refuses(&all_given, 10, |image| create_indexed(image, 0, b"NEW", b"", 0));
+    refuses(&all_given, 10, |image| create_contiguous(image, 0, b"NEW", b"", 0, 3));
+    refuses(&all_given, 9, |image| create_contiguous(image, 0, b"NEW", b"", 0, 4));
     refuses(&all_given, 10, |image| give(image, 0, 1));
     assert_eq!(create_user(&mut all_given, b"RAMS"), done(1));
     let mut crowded = volume(32);
@@ -286,9 +247,7 @@ fn number_11() {
     let mut image = dock(16, 0);
     // Pages 0..3 and 8 are held; 4..7 and 9..15 are free.
     assert_eq!(give(&mut image, 0, 8), done(0));
-    refuses(&image, 11, |image| {
-        create_contiguous(image, 0, b"RUN", b"", 0, 8)
-    });
+    refuses(&image, 11, |image| create_contiguous(image, 0, b"RUN", b"", 0, 8));
     assert_eq!(create_contiguous(&mut image, 0, b"RUN", b"", 0, 7), done(0));
     assert_eq!(address(&image, 0, 0, 0), done(9));
     // The object page, the lowest free, does not harm the run above it,
@@ -296,16 +255,11 @@ fn number_11() {
     assert_eq!(format(&mut tight, b"YARD", Some(1)), done(0));
     assert_eq!(create_user(&mut tight, b"DOCK"), done(0));
     assert_eq!(give(&mut tight, 0, 3), done(0));
-    assert_eq!(
-        create_contiguous(&mut tight.clone(), 0, b"RUN", b"", 0, 3),
-        done(0)
-    );
+    assert_eq!(create_contiguous(&mut tight.clone(), 0, b"RUN", b"", 0, 3), done(0));
     // but here it takes the first page of the only run.
     let mut split = volume(9);
     assert_eq!(format(&mut split, b"YARD", Some(7)), done(0));
     assert_eq!(create_user(&mut split, b"DOCK"), done(0));
     assert_eq!(give(&mut split, 0, 3), done(0));
-    refuses(&split, 11, |image| {
-        create_contiguous(image, 0, b"RUN", b"", 0, 3)
-    });
+    refuses(&split, 11, |image| create_contiguous(image, 0, b"RUN", b"", 0, 3));
 }

@@ -48,11 +48,7 @@ fn rule_1() {
     assert_eq!(check(&vec![u16::MAX; 8 * 1024]), unsound(1));
     assert_eq!(word(1008, 0), unsound(1), "the name starts with fill");
     assert_eq!(word(1008, u16::from_be_bytes(*b"ya")), unsound(1));
-    assert_eq!(
-        word(1011, u16::from_be_bytes(*b"YA")),
-        unsound(1),
-        "bytes after fill"
-    );
+    assert_eq!(word(1011, u16::from_be_bytes(*b"YA")), unsound(1), "bytes after fill");
     for bad in [0, 32, u32::MAX, I | 16, S | 16] {
         assert_eq!(two_words(1020, bad), unsound(1));
     }
@@ -121,11 +117,7 @@ fn rule_6() {
     assert_eq!(word(OBJECT + 16, 1), unsound(6));
     assert_eq!(word(OBJECT + 17, 1), unsound(6));
     assert_eq!(word(OBJECT + 1, 0), unsound(6));
-    assert_eq!(
-        word(OBJECT + 9, 0x0041),
-        unsound(6),
-        "a type with leading fill"
-    );
+    assert_eq!(word(OBJECT + 9, 0x0041), unsound(6), "a type with leading fill");
     assert_eq!(word(OBJECT + 10, 0x2020), unsound(6));
     // The user's entry no longer used.
     assert_eq!(word(USER, 0), unsound(6));
@@ -148,18 +140,7 @@ fn rule_7_counts_and_pointers() {
         });
         assert_eq!(changed, unsound(7), "{bad} pages");
     }
-    for bad in [
-        0,
-        I,
-        S,
-        I | 32,
-        S | 6,
-        S | I | 6,
-        I | 7,
-        32,
-        I - 1,
-        u32::MAX,
-    ] {
+    for bad in [0, I, S, I | 32, S | 6, S | I | 6, I | 7, 32, I - 1, u32::MAX] {
         assert_eq!(two_words(OBJECT + 30, bad), unsound(7), "pointer {bad:x}");
     }
     for bad in [0, 32, I | 5, S | 5, u32::MAX] {
@@ -196,10 +177,7 @@ fn rule_7_subindexed() {
         put_pair(&mut image, at, value);
         check(&image)
     };
-    let (first, second) = (
-        pair(&image, slot(subindex, 0)),
-        pair(&image, slot(subindex, 1)),
-    );
+    let (first, second) = (pair(&image, slot(subindex, 0)), pair(&image, slot(subindex, 1)));
     for bad in [0, 600, I | first] {
         assert_eq!(changed(slot(subindex, 0), bad), unsound(7));
     }
@@ -229,11 +207,7 @@ fn rule_8() {
         put_pair(image, slot(6, 1), 5);
     });
     assert_eq!(grown, unsound(8));
-    assert_eq!(
-        two_words(1020, 5),
-        unsound(8),
-        "the bit file on a data page"
-    );
+    assert_eq!(two_words(1020, 5), unsound(8), "the bit file on a data page");
     // User pages without used users in two slots.
     let shared = judged(|image| {
         put_pair(image, slot(1, 1), 9);
@@ -320,10 +294,7 @@ fn odd_but_sound() {
     assert_eq!(word(OBJECT + 18, 77), done(8));
     assert_eq!(word(USER + 13, 77), done(8));
     // An unused entry may hold anything else.
-    assert_eq!(
-        judged(|image| image[USER + 33..USER + 64].fill(0xFFFF)),
-        done(8)
-    );
+    assert_eq!(judged(|image| image[USER + 33..USER + 64].fill(0xFFFF)), done(8));
     // An object page of a user who is not there.
     let empty = judged(|image| {
         put_pair(image, slot(3, 80), 20);

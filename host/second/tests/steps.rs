@@ -45,10 +45,7 @@ fn a_user_is_written() {
     let before = image.clone();
     assert_eq!(create_user(&mut image, b"BC"), done(1));
     let user = 2 * 1024 + 32;
-    assert_eq!(
-        changes(&before, &image),
-        [(user, 32_768), (user + 1, 0x4243), (user + 18, 1)]
-    );
+    assert_eq!(changes(&before, &image), [(user, 32_768), (user + 1, 0x4243), (user + 18, 1)]);
     // The deleted one's place is cleared, and used again.
     assert_eq!(delete_user(&mut image, 0), done(0));
     assert!(image[2 * 1024..user].iter().all(|&word| word == 0));
@@ -59,10 +56,7 @@ fn a_user_is_written() {
 fn a_file_is_written() {
     let mut image = dock(40, 9);
     image[4 * 1024..5 * 1024].fill(0xABCD);
-    assert_eq!(
-        create_contiguous(&mut image, 0, b"RUN", b"T", 0x12345, 3),
-        done(0)
-    );
+    assert_eq!(create_contiguous(&mut image, 0, b"RUN", b"T", 0x12345, 3), done(0));
     let mut entry = [0; 1024];
     (entry[0], entry[1], entry[2], entry[9]) = (32_768, 0x5255, 0x4E00, 0x5400);
     (entry[20], entry[21], entry[27], entry[29], entry[31]) = (1, 0x2345, 3, 6_144, 37);
@@ -83,8 +77,9 @@ fn freed_pages_keep_their_words_and_new_ones_have_none() {
     assert_eq!(delete_file(&mut image, 0, 0), done(0));
     let touched = changes(&before, &image);
     let entry = 4 * 1024..4 * 1024 + 32;
-    assert!(touched.iter().all(|&(at, word)| word == 0
-        && (entry.contains(&at) || at == 2 * 1024 + 17 || at == 20 * 1024 + 2)));
+    assert!(touched
+        .iter()
+        .all(|&(at, word)| word == 0 && (entry.contains(&at) || at == 2 * 1024 + 17 || at == 20 * 1024 + 2)));
     assert_eq!(image[39 * 1024..], [5; 1024]);
     assert_eq!(create_contiguous(&mut image, 0, b"RUN", b"", 0, 2), done(0));
     assert_eq!(read_page(&image, 0, 0, 1), [0; 1024]);
@@ -122,9 +117,7 @@ fn shrink_goes_back_to_a_single_index() {
     // As before the grow, but the freed pages keep their words.
     let freed = data as usize * 1024..(data as usize + 3) * 1024;
     assert_eq!(image[freed.clone()], grown[freed.clone()]);
-    assert!(changes(&before, &image)
-        .iter()
-        .all(|(at, _)| freed.contains(at)));
+    assert!(changes(&before, &image).iter().all(|(at, _)| freed.contains(at)));
 }
 
 #[test]
@@ -134,11 +127,7 @@ fn shrink_clears_the_slot_of_a_block_that_stays() {
     assert_eq!(shrink(&mut image, 0, 0), done(0));
     assert_eq!(pair(&image, 6 * 1024 + 2), 0);
     assert_eq!(shrink(&mut image, 0, 0), done(0));
-    assert_eq!(
-        pair(&image, 6 * 1024),
-        5,
-        "the freed index block keeps its words"
-    );
+    assert_eq!(pair(&image, 6 * 1024), 5, "the freed index block keeps its words");
     assert_eq!(pair(&image, 4 * 1024 + 30), 0);
     assert_eq!(check(&image), done(6));
 }
@@ -226,9 +215,7 @@ fn bits_from_p_on_stay() {
     assert_eq!(image[bits + 2], 0xFFFF);
     assert_eq!(delete_file(&mut image, 0, 0), done(0));
     assert_eq!(image[bits + 2], 0xFF00);
-    assert!(image[bits + 3..bits + 1024]
-        .iter()
-        .all(|&word| word == 0xFFFF));
+    assert!(image[bits + 3..bits + 1024].iter().all(|&word| word == 0xFFFF));
 }
 
 #[test]

@@ -24,24 +24,9 @@ fn pointers() {
 #[test]
 fn entries() {
     assert_eq!(object_number(3, 40), 808);
-    assert_eq!(
-        EntryPlace::of(808),
-        EntryPlace {
-            position: 25,
-            word: 256
-        }
-    );
-    assert_eq!(
-        block_and_slot(EntryPlace::of(object_number(64, 0)).position),
-        (1, 0)
-    );
-    assert_eq!(
-        EntryPlace::of(33),
-        EntryPlace {
-            position: 1,
-            word: 32
-        }
-    );
+    assert_eq!(EntryPlace::of(808), EntryPlace { position: 25, word: 256 });
+    assert_eq!(block_and_slot(EntryPlace::of(object_number(64, 0)).position), (1, 0));
+    assert_eq!(EntryPlace::of(33), EntryPlace { position: 1, word: 32 });
 }
 
 #[test]
@@ -61,10 +46,7 @@ fn growth_by_calls() {
         assert_eq!(grow(&mut image, 0, 0).number, 0);
         taken.push(used(&image) - before);
     }
-    assert_eq!(
-        [0, 1, 512, 1_024].map(|from: usize| taken[from]),
-        [2, 1, 3, 2]
-    );
+    assert_eq!([0, 1, 512, 1_024].map(|from: usize| taken[from]), [2, 1, 3, 2]);
     assert_eq!(taken[..513].iter().sum::<u32>(), 516);
     for taken in taken.into_iter().rev() {
         let before = used(&image);
@@ -105,10 +87,7 @@ fn a_volume_of_154_pages() {
     assert_eq!(create_user(&mut image, b"DOCK"), done(0));
     assert_eq!(unreserved(&image), 149);
     let kinds = [1, 2, 3].map(|page| who_holds(&image, page).kind);
-    assert_eq!(
-        kinds,
-        [kind::USER_INDEX, kind::USER_PAGE, kind::OBJECT_INDEX]
-    );
+    assert_eq!(kinds, [kind::USER_INDEX, kind::USER_PAGE, kind::OBJECT_INDEX]);
     assert_eq!(give(&mut image, 0, 100), done(0));
     assert_eq!(unreserved(&image), 49);
     assert_eq!(create_indexed(&mut image, 0, b"READS", b"DATA", 7), done(0));
@@ -116,10 +95,7 @@ fn a_volume_of_154_pages() {
     assert_eq!(unreserved(&image), 48);
     assert_eq!(grow(&mut image, 0, 0), done(5));
     assert_eq!(who_holds(&image, 6).kind, kind::FILE_INDEX);
-    assert_eq!(
-        create_contiguous(&mut image, 0, b"RUN", b"", 8, 10),
-        done(1)
-    );
+    assert_eq!(create_contiguous(&mut image, 0, b"RUN", b"", 8, 10), done(1));
     let addresses: Vec<u32> = (0..10).map(|n| address(&image, 0, 1, n).value).collect();
     assert_eq!(addresses, (144..154).collect::<Vec<u32>>());
     // Pages 0..6, the bit page and the run of ten.

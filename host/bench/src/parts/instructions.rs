@@ -121,7 +121,10 @@ fn of_growth(run: &mut Run) -> io::Result<()> {
         &["P", "pages held", "proved", "a held page"],
     );
     let volumes = growing(&run.plan.growth);
-    let jobs = volumes.iter().map(|volume| check_of(run, volume)).collect::<io::Result<Vec<Job>>>()?;
+    let jobs = volumes
+        .iter()
+        .map(|volume| check_of(run, volume))
+        .collect::<io::Result<Vec<Job>>>()?;
     let mut points = Vec::new();
     for (volume, count) in volumes.iter().zip(counted("growth", &jobs)) {
         let held = volume.held();

@@ -32,29 +32,17 @@ pub fn reads(pages: usize, given: u32, length: u32) -> Vec<u16> {
 
 /// Number 0 with a value.
 pub fn done(value: u32) -> Reply {
-    Reply {
-        number: 0,
-        rule: 0,
-        value,
-    }
+    Reply { number: 0, rule: 0, value }
 }
 
 /// A refusal other than 3.
 pub fn refused(number: u32) -> Reply {
-    Reply {
-        number,
-        rule: 0,
-        value: 0,
-    }
+    Reply { number, rule: 0, value: 0 }
 }
 
 /// Number 3 with its rule.
 pub fn unsound(rule: u32) -> Reply {
-    Reply {
-        number: 3,
-        rule,
-        value: 0,
-    }
+    Reply { number: 3, rule, value: 0 }
 }
 
 /// A call must be refused with this number and leave the image as it was.
