@@ -127,6 +127,35 @@ fn place_of(part: &[u16], image: &[u16]) -> Answer {
     Answer { offset, length: part.len(), ..Answer::default() }
 }
 
+/// Makes a call of one of the two programs, whose functions have the same names and arguments.
+macro_rules! made_of {
+    ($program:ident, $call:expr, $image:expr) => {{
+        use $program::*;
+        match $call {
+            Call::Check => check($image).into(),
+            Call::FindUser { name } => find_user($image, name).into(),
+            Call::FindFile { user, name, kind } => find_file($image, *user, name, kind).into(),
+            Call::Address { user, file, position } => address($image, *user, *file, *position).into(),
+            Call::WhoHolds { page } => who_holds($image, *page).into(),
+            Call::ReadPage { user, file, position } => place_of(read_page($image, *user, *file, *position), $image),
+            Call::Format { name, bit_page } => format($image, name, *bit_page).into(),
+            Call::CreateUser { name } => create_user($image, name).into(),
+            Call::DeleteUser { user } => delete_user($image, *user).into(),
+            Call::Give { user, count } => give($image, *user, *count).into(),
+            Call::Take { user, count } => take($image, *user, *count).into(),
+            Call::CreateIndexed { user, name, kind, created } => create_indexed($image, *user, name, kind, *created).into(),
+            Call::CreateContiguous { user, name, kind, created, count } => {
+                create_contiguous($image, *user, name, kind, *created, *count).into()
+            }
+            Call::Grow { user, file } => grow($image, *user, *file).into(),
+            Call::Shrink { user, file } => shrink($image, *user, *file).into(),
+            Call::DeleteFile { user, file } => delete_file($image, *user, *file).into(),
+            Call::WritePage { user, file, position, data } => write_page($image, *user, *file, *position, &data.words()).into(),
+            Call::NoteOpen { user, file } => note_open($image, *user, *file).into(),
+        }
+    }};
+}
+
 impl Call {
     /// The place of the call's name in `NAMES`.
     pub fn which(&self) -> usize {
@@ -155,55 +184,11 @@ impl Call {
 
     /// Makes the call of the proved library.
     pub fn on_proved(&self, image: &mut [u16]) -> Answer {
-        use proved::*;
-        match self {
-            Call::Check => check(image).into(),
-            Call::FindUser { name } => find_user(image, name).into(),
-            Call::FindFile { user, name, kind } => find_file(image, *user, name, kind).into(),
-            Call::Address { user, file, position } => address(image, *user, *file, *position).into(),
-            Call::WhoHolds { page } => who_holds(image, *page).into(),
-            Call::ReadPage { user, file, position } => place_of(read_page(image, *user, *file, *position), image),
-            Call::Format { name, bit_page } => format(image, name, *bit_page).into(),
-            Call::CreateUser { name } => create_user(image, name).into(),
-            Call::DeleteUser { user } => delete_user(image, *user).into(),
-            Call::Give { user, count } => give(image, *user, *count).into(),
-            Call::Take { user, count } => take(image, *user, *count).into(),
-            Call::CreateIndexed { user, name, kind, created } => create_indexed(image, *user, name, kind, *created).into(),
-            Call::CreateContiguous { user, name, kind, created, count } => {
-                create_contiguous(image, *user, name, kind, *created, *count).into()
-            }
-            Call::Grow { user, file } => grow(image, *user, *file).into(),
-            Call::Shrink { user, file } => shrink(image, *user, *file).into(),
-            Call::DeleteFile { user, file } => delete_file(image, *user, *file).into(),
-            Call::WritePage { user, file, position, data } => write_page(image, *user, *file, *position, &data.words()).into(),
-            Call::NoteOpen { user, file } => note_open(image, *user, *file).into(),
-        }
+        made_of!(proved, self, image)
     }
 
     /// Makes the call of the second program.
     pub fn on_second(&self, image: &mut [u16]) -> Answer {
-        use second::*;
-        match self {
-            Call::Check => check(image).into(),
-            Call::FindUser { name } => find_user(image, name).into(),
-            Call::FindFile { user, name, kind } => find_file(image, *user, name, kind).into(),
-            Call::Address { user, file, position } => address(image, *user, *file, *position).into(),
-            Call::WhoHolds { page } => who_holds(image, *page).into(),
-            Call::ReadPage { user, file, position } => place_of(read_page(image, *user, *file, *position), image),
-            Call::Format { name, bit_page } => format(image, name, *bit_page).into(),
-            Call::CreateUser { name } => create_user(image, name).into(),
-            Call::DeleteUser { user } => delete_user(image, *user).into(),
-            Call::Give { user, count } => give(image, *user, *count).into(),
-            Call::Take { user, count } => take(image, *user, *count).into(),
-            Call::CreateIndexed { user, name, kind, created } => create_indexed(image, *user, name, kind, *created).into(),
-            Call::CreateContiguous { user, name, kind, created, count } => {
-                create_contiguous(image, *user, name, kind, *created, *count).into()
-            }
-            Call::Grow { user, file } => grow(image, *user, *file).into(),
-            Call::Shrink { user, file } => shrink(image, *user, *file).into(),
-            Call::DeleteFile { user, file } => delete_file(image, *user, *file).into(),
-            Call::WritePage { user, file, position, data } => write_page(image, *user, *file, *position, &data.words()).into(),
-            Call::NoteOpen { user, file } => note_open(image, *user, *file).into(),
-        }
+        made_of!(second, self, image)
     }
 }
