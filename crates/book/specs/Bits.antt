@@ -16,18 +16,21 @@ toDigit zero w x = w / 2 * 2 + x
 toDigit (suc j) w x = toDigit j (w / 2) x * 2 + w % 2
 
 -- a bit page serves 16,384 pages, 16 a word
+abbrev pub pageBits : ℕ
+pageBits = 16384
+
 abbrev pub bitPageOf : ℕ → ℕ
-bitPageOf p = p / 16384
+bitPageOf p = p / pageBits
 
 abbrev pub bitWord : ℕ → ℕ
-bitWord p = p % 16384 / 16
+bitWord p = p % pageBits / 16
 
 abbrev pub bitPlace : ℕ → ℕ
 bitPlace p = p % 16
 
 -- how many bit pages P pages ask for: one, while P is at most 16,384
 unfoldable pub bitPages : ℕ → ℕ
-bitPages P = (P + 16383) / 16384
+bitPages P = (P + (pageBits - 1)) / pageBits
 
 -- the bit file is a run of that many pages
 unfoldable pub bitFile : ℕ → Vol → Root

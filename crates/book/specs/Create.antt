@@ -4,7 +4,7 @@ use Prim.Native.Nat.{ℕ, _+_, _-_, _*_, _/_, _%_}
 use Rattle.sums.specs.Sum.{is}
 use Rattle.sums.specs.Search.{pick, atLeast}
 use Rattle.book.specs.Words.{Words, Vol, put2, setWord, setTwo, setWords, zeros}
-use Rattle.book.specs.Pointers.{flags, page, pointer, setSlot, indexed, subindexed, userPointer, objectPointer}
+use Rattle.book.specs.Pointers.{flags, page, pointer, setSlot, indexed, subindexed, userPointer, objectPointer, unreservedCount}
 use Rattle.book.specs.Bits.{claim, claimRun, highestRun}
 use Rattle.book.specs.Entries.{user, userPage, objectPage, putEntry, usedPages, entryPage, entryWord, fileEntry, newUser, newFile, unreserved}
 use Rattle.book.specs.Names.{packed}
@@ -13,7 +13,7 @@ use Rattle.book.specs.Grow.{indexOf}
 
 -- n system pages are paid from unreserved
 unfoldable pub pay : Vol → ℕ → Vol
-pay v n = put2 v 0 1022 (unreserved v - n)
+pay v n = put2 v 0 unreservedCount (unreserved v - n)
 
 -- 1 if user u asks for a subindex block: from user 64 on, while the object file is indexed
 unfoldable pub raises : Vol → ℕ → ℕ

@@ -2,7 +2,7 @@
 use Prim.Native.Nat.{ℕ, _+_, _-_, _*_, _/_, _%_}
 use Rattle.sums.specs.Search.{pick, lowest}
 use Rattle.book.specs.Words.{Words, Vol, two, word, putWords}
-use Rattle.book.specs.Pointers.{userPointer, objectPointer}
+use Rattle.book.specs.Pointers.{userPointer, objectPointer, unreservedCount}
 use Rattle.book.specs.Trees.{Root, rootAt, pageAt}
 
 -- where entry n lies in its file: on this page, from this word on
@@ -95,4 +95,4 @@ newFile v u = lowest (λ f. 1 - used (object v (fileEntry u f))) 256
 
 -- the pages that nobody was given
 unfoldable pub unreserved : Vol → ℕ
-unreserved v = two (v 0) 1022
+unreserved v = two (v 0) unreservedCount

@@ -35,8 +35,11 @@ Shape P v (suc (suc zero)) t n = Subindexed P v t n
 Shape P v (suc (suc (suc x))) t n = ⊥
 
 -- bytes are 2,048 a page
+abbrev pub pageBytes : ℕ
+pageBytes = 2048
+
 abbrev pub bytesOf : ℕ → ℕ
-bytesOf n = 2048 * n
+bytesOf n = pageBytes * n
 
 abbrev pub BytesRight : Words → Type 0
 BytesRight w = byteCount w ≡ bytesOf (pageCount w)

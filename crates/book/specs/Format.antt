@@ -2,7 +2,7 @@
 use mathlib.Core.List.{List}
 use Prim.Native.Nat.{ℕ, zero, suc, _+_, _-_, _/_}
 use Rattle.book.specs.Words.{Vol, put2, putWords, wipe}
-use Rattle.book.specs.Pointers.{pointer, plain, userPointer, objectPointer, bitPointer}
+use Rattle.book.specs.Pointers.{pointer, plain, userPointer, objectPointer, bitPointer, unreservedCount, volumeName}
 use Rattle.book.specs.Bits.{bitPages, mark}
 use Rattle.book.specs.Names.{packed}
 
@@ -22,7 +22,7 @@ middle P = P / 2
 -- the directory entry of a new volume: its name, no users and no objects, the bit file at b, all but the master page and the bit file unreserved
 unfoldable pub directory : ℕ → Vol → List ℕ → ℕ → Vol
 directory P v name b =
-    put2 (put2 (put2 (put2 (putWords v 0 1008 8 (packed name)) 0 objectPointer 0) 0 userPointer 0) 0 bitPointer (pointer plain b)) 0 1022 (P - 1 - bitPages P)
+    put2 (put2 (put2 (put2 (putWords v 0 volumeName 8 (packed name)) 0 objectPointer 0) 0 userPointer 0) 0 bitPointer (pointer plain b)) 0 unreservedCount (P - 1 - bitPages P)
 
 -- only the master page and the bit file are reserved
 unfoldable pub format : ℕ → Vol → List ℕ → ℕ → Vol

@@ -8,7 +8,7 @@ use lib.Seq.{ext-getD}
 use Rattle.sums.specs.Sum.{is}
 use Rattle.sums.specs.Search.{pick}
 use Rattle.book.specs.Words.{Words, Vol, vol}
-use Rattle.book.specs.Pointers.{flags}
+use Rattle.book.specs.Pointers.{flags, volumeName}
 use Rattle.book.specs.Bits.{reserved}
 use Rattle.book.specs.Entries.{Table, user, object, used, given, usedPages, fileEntry, pageCount, filePointer, unreserved}
 use Rattle.book.specs.Names.{byteAt}
@@ -110,7 +110,7 @@ field label n = label ++ decimal n
 -- ---- lines
 
 unfoldable pub headLine : ℕ → Vol → Bytes
-headLine P v = volume ++ spelled (v 0) 1008 16 ++ field pagesAre P ++ field reservedAre (reserved P v) ++ field unreservedAre (unreserved v) ++ newline
+headLine P v = volume ++ spelled (v 0) volumeName 16 ++ field pagesAre P ++ field reservedAre (reserved P v) ++ field unreservedAre (unreserved v) ++ newline
 
 unfoldable pub userLine : Table → ℕ → Bytes
 userLine U u = field userIs u ++ space ++ spelled (U u) 1 16 ++ field givenAre (given U u) ++ field usedAre (usedPages U u) ++ newline

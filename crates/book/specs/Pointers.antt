@@ -45,7 +45,10 @@ slot v b n = two (word v b) (2 * n)
 unfoldable pub setSlot : Vol → ℕ → ℕ → ℕ → Vol
 setSlot v b n d = put2 v b (2 * n) d
 
--- the pointers of the master page's directory entry
+-- where the words of the master page's directory entry stand: the volume's name, three pointers, the unreserved pages
+abbrev pub volumeName : ℕ
+volumeName = 1008
+
 abbrev pub objectPointer : ℕ
 objectPointer = 1016
 
@@ -54,3 +57,6 @@ userPointer = 1018
 
 abbrev pub bitPointer : ℕ
 bitPointer = 1020
+
+abbrev pub unreservedCount : ℕ
+unreservedCount = 1022

@@ -4,7 +4,7 @@ use mathlib.Core.Logic.{_⊎_}
 use Prim.Native.Nat.{ℕ, zero, suc, _+_, _≤_, _<_}
 use Rattle.sums.specs.Sum.{sum}
 use Rattle.book.specs.Words.{Vol}
-use Rattle.book.specs.Pointers.{flags, page, slot, Zero, Inside, plain, indexed, subindexed, bitPointer, userPointer, objectPointer}
+use Rattle.book.specs.Pointers.{flags, page, slot, Zero, Inside, plain, indexed, subindexed, bitPointer, userPointer, objectPointer, volumeName}
 use Rattle.book.specs.Trees.{Below}
 use Rattle.book.specs.Bits.{bit, bitPages}
 use Rattle.book.specs.Entries.{Table, user, object, used, given, usedPages, grant, fileEntry, unreserved}
@@ -15,7 +15,7 @@ use Rattle.book.specs.Rows.{Rows, end, row}
 
 -- 1: legal volume name; bit pointer without flags, its pages in 1..P-1
 pub record Rule1 (P : ℕ) (v : Vol) : Type 0 where
-  pub name : LegalName (v 0) 1008
+  pub name : LegalName (v 0) volumeName
   pub unflagged : flags (v 0) bitPointer ≡ plain
   pub start : 0 < page (v 0) bitPointer
   pub fits : page (v 0) bitPointer + bitPages P ≤ P

@@ -2,6 +2,7 @@
 use mathlib.Core.List.{List}
 use Prim.Native.Nat.{ℕ, _+_, _-_}
 use lib.ListN.{getD}
+use Rattle.book.specs.Pointers.{unreservedCount}
 use Rattle.book.specs.Words.{Vol, put, put2, putWords}
 use Rattle.book.specs.Trees.{pageAt}
 use Rattle.book.specs.Entries.{user, object, given, unreserved, userPage, objectPage, entryWord, opens, oneMore}
@@ -9,7 +10,7 @@ use Rattle.book.specs.Files.{fileAt}
 
 -- user u's given pages become g, and unreserved s
 unfoldable pub moved : Vol → ℕ → ℕ → ℕ → Vol
-moved v u g s = put2 (put2 v (userPage v u) (entryWord u + 14) g) 0 1022 s
+moved v u g s = put2 (put2 v (userPage v u) (entryWord u + 14) g) 0 unreservedCount s
 
 -- give moves n pages from unreserved to the user's given pages; take moves them back
 abbrev pub giveStep : Vol → ℕ → ℕ → Vol

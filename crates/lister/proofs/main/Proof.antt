@@ -15,79 +15,60 @@ use Rattle.lister.proofs.least.Reads as least-reads
 use Rattle.lister.proofs.refuse.Reads as refuse-reads
 use Rattle.lister.proofs.text_room.Reads as text-room-reads
 
--- src/main.rt:72:30
 slice-aggregate-read-full : tie.Need-slice-aggregate-read-full
 slice-aggregate-read-full c = search needs
 
--- src/main.rt:72:9
 read-full-requires : tie.Need-read-full-requires
 read-full-requires c κs = search needs
 
--- src/main.rt:74:9
 refuse-requires : tie.Need-refuse-requires
 refuse-requires c κs = search needs
 
--- src/main.rt:75:9
 returns : tie.Need-returns
 returns c = search needs
 
--- src/main.rt:78:9
 refuse-requires-2 : tie.Need-refuse-requires-2
 refuse-requires-2 c κs = search needs
 
--- src/main.rt:79:9
 returns-2 : tie.Need-returns-2
 returns-2 c = search needs
 
--- src/main.rt:81:21
 image-room-requires : tie.Need-image-room-requires
 image-room-requires c κs = search needs
 
--- src/main.rt:82:20
 text-room-requires : tie.Need-text-room-requires
 text-room-requires c κs = search needs
 
--- src/main.rt:84:25
 array-share-prefix-bytes : tie.Need-array-share-prefix-bytes
 array-share-prefix-bytes c = search needs
 
--- src/main.rt:84:25
 slice-aggregate-answer : tie.Need-slice-aggregate-answer
 slice-aggregate-answer c = search needs
 
--- src/main.rt:84:38
 array-borrow-prefix-image : tie.Need-array-borrow-prefix-image
 array-borrow-prefix-image c = search needs
 
--- src/main.rt:84:38
 slice-aggregate-answer-2 : tie.Need-slice-aggregate-answer-2
 slice-aggregate-answer-2 c = sym (length-take-le _ _ (omega (arith, c .before .before .before .image-room .ensures)))
 
--- src/main.rt:84:59
 slice-aggregate-answer-3 : tie.Need-slice-aggregate-answer-3
 slice-aggregate-answer-3 c = search needs
 
--- src/main.rt:84:9
 answer-requires : tie.Need-answer-requires
 answer-requires c κs = simp length-take (omega (arith, c .before .before .before .before .image-room .ensures, c .before .before .before .before .before .before .if1 .left, c .before .before .before .before .before .if2 .left))
 
--- src/main.rt:85:9
 least-requires : tie.Need-least-requires
 least-requires c κs = search needs
 
--- src/main.rt:86:34
 array-share-prefix-text : tie.Need-array-share-prefix-text
 array-share-prefix-text c = search needs
 
--- src/main.rt:86:34
 slice-aggregate-write-all : tie.Need-slice-aggregate-write-all
 slice-aggregate-write-all c = sym (length-take-le _ _ (omega (arith, c .before .least .ensures, c .before .before .before .before .before .before .before .before .text-room .ensures)))
 
--- src/main.rt:86:5
 write-all-requires : tie.Need-write-all-requires
 write-all-requires c κs = search needs
 
--- src/main.rt:70:1
 returns-3 : tie.Need-returns-3
 returns-3 c = search needs
 

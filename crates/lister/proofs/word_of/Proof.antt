@@ -7,43 +7,33 @@ use Rattle.lister.proofs.word_of.Reads as reads
 use Rattle.lister.proofs.word_of.Lts as lts
 use Rattle.lister.proofs.wide.Reads as wide-reads
 
--- src/main.rt:23:12
 mul-wide : tie.Need-mul-wide
 mul-wide c = search needs
 
--- src/main.rt:23:10
 shared-slice-read-wide : tie.Need-shared-slice-read-wide
 shared-slice-read-wide c = search needs
 
--- src/main.rt:23:5
 wide-requires : tie.Need-wide-requires
 wide-requires c κs = search needs
 
--- src/main.rt:23:5
 mul-result : tie.Need-mul-result
 mul-result c = search needs
 
--- src/main.rt:23:35
 mul-wide-2 : tie.Need-mul-wide-2
 mul-wide-2 c = search needs
 
--- src/main.rt:23:35
 add-wide : tie.Need-add-wide
 add-wide c = search needs
 
--- src/main.rt:23:33
 shared-slice-read-wide-2 : tie.Need-shared-slice-read-wide-2
 shared-slice-read-wide-2 c = search needs
 
--- src/main.rt:23:28
 wide-requires-2 : tie.Need-wide-requires-2
 wide-requires-2 c κs = search needs
 
--- src/main.rt:23:5
 add-result : tie.Need-add-result
 add-result c = search needs
 
--- src/main.rt:19:1
 returns : tie.Need-returns
 unfolding packed
 returns c = omega (arith, c .before .before .wide .ensures .0, c .wide2 .ensures .0)

@@ -18,40 +18,31 @@ Inv-loop s image₀ i₀ image i = (i ≤ length image₀) × (length image ≡ 
 abbrev μ-loop : tie.MeasureT-loop
 μ-loop s image₀ i₀ image i = length image₀ - i
 
--- src/main.rt:32:5
 loop-holds : tie.Need-loop-holds Inv-loop μ-loop
 loop-holds c = (omega arith, refl, below-none _)
 
--- src/main.rt:33:20
 word-of-requires : tie.Need-word-of-requires Inv-loop μ-loop
 word-of-requires c κs = omega arith
 
--- src/main.rt:33:9
 mul-image : tie.Need-mul-image Inv-loop μ-loop
 mul-image c = omega arith
 
--- src/main.rt:33:9
 slice-write-image : tie.Need-slice-write-image Inv-loop μ-loop
 slice-write-image c = omega arith
 
--- src/main.rt:34:9
 add-i : tie.Need-add-i Inv-loop μ-loop
 add-i c = omega arith
 
--- src/main.rt:32:5
 loop-less : tie.Need-loop-less Inv-loop μ-loop
 loop-less c = omega arith
 
--- src/main.rt:32:5
 loop-again : tie.Need-loop-again Inv-loop μ-loop
 loop-again c = let l = c .before .before .loop in
     (omega arith, simp length-set (l .inv .1), begins-more (l .i) (l .image) _ _ (omega arith) (l .inv .2) (c .word-of .ensures))
 
--- src/main.rt:27:1
 same-length : tie.Need-same-length Inv-loop μ-loop
 same-length c = c .before .loop .inv .1
 
--- src/main.rt:27:1
 returns : tie.Need-returns Inv-loop μ-loop
 returns c = record { size = omega arith; words = λ k h. c .before .loop .inv .2 k (omega arith) }
 

@@ -10,39 +10,30 @@ use Rattle.listing.proofs.refusal.put_refusal.Reads as put-refusal-read
 use Rattle.listing.proofs.walk.put_listing.Reads as put-listing-reads
 use Rattle.sound.proofs.gate.Reads as gate-reads
 
--- src/lib.rt:15:9
 gate-requires : tie.Need-gate-requires
 gate-requires c κs = search needs
 
--- src/lib.rt:17:22
 enum-known-g : tie.Need-enum-known-g
 enum-known-g c = search needs
 
--- src/lib.rt:17:31
 put-refusal-requires : tie.Need-put-refusal-requires
 put-refusal-requires c κs = search needs
 
--- src/lib.rt:18:60
 enum-told : tie.Need-enum-told
 enum-told c = search needs
 
--- src/lib.rt:18:37
 put-listing-requires : tie.Need-put-listing-requires
 put-listing-requires c κs = gate-ready _ true (c .before .before .before .gate .result) _ (c .before .before .before .gate .ensures) (c .before .enum-told .given .1)
 
--- src/lib.rt:12:1
 same-length : tie.Need-same-length
 same-length c = search needs
 
--- src/lib.rt:12:1
 returns : tie.Need-returns
 returns c = reported-shut _ _ _ _ (c .before .before .before .before .before .before .before .gate .result) (c .before .before .before .before .before .before .before .gate .ensures) (c .before .before .before .before .before .g .given .1) (c .before .before .put-refusal .ensures)
 
--- src/lib.rt:12:1
 same-length-2 : tie.Need-same-length-2
 same-length-2 c = search needs
 
--- src/lib.rt:12:1
 returns-2 : tie.Need-returns-2
 returns-2 c = reported-open _ _ _ _ (c .before .before .before .before .before .before .gate .result) (c .before .before .before .before .before .before .gate .ensures) (c .before .before .before .before .enum-told .given .1) (c .before .before .put-listing .ensures)
 

@@ -9,35 +9,27 @@ use Rattle.sound.proofs.gate.Lts as lts
 use Rattle.sound.proofs.judge.Reads as judge-reads
 use Rattle.sound.proofs.whole.Reads as whole-reads
 
--- src/lib.rt:84:9
 whole-requires : tie.Need-whole-requires
 whole-requires c κs = search needs
 
--- src/lib.rt:85:9
 returns : tie.Need-returns
 returns c = fails (c .before .whole .result) _ (c .before .whole .ensures) (c .if1 .taken)
 
--- src/lib.rt:88:9
 returns-2 : tie.Need-returns-2
 returns-2 c = (holds (c .before .before .whole .result) _ (c .before .before .whole .ensures) (c .before .if1 .left), not-true _ (c .if2 .taken))
 
--- src/lib.rt:92:9
 judge-requires : tie.Need-judge-requires
 judge-requires c κs = holds (c .before .before .whole .result) _ (c .before .before .whole .ensures) (c .before .if1 .left)
 
--- src/lib.rt:94:26
 enum-known-verdict : tie.Need-enum-known-verdict
 enum-known-verdict c = search needs
 
--- src/lib.rt:95:27
 enum-known-verdict-2 : tie.Need-enum-known-verdict-2
 enum-known-verdict-2 c = search needs
 
--- src/lib.rt:81:1
 returns-3 : tie.Need-returns-3
 returns-3 c = let j = judged-right _ _ (c .before .before .before .judge .result) _ (c .before .before .before .judge .ensures) (c .before .verdict .given .1) in (record { whole = holds (c .before .before .before .before .before .before .whole .result) _ (c .before .before .before .before .before .before .whole .ensures) (c .before .before .before .before .before .if1 .left); sound = j .0 }, not-false _ (c .before .before .before .before .if2 .left), j .1)
 
--- src/lib.rt:81:1
 returns-4 : tie.Need-returns-4
 returns-4 c = (holds (c .before .before .before .before .before .before .whole .result) _ (c .before .before .before .before .before .before .whole .ensures) (c .before .before .before .before .before .if1 .left), not-false _ (c .before .before .before .before .if2 .left), judged-broken _ _ (c .before .before .before .judge .result) _ (c .before .before .before .judge .ensures) (c .before .verdict2 .given .1))
 

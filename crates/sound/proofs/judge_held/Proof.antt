@@ -14,60 +14,48 @@ use Rattle.walk.proofs.marks.no_marks.Reads as no-marks-reads
 use Rattle.walk.proofs.same.same_bits.Reads as same-bits-reads
 use Rattle.walk.proofs.volume.mark_all.Reads as mark-all-reads
 
--- src/lib.rt:18:21
 no-marks-requires : tie.Need-no-marks-requires
 no-marks-requires c κs = search needs
 
--- src/lib.rt:19:9
 mark-all-requires : tie.Need-mark-all-requires
 mark-all-requires c κs =
     let s = c .before .before .before in
     (c .before .no-marks .ensures, record { whole = s .pre .0; within = early-within _ _ (s .pre .2); short = early-short _ _ (s .pre .2) }, s .pre .1, s .pre .3)
 
--- src/lib.rt:20:20
 enum-known-w : tie.Need-enum-known-w
 enum-known-w c = search needs
 
--- src/lib.rt:21:9
 enum-told : tie.Need-enum-told
 enum-told c = search needs
 
--- src/lib.rt:21:9
 returns : tie.Need-returns
 returns c = late-8 _ _ (met-rule8 _ _ [] (held-met _ _ _ (c .before .before .mark-all .result) (c .before .before .mark-all .ensures) (c .enum-told .given .1)))
 
--- src/lib.rt:23:13
 page-at-requires : tie.Need-page-at-requires
 page-at-requires c κs = search needs
 
--- src/lib.rt:23:13
 cast-b : tie.Need-cast-b
 cast-b c = search needs
 
--- src/lib.rt:24:9
 same-bits-requires : tie.Need-same-bits-requires
 same-bits-requires c κs =
     let s = c .before .before .before .before .before .before .before .before .before in let e = c .before .page-at .ensures .0 in
     let l = bit-below _ _ (omega arith) (s .pre .2 .r1) in
     (omega (arith, e, l), bits-here _ _ (s .args .total) _ (omega arith) (s .pre .1) (s .pre .2 .r1) e, (held-on _ _ _ (c .before .before .before .before .before .mark-all .result) (c .before .before .before .before .before .mark-all .ensures) _ (c .before .before .before .w .given .1)) .size)
 
--- src/lib.rt:25:9
 returns-2 : tie.Need-returns-2
 returns-2 c =
     let k = held-on _ _ _ (c .before .before .before .before .before .before .before .mark-all .result) (c .before .before .before .before .before .before .before .mark-all .ensures) _ (c .before .before .before .before .before .w .given .1) in
     late-9 _ _ (held-rule8 _ _ _ _ k) (λ r. fails (c .before .same-bits .result) _ (c .before .same-bits .ensures) (c .if1 .taken) (nine-bits _ _ _ _ k (c .before .before .before .before .before .before .before .before .before .before .before .args .total) (c .before .before .before .before .before .before .before .before .before .before .before .pre .1) r))
 
--- src/lib.rt:27:9
 rule10-requires : tie.Need-rule10-requires
 rule10-requires c κs = let s = c .before .before .before .before .before .before .before .before .before .before .before in let E = s .pre .2 in (s .pre .0, s .pre .1, E .r2, E .r3, E .r5, E .r6, E .r7, (held-on _ _ _ (c .before .before .before .before .before .before .before .mark-all .result) (c .before .before .before .before .before .before .before .mark-all .ensures) _ (c .before .before .before .before .before .w .given .1)) .count, s .pre .3)
 
--- src/lib.rt:28:9
 returns-3 : tie.Need-returns-3
 returns-3 c =
     let s = c .before .before .before .before .before .before .before .before .before .before .before .before .before in let k = held-on _ _ _ (c .before .before .before .before .before .before .before .before .before .mark-all .result) (c .before .before .before .before .before .before .before .before .before .mark-all .ensures) _ (c .before .before .before .before .before .before .before .w .given .1) in
     late-10 _ _ (held-rule8 _ _ _ _ k) (bits-nine _ _ _ _ k (s .args .total) (s .pre .1) (holds (c .before .before .before .same-bits .result) _ (c .before .before .before .same-bits .ensures) (c .before .before .if1 .left))) (fails (c .before .rule10 .result) _ (c .before .rule10 .ensures) (c .if2 .taken))
 
--- src/lib.rt:14:1
 returns-4 : tie.Need-returns-4
 returns-4 c =
     let s = c .before .before .before .before .before .before .before .before .before .before .before .before .before in let k = held-on _ _ _ (c .before .before .before .before .before .before .before .before .before .mark-all .result) (c .before .before .before .before .before .before .before .before .before .mark-all .ensures) _ (c .before .before .before .before .before .before .before .w .given .1) in (

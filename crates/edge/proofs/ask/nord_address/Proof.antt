@@ -7,15 +7,12 @@ use Rattle.edge.proofs.ask.nord_address.Lts as lts
 use Rattle.edge.proofs.spell.reply_of.Reads as reply-of-reads
 use Rattle.nord.proofs.ask.address.Reads as address-reads
 
--- src/ask.rt:40:14
 address-requires : tie.Need-address-requires
 address-requires c κs = search needs
 
--- src/ask.rt:40:5
 reply-of-requires : tie.Need-reply-of-requires
 reply-of-requires c κs = search needs
 
--- src/ask.rt:36:1
 returns : tie.Need-returns
 returns c = replied _ _ _ _ _ (c .before .address .ensures) (c .reply-of .ensures)
 

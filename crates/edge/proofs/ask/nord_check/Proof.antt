@@ -7,15 +7,12 @@ use Rattle.edge.proofs.ask.nord_check.Lts as lts
 use Rattle.edge.proofs.spell.reply_of.Reads as reply-of-reads
 use Rattle.nord.proofs.ask.check.Reads as check-reads
 
--- src/ask.rt:16:14
 check-requires : tie.Need-check-requires
 check-requires c κs = search needs
 
--- src/ask.rt:16:5
 reply-of-requires : tie.Need-reply-of-requires
 reply-of-requires c κs = search needs
 
--- src/ask.rt:12:1
 returns : tie.Need-returns
 returns c = replied _ _ _ _ _ (c .before .check .ensures) (c .reply-of .ensures)
 

@@ -7,15 +7,12 @@ use Rattle.edge.proofs.ask.nord_find_file.Lts as lts
 use Rattle.edge.proofs.spell.reply_of.Reads as reply-of-reads
 use Rattle.nord.proofs.ask.find_file.Reads as find-file-reads
 
--- src/ask.rt:32:14
 find-file-requires : tie.Need-find-file-requires
 find-file-requires c κs = search needs
 
--- src/ask.rt:32:5
 reply-of-requires : tie.Need-reply-of-requires
 reply-of-requires c κs = search needs
 
--- src/ask.rt:28:1
 returns : tie.Need-returns
 returns c = replied _ _ _ _ _ (c .before .find-file .ensures) (c .reply-of .ensures)
 

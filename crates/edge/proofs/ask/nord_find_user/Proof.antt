@@ -7,15 +7,12 @@ use Rattle.edge.proofs.ask.nord_find_user.Lts as lts
 use Rattle.edge.proofs.spell.reply_of.Reads as reply-of-reads
 use Rattle.nord.proofs.ask.find_user.Reads as find-user-reads
 
--- src/ask.rt:24:14
 find-user-requires : tie.Need-find-user-requires
 find-user-requires c κs = search needs
 
--- src/ask.rt:24:5
 reply-of-requires : tie.Need-reply-of-requires
 reply-of-requires c κs = search needs
 
--- src/ask.rt:20:1
 returns : tie.Need-returns
 returns c = replied _ _ _ _ _ (c .before .find-user .ensures) (c .reply-of .ensures)
 

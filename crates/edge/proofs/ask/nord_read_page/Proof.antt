@@ -7,15 +7,12 @@ use Rattle.edge.proofs.ask.nord_read_page.Lts as lts
 use Rattle.edge.proofs.spell.part_of.Reads as part-of-reads
 use Rattle.nord.proofs.ask.address.Reads as address-reads
 
--- src/ask.rt:56:13
 address-requires : tie.Need-address-requires
 address-requires c κs = search needs
 
--- src/ask.rt:56:5
 part-of-requires : tie.Need-part-of-requires
 part-of-requires c κs = search needs
 
--- src/ask.rt:52:1
 returns : tie.Need-returns
 returns c = lies _ _ _ _ (c .before .address .ensures) (c .part-of .ensures)
 

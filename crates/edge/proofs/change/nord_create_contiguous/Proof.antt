@@ -7,19 +7,15 @@ use Rattle.edge.proofs.change.nord_create_contiguous.Lts as lts
 use Rattle.edge.proofs.spell.reply_of.Reads as reply-of-reads
 use Rattle.nord.proofs.files.create_contiguous.Reads as create-contiguous-reads
 
--- src/change.rt:69:14
 create-contiguous-requires : tie.Need-create-contiguous-requires
 create-contiguous-requires c κs = search needs
 
--- src/change.rt:69:5
 reply-of-requires : tie.Need-reply-of-requires
 reply-of-requires c κs = search needs
 
--- src/change.rt:65:1
 same-length : tie.Need-same-length
 same-length c = search needs
 
--- src/change.rt:65:1
 returns : tie.Need-returns
 returns c = replied _ _ _ _ _ (c .before .before .before .create-contiguous .ensures) (c .reply-of .ensures)
 

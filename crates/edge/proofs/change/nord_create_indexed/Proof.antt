@@ -7,19 +7,15 @@ use Rattle.edge.proofs.change.nord_create_indexed.Lts as lts
 use Rattle.edge.proofs.spell.reply_of.Reads as reply-of-reads
 use Rattle.nord.proofs.files.create_indexed.Reads as create-indexed-reads
 
--- src/change.rt:61:14
 create-indexed-requires : tie.Need-create-indexed-requires
 create-indexed-requires c κs = search needs
 
--- src/change.rt:61:5
 reply-of-requires : tie.Need-reply-of-requires
 reply-of-requires c κs = search needs
 
--- src/change.rt:57:1
 same-length : tie.Need-same-length
 same-length c = search needs
 
--- src/change.rt:57:1
 returns : tie.Need-returns
 returns c = replied _ _ _ _ _ (c .before .before .before .create-indexed .ensures) (c .reply-of .ensures)
 

@@ -7,19 +7,15 @@ use Rattle.edge.proofs.change.nord_create_user.Lts as lts
 use Rattle.edge.proofs.spell.reply_of.Reads as reply-of-reads
 use Rattle.nord.proofs.users.create_user.Reads as create-user-reads
 
--- src/change.rt:29:14
 create-user-requires : tie.Need-create-user-requires
 create-user-requires c κs = search needs
 
--- src/change.rt:29:5
 reply-of-requires : tie.Need-reply-of-requires
 reply-of-requires c κs = search needs
 
--- src/change.rt:25:1
 same-length : tie.Need-same-length
 same-length c = search needs
 
--- src/change.rt:25:1
 returns : tie.Need-returns
 returns c = replied _ _ _ _ _ (c .before .before .before .create-user .ensures) (c .reply-of .ensures)
 

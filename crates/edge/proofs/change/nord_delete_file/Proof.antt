@@ -7,19 +7,15 @@ use Rattle.edge.proofs.change.nord_delete_file.Lts as lts
 use Rattle.edge.proofs.spell.reply_of.Reads as reply-of-reads
 use Rattle.nord.proofs.files.delete_file.Reads as delete-file-reads
 
--- src/change.rt:93:14
 delete-file-requires : tie.Need-delete-file-requires
 delete-file-requires c κs = search needs
 
--- src/change.rt:93:5
 reply-of-requires : tie.Need-reply-of-requires
 reply-of-requires c κs = search needs
 
--- src/change.rt:89:1
 same-length : tie.Need-same-length
 same-length c = search needs
 
--- src/change.rt:89:1
 returns : tie.Need-returns
 returns c = replied _ _ _ _ _ (c .before .before .before .delete-file .ensures) (c .reply-of .ensures)
 

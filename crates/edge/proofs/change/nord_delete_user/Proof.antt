@@ -7,19 +7,15 @@ use Rattle.edge.proofs.change.nord_delete_user.Lts as lts
 use Rattle.edge.proofs.spell.reply_of.Reads as reply-of-reads
 use Rattle.nord.proofs.change.delete_user.Reads as delete-user-reads
 
--- src/change.rt:37:14
 delete-user-requires : tie.Need-delete-user-requires
 delete-user-requires c κs = search needs
 
--- src/change.rt:37:5
 reply-of-requires : tie.Need-reply-of-requires
 reply-of-requires c κs = search needs
 
--- src/change.rt:33:1
 same-length : tie.Need-same-length
 same-length c = search needs
 
--- src/change.rt:33:1
 returns : tie.Need-returns
 returns c = replied _ _ _ _ _ (c .before .before .before .delete-user .ensures) (c .reply-of .ensures)
 

@@ -7,19 +7,15 @@ use Rattle.edge.proofs.change.nord_format.Lts as lts
 use Rattle.edge.proofs.spell.reply_of.Reads as reply-of-reads
 use Rattle.nord.proofs.change.format.Reads as format-reads
 
--- src/change.rt:13:14
 format-requires : tie.Need-format-requires
 format-requires c κs = search needs
 
--- src/change.rt:13:5
 reply-of-requires : tie.Need-reply-of-requires
 reply-of-requires c κs = search needs
 
--- src/change.rt:9:1
 same-length : tie.Need-same-length
 same-length c = search needs
 
--- src/change.rt:9:1
 returns : tie.Need-returns
 returns c = replied _ _ _ _ _ (c .before .before .before .format .ensures) (c .reply-of .ensures)
 

@@ -7,19 +7,15 @@ use Rattle.edge.proofs.change.nord_format_default.Lts as lts
 use Rattle.edge.proofs.spell.reply_of.Reads as reply-of-reads
 use Rattle.nord.proofs.change.format_default.Reads as format-default-reads
 
--- src/change.rt:21:14
 format-default-requires : tie.Need-format-default-requires
 format-default-requires c κs = search needs
 
--- src/change.rt:21:5
 reply-of-requires : tie.Need-reply-of-requires
 reply-of-requires c κs = search needs
 
--- src/change.rt:17:1
 same-length : tie.Need-same-length
 same-length c = search needs
 
--- src/change.rt:17:1
 returns : tie.Need-returns
 returns c = replied _ _ _ _ _ (c .before .before .before .format-default .ensures) (c .reply-of .ensures)
 

@@ -7,19 +7,15 @@ use Rattle.edge.proofs.change.nord_give.Lts as lts
 use Rattle.edge.proofs.spell.reply_of.Reads as reply-of-reads
 use Rattle.nord.proofs.change.give.Reads as give-reads
 
--- src/change.rt:45:14
 give-requires : tie.Need-give-requires
 give-requires c κs = search needs
 
--- src/change.rt:45:5
 reply-of-requires : tie.Need-reply-of-requires
 reply-of-requires c κs = search needs
 
--- src/change.rt:41:1
 same-length : tie.Need-same-length
 same-length c = search needs
 
--- src/change.rt:41:1
 returns : tie.Need-returns
 returns c = replied _ _ _ _ _ (c .before .before .before .give .ensures) (c .reply-of .ensures)
 

@@ -7,19 +7,15 @@ use Rattle.edge.proofs.change.nord_grow.Lts as lts
 use Rattle.edge.proofs.spell.reply_of.Reads as reply-of-reads
 use Rattle.nord.proofs.files.grow.Reads as grow-reads
 
--- src/change.rt:77:14
 grow-requires : tie.Need-grow-requires
 grow-requires c κs = search needs
 
--- src/change.rt:77:5
 reply-of-requires : tie.Need-reply-of-requires
 reply-of-requires c κs = search needs
 
--- src/change.rt:73:1
 same-length : tie.Need-same-length
 same-length c = search needs
 
--- src/change.rt:73:1
 returns : tie.Need-returns
 returns c = replied _ _ _ _ _ (c .before .before .before .grow .ensures) (c .reply-of .ensures)
 

@@ -7,19 +7,15 @@ use Rattle.edge.proofs.change.nord_note_open.Lts as lts
 use Rattle.edge.proofs.spell.reply_of.Reads as reply-of-reads
 use Rattle.nord.proofs.change.note_open.Reads as note-open-reads
 
--- src/change.rt:109:14
 note-open-requires : tie.Need-note-open-requires
 note-open-requires c κs = search needs
 
--- src/change.rt:109:5
 reply-of-requires : tie.Need-reply-of-requires
 reply-of-requires c κs = search needs
 
--- src/change.rt:105:1
 same-length : tie.Need-same-length
 same-length c = search needs
 
--- src/change.rt:105:1
 returns : tie.Need-returns
 returns c = replied _ _ _ _ _ (c .before .before .before .note-open .ensures) (c .reply-of .ensures)
 

@@ -7,19 +7,15 @@ use Rattle.edge.proofs.change.nord_shrink.Lts as lts
 use Rattle.edge.proofs.spell.reply_of.Reads as reply-of-reads
 use Rattle.nord.proofs.files.shrink.Reads as shrink-reads
 
--- src/change.rt:85:14
 shrink-requires : tie.Need-shrink-requires
 shrink-requires c κs = search needs
 
--- src/change.rt:85:5
 reply-of-requires : tie.Need-reply-of-requires
 reply-of-requires c κs = search needs
 
--- src/change.rt:81:1
 same-length : tie.Need-same-length
 same-length c = search needs
 
--- src/change.rt:81:1
 returns : tie.Need-returns
 returns c = replied _ _ _ _ _ (c .before .before .before .shrink .ensures) (c .reply-of .ensures)
 

@@ -7,19 +7,15 @@ use Rattle.edge.proofs.change.nord_take.Lts as lts
 use Rattle.edge.proofs.spell.reply_of.Reads as reply-of-reads
 use Rattle.nord.proofs.change.take.Reads as take-reads
 
--- src/change.rt:53:14
 take-requires : tie.Need-take-requires
 take-requires c κs = search needs
 
--- src/change.rt:53:5
 reply-of-requires : tie.Need-reply-of-requires
 reply-of-requires c κs = search needs
 
--- src/change.rt:49:1
 same-length : tie.Need-same-length
 same-length c = search needs
 
--- src/change.rt:49:1
 returns : tie.Need-returns
 returns c = replied _ _ _ _ _ (c .before .before .before .take .ensures) (c .reply-of .ensures)
 

@@ -7,19 +7,15 @@ use Rattle.edge.proofs.change.nord_write_page.Lts as lts
 use Rattle.edge.proofs.spell.reply_of.Reads as reply-of-reads
 use Rattle.nord.proofs.change.write_page.Reads as write-page-reads
 
--- src/change.rt:101:14
 write-page-requires : tie.Need-write-page-requires
 write-page-requires c κs = search needs
 
--- src/change.rt:101:5
 reply-of-requires : tie.Need-reply-of-requires
 reply-of-requires c κs = search needs
 
--- src/change.rt:97:1
 same-length : tie.Need-same-length
 same-length c = search needs
 
--- src/change.rt:97:1
 returns : tie.Need-returns
 returns c = replied _ _ _ _ _ (c .before .before .before .write-page .ensures) (c .reply-of .ensures)
 

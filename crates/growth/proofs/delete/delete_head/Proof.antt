@@ -12,35 +12,29 @@ use Rattle.growth.proofs.delete.held.Reads as held-reads
 use Rattle.growth.proofs.entries.erase.Reads as erase-reads
 use Rattle.growth.proofs.free.free_root.Reads as free-root-reads
 
--- src/delete.rt:34:9
 held-requires : tie.Need-held-requires
 held-requires c κs =
     let s = c .before in let a = s .args in
     omega (arith, file-count-lt (a .img .now) (a .u) (a .f) (a .h) (s .pre), s .pre .ready .whole .most)
 
--- src/delete.rt:35:25
 sub-erase : tie.Need-sub-erase
 sub-erase c =
     let s = c .before .before .before .before in let a = s .args in
     omega (arith, file-charged (a .img .now) (a .u) (a .f) (a .h) (s .pre), c .before .before .held .ensures)
 
--- src/delete.rt:35:5
 erase-requires : tie.Need-erase-requires
 erase-requires c κs =
     let s = c .before .before .before .before in let a = s .args in
     (s .pre .user, s .pre .file, s .pre .head .ownerIn, s .pre .head .entryIn, omega (arith, file-used-lt (a .img .now) (a .u) (a .f) (a .h) (s .pre), s .pre .ready .whole .most))
 
--- src/delete.rt:36:5
 free-root-requires : tie.Need-free-root-requires
 free-root-requires c κs =
     let s = c .before .before .before .before .before .before .before .before in let a = s .args in
     let d = c .before .before .before .erase in (erased-freeing (a .img .now) (a .u) (a .f) (a .h) (s .pre) _ _ (d .kept .0) (d .ensures), erased-apart (a .img .now) (a .u) (a .f) (a .h) (s .pre) _ _ (d .kept .0) (d .ensures))
 
--- src/delete.rt:30:1
 same-length : tie.Need-same-length
 same-length c = search needs
 
--- src/delete.rt:30:1
 returns : tie.Need-returns
 returns c =
     let s = c .before .before .before .before .before .before .before .before .before .before .before in let a = s .args in

@@ -11,31 +11,24 @@ use Rattle.growth.proofs.entries.entry_of.Reads as entry-of-reads
 use Rattle.growth.proofs.entries.finish.Reads as finish-reads
 use Rattle.growth.proofs.entries.pointer_to.Reads as pointer-to-reads
 
--- src/entries.rt:144:9
 entry-of-requires : tie.Need-entry-of-requires
 entry-of-requires c κs = search needs
 
--- src/entries.rt:145:9
 pointer-to-requires : tie.Need-pointer-to-requires
 pointer-to-requires c κs = search needs
 
--- src/entries.rt:146:41
 cast-finish : tie.Need-cast-finish
 cast-finish c = search needs
 
--- src/entries.rt:146:54
 cast-finish-2 : tie.Need-cast-finish-2
 cast-finish-2 c = search needs
 
--- src/entries.rt:146:5
 finish-requires : tie.Need-finish-requires
 finish-requires c κs = search needs
 
--- src/entries.rt:131:1
 same-length : tie.Need-same-length
 same-length c = search needs
 
--- src/entries.rt:131:1
 returns : tie.Need-returns
 returns c =
     let s = c .before .before .before .before .before .before .before in let a = s .args in

@@ -9,39 +9,30 @@ use Rattle.page.proofs.entry.EntryPlace.of.Reads as of-reads
 use Rattle.page.proofs.entry.clear_entry.Reads as clear-entry-reads
 use Rattle.page.proofs.write.put_two.Reads as put-two-reads
 
--- src/entries.rt:159:31
 entry-of-requires : tie.Need-entry-of-requires
 entry-of-requires c κs = search needs
 
--- src/entries.rt:159:9
 of-requires : tie.Need-of-requires
 of-requires c κs = search needs
 
--- src/entries.rt:161:9
 of-requires-2 : tie.Need-of-requires-2
 of-requires-2 c κs = search needs
 
--- src/entries.rt:163:5
 clear-entry-requires : tie.Need-clear-entry-requires
 clear-entry-requires c κs = search needs
 
--- src/entries.rt:164:27
 add-put-two : tie.Need-add-put-two
 add-put-two c = search needs
 
--- src/entries.rt:164:37
 cast-put-two : tie.Need-cast-put-two
 cast-put-two c = search needs
 
--- src/entries.rt:164:5
 put-two-requires : tie.Need-put-two-requires
 put-two-requires c κs = search needs
 
--- src/entries.rt:155:1
 same-length : tie.Need-same-length
 same-length c = search needs
 
--- src/entries.rt:155:1
 returns : tie.Need-returns
 returns c =
     erase-is _ _ _ _ _ _ _ (c .before .before .before .before .before .before .before .before .before .before .entry-of .result) _ _ _ (c .before .before .before .before .before .before .before .before .before .before .entry-of .ensures) (c .before .before .before .before .before .before .before .before .before .of .ensures .1) (c .before .before .before .before .before .before .before .before .of2 .ensures .1) (c .before .before .before .before .before .before .clear-entry .ensures) (c .before .before .put-two .ensures)

@@ -7,55 +7,42 @@ use Rattle.growth.proofs.entries.finish.Lts as lts
 use Rattle.page.proofs.entry.EntryPlace.of.Reads as of-reads
 use Rattle.page.proofs.write.put_two.Reads as put-two-reads
 
--- src/entries.rt:120:9
 of-requires : tie.Need-of-requires
 of-requires c κs = search needs
 
--- src/entries.rt:122:9
 of-requires-2 : tie.Need-of-requires-2
 of-requires-2 c κs = search needs
 
--- src/entries.rt:124:25
 add-put-two : tie.Need-add-put-two
 add-put-two c = search needs
 
--- src/entries.rt:124:5
 put-two-requires : tie.Need-put-two-requires
 put-two-requires c κs = search needs
 
--- src/entries.rt:125:25
 add-put-two-2 : tie.Need-add-put-two-2
 add-put-two-2 c = search needs
 
--- src/entries.rt:125:36
 mul-put-two : tie.Need-mul-put-two
 mul-put-two c = search needs
 
--- src/entries.rt:125:5
 put-two-requires-2 : tie.Need-put-two-requires-2
 put-two-requires-2 c κs = search needs
 
--- src/entries.rt:126:25
 add-put-two-3 : tie.Need-add-put-two-3
 add-put-two-3 c = search needs
 
--- src/entries.rt:126:5
 put-two-requires-3 : tie.Need-put-two-requires-3
 put-two-requires-3 c κs = search needs
 
--- src/entries.rt:127:25
 add-put-two-4 : tie.Need-add-put-two-4
 add-put-two-4 c = search needs
 
--- src/entries.rt:127:5
 put-two-requires-4 : tie.Need-put-two-requires-4
 put-two-requires-4 c κs = search needs
 
--- src/entries.rt:107:1
 same-length : tie.Need-same-length
 same-length c = search needs
 
--- src/entries.rt:107:1
 returns : tie.Need-returns
 returns c =
     finish-is _ _ _ _ _ _ _ _ _ _ _ _ _ _ (c .before .before .before .before .before .before .before .before .before .before .before .before .before .before .before .before .before .of .ensures .1)

@@ -19,51 +19,39 @@ use Rattle.tree.proofs.entry.entry_two.Reads as entry-two-reads
 use Rattle.tree.proofs.root.object_page.Reads as object-page-reads
 use Rattle.tree.proofs.root.user_page.Reads as user-page-reads
 
--- src/entries.rt:60:9
 entry-of-requires : tie.Need-entry-of-requires
 entry-of-requires c κs = search needs
 
--- src/entries.rt:61:9
 user-page-requires : tie.Need-user-page-requires
 user-page-requires c κs = ready-users _ (c .before .before .pre .0)
 
--- src/entries.rt:62:9
 object-page-requires : tie.Need-object-page-requires
 object-page-requires c κs = ready-objects _ (c .before .before .before .pre .0)
 
--- src/entries.rt:63:16
 page-at-requires : tie.Need-page-at-requires
 page-at-requires c κs = search needs
 
--- src/entries.rt:63:16
 cast-bits : tie.Need-cast-bits
 cast-bits c = search needs
 
--- src/entries.rt:64:9
 entry-flags-requires : tie.Need-entry-flags-requires
 entry-flags-requires c κs = search needs
 
--- src/entries.rt:65:9
 entry-page-requires : tie.Need-entry-page-requires
 entry-page-requires c κs = search needs
 
--- src/entries.rt:66:17
 entry-two-requires : tie.Need-entry-two-requires
 entry-two-requires c κs = search needs
 
--- src/entries.rt:66:17
 cast-count : tie.Need-cast-count
 cast-count c = search needs
 
--- src/entries.rt:67:16
 entry-two-requires-2 : tie.Need-entry-two-requires-2
 entry-two-requires-2 c κs = search needs
 
--- src/entries.rt:67:16
 cast-used : tie.Need-cast-used
 cast-used c = search needs
 
--- src/entries.rt:56:1
 returns : tie.Need-returns
 unfolding usedPages
 returns c =

@@ -7,15 +7,12 @@ use Rattle.growth.proofs.entries.index_of.Reads as reads
 use Rattle.growth.proofs.entries.index_of.Lts as lts
 use Rattle.page.proofs.read.slot_at.Reads as slot-at-reads
 
--- src/entries.rt:93:9
 returns : tie.Need-returns
 returns c = index-one _ _ _ _ (c .if1 .taken)
 
--- src/entries.rt:95:5
 slot-at-requires : tie.Need-slot-at-requires
 slot-at-requires c κs = search needs
 
--- src/entries.rt:88:1
 returns-2 : tie.Need-returns-2
 returns-2 c =
     let s = c .before .before .before in

@@ -6,19 +6,15 @@ use Rattle.growth.proofs.entries.pointer_to.Tie as tie
 use Rattle.growth.proofs.entries.pointer_to.Reads as reads
 use Rattle.growth.proofs.entries.pointer_to.Lts as lts
 
--- src/entries.rt:84:5
 mul-result : tie.Need-mul-result
 mul-result c = search needs
 
--- src/entries.rt:84:33
 cast-result : tie.Need-cast-result
 cast-result c = search needs
 
--- src/entries.rt:84:5
 add-result : tie.Need-add-result
 add-result c = search needs
 
--- src/entries.rt:80:1
 returns : tie.Need-returns
 unfolding pointer
 returns c = omega arith

@@ -6,23 +6,18 @@ use Rattle.growth.proofs.entries.set_slot.Reads as reads
 use Rattle.growth.proofs.entries.set_slot.Lts as lts
 use Rattle.page.proofs.write.put_two.Reads as put-two-reads
 
--- src/entries.rt:103:21
 mul-put-two : tie.Need-mul-put-two
 mul-put-two c = search needs
 
--- src/entries.rt:103:28
 cast-put-two : tie.Need-cast-put-two
 cast-put-two c = search needs
 
--- src/entries.rt:103:5
 put-two-requires : tie.Need-put-two-requires
 put-two-requires c κs = search needs
 
--- src/entries.rt:99:1
 same-length : tie.Need-same-length
 same-length c = search needs
 
--- src/entries.rt:99:1
 returns : tie.Need-returns
 unfolding setSlot
 returns c = c .before .before .put-two .ensures

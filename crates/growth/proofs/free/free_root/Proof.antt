@@ -8,33 +8,27 @@ use Rattle.growth.proofs.free.free_root.Lts as lts
 use Rattle.growth.proofs.free.free_pointer.Reads as free-pointer-reads
 use Rattle.growth.proofs.free.free_run.Reads as free-run-reads
 
--- src/free.rt:60:9
 free-run-requires : tie.Need-free-run-requires
 free-run-requires c κs =
     let s = c .before .before .before in let a = s .args in
     (s .pre .0, run-below _ (vol (a .img .now)) (a .b) (a .flags) (a .t) (a .n) (s .pre .1) (c .before .if1 .taken), s .pre .1 .start (c .before .if1 .taken))
 
--- src/free.rt:60:9
 same-length : tie.Need-same-length
 same-length c = search needs
 
--- src/free.rt:60:9
 returns : tie.Need-returns
 returns c =
     let s = c .before .before .before .before .before .before in let a = s .args in
     run-is _ (vol (a .img .now)) (a .b) (a .flags) (a .t) (a .n) (s .pre .1) (c .before .before .before .before .if1 .taken) _ (c .before .before .free-run .ensures)
 
--- src/free.rt:62:5
 free-pointer-requires : tie.Need-free-pointer-requires
 free-pointer-requires c κs =
     let s = c .before .before .before in let a = s .args in
     (s .pre .0, tree-apart _ (vol (a .img .now)) (a .b) (a .flags) (a .t) (a .n) (s .pre .1) (c .before .if1 .left))
 
--- src/free.rt:55:1
 same-length-2 : tie.Need-same-length-2
 same-length-2 c = search needs
 
--- src/free.rt:55:1
 returns-2 : tie.Need-returns-2
 returns-2 c =
     let s = c .before .before .before .before .before .before in let a = s .args in

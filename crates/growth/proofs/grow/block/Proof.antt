@@ -11,51 +11,42 @@ use Rattle.growth.proofs.entries.enter.Reads as enter-reads
 use Rattle.growth.proofs.entries.set_slot.Reads as set-slot-reads
 use Rattle.growth.proofs.grow.take.Reads as take-reads
 
--- src/grow.rt:78:9
 take-requires : tie.Need-take-requires
 take-requires c κs =
     let s = c .before .before in let a = s .args in let g = s .pre .0 in
     can-take₁ (a .img .now) (a .u) (a .f) (a .h) g
 
--- src/grow.rt:79:9
 take-requires-2 : tie.Need-take-requires-2
 take-requires-2 c κs =
     let s = c .before .before .before .before .before .before in let a = s .args in let g = s .pre .0 in
     can-take₂ (a .img .now) (a .u) (a .f) (a .h) g (need-more (a .img .now) (a .u) (a .f) (a .h) g (s .pre .1) (s .pre .2)) _ _ _ (c .before .before .before .take .ensures) (omega arith)
 
--- src/grow.rt:80:5
 set-slot-requires : tie.Need-set-slot-requires
 set-slot-requires c κs =
     let s = c .before .before .before .before .before .before .before .before .before .before in let a = s .args in let g = s .pre .0 in
     let some : 0 < a .h .count = omega (arith, s .pre .2) in
     (omega (arith, file-top (a .img .now) (a .u) (a .f) (a .h) (g .at) (g .kind) some .1), omega (arith, file-count-lt (a .img .now) (a .u) (a .f) (a .h) (g .at), g .at .ready .whole .most), omega (arith, c .before .before .before .take2 .ensures .1, g .at .ready .whole .most))
 
--- src/grow.rt:81:5
 set-slot-requires-2 : tie.Need-set-slot-requires-2
 set-slot-requires-2 c κs = search needs
 
--- src/grow.rt:82:25
 add-enter : tie.Need-add-enter
 add-enter c = search needs
 
--- src/grow.rt:82:51
 add-enter-2 : tie.Need-add-enter-2
 add-enter-2 c =
     let s = c .before .before .before .before .before .before .before .before .before .before .before .before .before .before .before .before .before .before .before in let a = s .args in let g = s .pre .0 in
     record { fits = omega (arith, file-used-lt (a .img .now) (a .u) (a .f) (a .h) (g .at), g .at .ready .whole .most) }
 
--- src/grow.rt:82:5
 enter-requires : tie.Need-enter-requires
 enter-requires c κs =
     let s = c .before .before .before .before .before .before .before .before .before .before .before .before .before .before .before .before .before .before .before in let a = s .args in let g = s .pre .0 in
     let some : 0 < a .h .count = omega (arith, s .pre .2) in
     can-enter (a .img .now) (a .u) (a .f) (a .h) (g .at) _ _ _ _ _ (omega (arith, c .before .before .before .img4 .given, c .before .before .before .before .before .before .before .img3 .given, c .before .before .before .before .before .before .before .before .before .before .before .img2 .given, c .before .before .before .before .before .before .before .before .before .before .before .before .before .before .before .img .given)) (omega (arith, file-count-lt (a .img .now) (a .u) (a .f) (a .h) (g .at), g .at .ready .whole .most)) (omega arith) (file-top (a .img .now) (a .u) (a .f) (a .h) (g .at) (g .kind) some .1) (omega (arith, file-used-lt (a .img .now) (a .u) (a .f) (a .h) (g .at)))
 
--- src/grow.rt:73:1
 same-length : tie.Need-same-length
 same-length c = search needs
 
--- src/grow.rt:73:1
 returns : tie.Need-returns
 returns c =
     let s = c .before .before .before .before .before .before .before .before .before .before .before .before .before .before .before .before .before .before .before .before .before .before in let a = s .args in let g = s .pre .0 in

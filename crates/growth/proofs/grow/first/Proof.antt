@@ -10,39 +10,32 @@ use Rattle.growth.proofs.entries.enter.Reads as enter-reads
 use Rattle.growth.proofs.entries.set_slot.Reads as set-slot-reads
 use Rattle.growth.proofs.grow.take.Reads as take-reads
 
--- src/grow.rt:50:9
 take-requires : tie.Need-take-requires
 take-requires c κs =
     let s = c .before .before in let a = s .args in let g = s .pre .0 in
     can-take₁ (a .img .now) (a .u) (a .f) (a .h) g
 
--- src/grow.rt:51:9
 take-requires-2 : tie.Need-take-requires-2
 take-requires-2 c κs =
     let s = c .before .before .before .before .before .before in let a = s .args in let g = s .pre .0 in
     can-take₂ (a .img .now) (a .u) (a .f) (a .h) g (need-first (a .img .now) (a .u) (a .f) (a .h) g (s .pre .1)) _ _ _ (c .before .before .before .take .ensures) (omega arith)
 
--- src/grow.rt:52:5
 set-slot-requires : tie.Need-set-slot-requires
 set-slot-requires c κs = search needs
 
--- src/grow.rt:53:40
 add-enter : tie.Need-add-enter
 add-enter c =
     let s = c .before .before .before .before .before .before .before .before .before .before .before .before .before .before .before in let a = s .args in let g = s .pre .0 in
     record { fits = omega (arith, file-used-lt (a .img .now) (a .u) (a .f) (a .h) (g .at), g .at .ready .whole .most) }
 
--- src/grow.rt:53:5
 enter-requires : tie.Need-enter-requires
 enter-requires c κs =
     let s = c .before .before .before .before .before .before .before .before .before .before .before .before .before .before .before in let a = s .args in let g = s .pre .0 in
     can-enter (a .img .now) (a .u) (a .f) (a .h) (g .at) _ _ _ _ _ (omega arith) (omega arith) (omega arith) (omega (arith, c .before .before .before .before .before .before .before .before .take2 .ensures .1)) (omega (arith, file-used-lt (a .img .now) (a .u) (a .f) (a .h) (g .at)))
 
--- src/grow.rt:46:1
 same-length : tie.Need-same-length
 same-length c = search needs
 
--- src/grow.rt:46:1
 returns : tie.Need-returns
 returns c =
     let s = c .before .before .before .before .before .before .before .before .before .before .before .before .before .before .before .before .before .before in let a = s .args in let g = s .pre .0 in

@@ -10,57 +10,45 @@ use Rattle.growth.proofs.grow.first.Reads as first-reads
 use Rattle.growth.proofs.grow.onward.Reads as onward-reads
 use Rattle.growth.proofs.grow.raise.Reads as raise-reads
 
--- src/grow.rt:93:9
 onward-requires : tie.Need-onward-requires
 onward-requires c κs = search needs
 
--- src/grow.rt:93:9
 same-length : tie.Need-same-length
 same-length c = search needs
 
--- src/grow.rt:93:9
 returns : tie.Need-returns
 returns c =
     let s = c .before .before .before .before .before .before in let a = s .args in
     grow-onward (a .img .now) (a .u) (a .f) (a .h) (s .pre) _ _ (omega arith) (c .before .before .onward .ensures)
 
--- src/grow.rt:96:9
 first-requires : tie.Need-first-requires
 first-requires c κs = search needs
 
--- src/grow.rt:96:9
 same-length-2 : tie.Need-same-length-2
 same-length-2 c = search needs
 
--- src/grow.rt:96:9
 returns-2 : tie.Need-returns-2
 returns-2 c =
     let s = c .before .before .before .before .before .before .before in let a = s .args in
     grow-first (a .img .now) (a .u) (a .f) (a .h) (s .pre) _ _ (c .before .before .before .before .if2 .taken) (c .before .before .first .ensures)
 
--- src/grow.rt:99:9
 raise-requires : tie.Need-raise-requires
 raise-requires c κs = search needs
 
--- src/grow.rt:99:9
 same-length-3 : tie.Need-same-length-3
 same-length-3 c = search needs
 
--- src/grow.rt:99:9
 returns-3 : tie.Need-returns-3
 returns-3 c =
     let s = c .before .before .before .before .before .before .before .before in let a = s .args in
     grow-raise (a .img .now) (a .u) (a .f) (a .h) (s .pre) _ _ (c .before .before .before .before .if3 .taken) (c .before .before .raise .ensures)
 
--- src/grow.rt:101:5
 block-requires : tie.Need-block-requires
 block-requires c κs = search needs
 
--- src/grow.rt:87:1
 same-length-4 : tie.Need-same-length-4
 same-length-4 c = search needs
 
--- src/grow.rt:87:1
 returns-4 : tie.Need-returns-4
 returns-4 c =
     let s = c .before .before .before .before .before .before .before .before in let a = s .args in

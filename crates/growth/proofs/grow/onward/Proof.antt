@@ -12,20 +12,17 @@ use Rattle.growth.proofs.entries.index_of.Reads as index-of-reads
 use Rattle.growth.proofs.entries.set_slot.Reads as set-slot-reads
 use Rattle.growth.proofs.grow.take.Reads as take-reads
 
--- src/grow.rt:38:9
 index-of-requires : tie.Need-index-of-requires
 index-of-requires c κs =
     let s = c .before .before in let a = s .args in let g = s .pre .0 in
     let some : 0 < a .h .count = omega (arith, s .pre .1) in
     (flags-in (a .img .now) (a .u) (a .f) (a .h) (g .at) (g .kind) some .0, file-top (a .img .now) (a .u) (a .f) (a .h) (g .at) (g .kind) some .1, omega (arith, file-count-lt (a .img .now) (a .u) (a .f) (a .h) (g .at), g .at .ready .whole .most))
 
--- src/grow.rt:39:9
 take-requires : tie.Need-take-requires
 take-requires c κs =
     let s = c .before .before .before .before in let a = s .args in let g = s .pre .0 in
     can-take₁ (a .img .now) (a .u) (a .f) (a .h) g
 
--- src/grow.rt:40:5
 set-slot-requires : tie.Need-set-slot-requires
 set-slot-requires c κs =
     let s = c .before .before .before .before .before .before .before .before in let a = s .args in let g = s .pre .0 in
@@ -33,30 +30,25 @@ set-slot-requires c κs =
     let lt = file-index-lt (a .img .now) (a .u) (a .f) (a .h) (g .at) (g .kind) some (a .h .count) (omega (arith, file-count-lt (a .img .now) (a .u) (a .f) (a .h) (g .at), g .at .ready .whole .most)) in
     (omega (arith, lt, c .before .before .before .before .before .index-of .ensures), omega arith, omega (arith, c .before .before .before .take .ensures .1, g .at .ready .whole .most))
 
--- src/grow.rt:41:25
 add-enter : tie.Need-add-enter
 add-enter c =
     let s = c .before .before .before .before .before .before .before .before .before .before .before .before in let a = s .args in let g = s .pre .0 in
     record { fits = omega (arith, file-count-lt (a .img .now) (a .u) (a .f) (a .h) (g .at), g .at .ready .whole .most) }
 
--- src/grow.rt:41:48
 add-enter-2 : tie.Need-add-enter-2
 add-enter-2 c =
     let s = c .before .before .before .before .before .before .before .before .before .before .before .before .before in let a = s .args in let g = s .pre .0 in
     record { fits = omega (arith, file-used-lt (a .img .now) (a .u) (a .f) (a .h) (g .at), g .at .ready .whole .most) }
 
--- src/grow.rt:41:5
 enter-requires : tie.Need-enter-requires
 enter-requires c κs =
     let s = c .before .before .before .before .before .before .before .before .before .before .before .before .before in let a = s .args in let g = s .pre .0 in
     let some : 0 < a .h .count = omega (arith, s .pre .1) in
     can-enter (a .img .now) (a .u) (a .f) (a .h) (g .at) _ _ _ _ _ (omega arith) (omega (arith, file-count-lt (a .img .now) (a .u) (a .f) (a .h) (g .at), g .at .ready .whole .most)) (flags-in (a .img .now) (a .u) (a .f) (a .h) (g .at) (g .kind) some .1) (file-top (a .img .now) (a .u) (a .f) (a .h) (g .at) (g .kind) some .1) (omega (arith, file-used-lt (a .img .now) (a .u) (a .f) (a .h) (g .at)))
 
--- src/grow.rt:33:1
 same-length : tie.Need-same-length
 same-length c = search needs
 
--- src/grow.rt:33:1
 returns : tie.Need-returns
 returns c =
     let s = c .before .before .before .before .before .before .before .before .before .before .before .before .before .before .before .before in let a = s .args in let g = s .pre .0 in

@@ -11,56 +11,46 @@ use Rattle.growth.proofs.entries.enter.Reads as enter-reads
 use Rattle.growth.proofs.entries.set_slot.Reads as set-slot-reads
 use Rattle.growth.proofs.grow.take.Reads as take-reads
 
--- src/grow.rt:62:9
 take-requires : tie.Need-take-requires
 take-requires c κs =
     let s = c .before .before in let a = s .args in let g = s .pre .0 in
     can-take₁ (a .img .now) (a .u) (a .f) (a .h) g
 
--- src/grow.rt:63:9
 take-requires-2 : tie.Need-take-requires-2
 take-requires-2 c κs =
     let s = c .before .before .before .before .before .before in let a = s .args in let g = s .pre .0 in
     can-take₂ (a .img .now) (a .u) (a .f) (a .h) g (omega (arith, need-top (a .img .now) (a .u) (a .f) (a .h) g (s .pre .1))) _ _ _ (c .before .before .before .take .ensures) (omega arith)
 
--- src/grow.rt:64:9
 take-requires-3 : tie.Need-take-requires-3
 take-requires-3 c κs =
     let s = c .before .before .before .before .before .before .before .before .before .before in let a = s .args in let g = s .pre .0 in
     can-take₃ (a .img .now) (a .u) (a .f) (a .h) g (need-top (a .img .now) (a .u) (a .f) (a .h) g (s .pre .1)) _ _ _ _ _ _ (c .before .before .before .before .before .before .before .take .ensures) (omega arith) (c .before .before .before .take2 .ensures) (omega arith)
 
--- src/grow.rt:65:5
 set-slot-requires : tie.Need-set-slot-requires
 set-slot-requires c κs =
     let s = c .before .before .before .before .before .before .before .before .before .before .before .before .before .before in let a = s .args in let g = s .pre .0 in
     let some : 0 < a .h .count = omega (arith, s .pre .1) in
     (omega (arith, c .before .before .before .take3 .ensures .1), omega arith, omega (arith, file-top (a .img .now) (a .u) (a .f) (a .h) (g .at) (g .kind) some .1, g .at .ready .whole .most))
 
--- src/grow.rt:66:5
 set-slot-requires-2 : tie.Need-set-slot-requires-2
 set-slot-requires-2 c κs = search needs
 
--- src/grow.rt:67:5
 set-slot-requires-3 : tie.Need-set-slot-requires-3
 set-slot-requires-3 c κs = search needs
 
--- src/grow.rt:68:45
 add-enter : tie.Need-add-enter
 add-enter c =
     let s = c .before .before .before .before .before .before .before .before .before .before .before .before .before .before .before .before .before .before .before .before .before .before .before .before .before .before .before in let a = s .args in let g = s .pre .0 in
     record { fits = omega (arith, file-used-lt (a .img .now) (a .u) (a .f) (a .h) (g .at), g .at .ready .whole .most) }
 
--- src/grow.rt:68:5
 enter-requires : tie.Need-enter-requires
 enter-requires c κs =
     let s = c .before .before .before .before .before .before .before .before .before .before .before .before .before .before .before .before .before .before .before .before .before .before .before .before .before .before .before in let a = s .args in let g = s .pre .0 in
     can-enter (a .img .now) (a .u) (a .f) (a .h) (g .at) _ _ _ _ _ (omega (arith, c .before .before .before .img6 .given, c .before .before .before .before .before .before .before .img5 .given, c .before .before .before .before .before .before .before .before .before .before .before .img4 .given, c .before .before .before .before .before .before .before .before .before .before .before .before .before .before .before .img3 .given, c .before .before .before .before .before .before .before .before .before .before .before .before .before .before .before .before .before .before .before .img2 .given, c .before .before .before .before .before .before .before .before .before .before .before .before .before .before .before .before .before .before .before .before .before .before .before .img .given)) (omega arith) (omega arith) (omega (arith, c .before .before .before .before .before .before .before .before .before .before .before .before .before .before .before .before .take3 .ensures .1, c .before .before .before .before .before .before .before .before .before .before .before .before .before .before .before .before .before .before .before .img2 .given, c .before .before .before .before .before .before .before .before .before .before .before .before .before .before .before .before .before .before .before .before .before .before .before .img .given)) (omega (arith, file-used-lt (a .img .now) (a .u) (a .f) (a .h) (g .at)))
 
--- src/grow.rt:58:1
 same-length : tie.Need-same-length
 same-length c = search needs
 
--- src/grow.rt:58:1
 returns : tie.Need-returns
 returns c =
     let s = c .before .before .before .before .before .before .before .before .before .before .before .before .before .before .before .before .before .before .before .before .before .before .before .before .before .before .before .before .before .before in let a = s .args in let g = s .pre .0 in

@@ -9,19 +9,15 @@ use Rattle.growth.proofs.grow.take.Lts as lts
 use Rattle.bits.proofs.claim.Reads as claim-reads
 use Rattle.bits.proofs.lowest_free.Reads as lowest-free-reads
 
--- src/grow.rt:27:9
 lowest-free-requires : tie.Need-lowest-free-requires
 lowest-free-requires c κs = search needs
 
--- src/grow.rt:28:5
 claim-requires : tie.Need-claim-requires
 claim-requires c κs = search needs
 
--- src/grow.rt:23:1
 same-length : tie.Need-same-length
 same-length c = search needs
 
--- src/grow.rt:23:1
 returns : tie.Need-returns
 returns c =
     let l = c .before .before .before .before .lowest-free in

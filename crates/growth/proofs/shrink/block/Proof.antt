@@ -12,59 +12,49 @@ use Rattle.growth.proofs.entries.enter.Reads as enter-reads
 use Rattle.growth.proofs.entries.set_slot.Reads as set-slot-reads
 use Rattle.page.proofs.read.slot_at.Reads as slot-at-reads
 
--- src/shrink.rt:66:16
 sub-last : tie.Need-sub-last
 sub-last c = search needs
 
--- src/shrink.rt:68:9
 slot-at-requires : tie.Need-slot-at-requires
 slot-at-requires c κs =
     let s = c .before .before .before in let a = s .args in let g = s .pre .0 in
     (omega (arith, top-lt (a .img .now) (a .u) (a .f) (a .h) g), omega (arith, last-small (a .img .now) (a .u) (a .f) (a .h) g))
 
--- src/shrink.rt:69:9
 slot-at-requires-2 : tie.Need-slot-at-requires-2
 slot-at-requires-2 c κs =
     let s = c .before .before .before .before .before in let a = s .args in let g = s .pre .0 in
     (omega (arith, block-lt (a .img .now) (a .u) (a .f) (a .h) g (omega (arith, s .pre .2)) _ _ _ (omega (arith, last-small (a .img .now) (a .u) (a .f) (a .h) g)) (c .before .slot-at .ensures .0) refl .0), omega arith)
 
--- src/shrink.rt:70:5
 set-slot-requires : tie.Need-set-slot-requires
 set-slot-requires c κs =
     let s = c .before .before .before .before .before .before .before in let a = s .args in let g = s .pre .0 in
     (omega (arith, top-lt (a .img .now) (a .u) (a .f) (a .h) g), omega (arith, last-small (a .img .now) (a .u) (a .f) (a .h) g), omega arith)
 
--- src/shrink.rt:71:50
 sub-enter : tie.Need-sub-enter
 sub-enter c =
     let s = c .before .before .before .before .before .before .before .before .before .before .before .before in let a = s .args in let g = s .pre .0 in
     omega (arith, file-paid (a .img .now) (a .u) (a .f) (a .h) (g .at) (g .kind .0) (some (a .img .now) (a .u) (a .f) (a .h) g), s .pre .2)
 
--- src/shrink.rt:71:5
 enter-requires : tie.Need-enter-requires
 enter-requires c κs =
     let s = c .before .before .before .before .before .before .before .before .before .before .before .before in let a = s .args in let g = s .pre .0 in
     can-enter (a .img .now) (a .u) (a .f) (a .h) (g .at) _ _ _ _ _ (omega (arith, c .before .before .before .img .given)) (omega (arith, last-small (a .img .now) (a .u) (a .f) (a .h) g)) (omega arith) (top-lt (a .img .now) (a .u) (a .f) (a .h) g) (omega (arith, file-used-lt (a .img .now) (a .u) (a .f) (a .h) (g .at)))
 
--- src/shrink.rt:72:5
 clear-requires : tie.Need-clear-requires
 clear-requires c κs =
     let s = c .before .before .before .before .before .before .before .before .before .before .before .before .before .before .before .before in let a = s .args in let g = s .pre .0 in
     let lt = block-lt (a .img .now) (a .u) (a .f) (a .h) g (omega (arith, s .pre .2)) _ _ _ (omega (arith, last-small (a .img .now) (a .u) (a .f) (a .h) g)) (c .before .before .before .before .before .before .before .before .before .before .before .before .slot-at .ensures .0) (c .before .before .before .before .before .before .before .before .before .before .slot-at2 .ensures .0) in
     (omega (arith, g .at .head .bitsAt .below, c .before .before .img2 .given, c .before .before .before .before .before .before .before .img .given), omega (arith, lt .1, g .at .ready .whole .most))
 
--- src/shrink.rt:73:5
 clear-requires-2 : tie.Need-clear-requires-2
 clear-requires-2 c κs =
     let s = c .before .before .before .before .before .before .before .before .before .before .before .before .before .before .before .before .before .before .before .before in let a = s .args in let g = s .pre .0 in
     let lt = block-lt (a .img .now) (a .u) (a .f) (a .h) g (omega (arith, s .pre .2)) _ _ _ (omega (arith, last-small (a .img .now) (a .u) (a .f) (a .h) g)) (c .before .before .before .before .before .before .before .before .before .before .before .before .before .before .before .before .slot-at .ensures .0) (c .before .before .before .before .before .before .before .before .before .before .before .before .before .before .slot-at2 .ensures .0) in
     (omega (arith, g .at .head .bitsAt .below, c .before .before .img3 .given, c .before .before .before .before .before .before .img2 .given, c .before .before .before .before .before .before .before .before .before .before .before .img .given), omega (arith, lt .0, g .at .ready .whole .most))
 
--- src/shrink.rt:62:1
 same-length : tie.Need-same-length
 same-length c = search needs
 
--- src/shrink.rt:62:1
 returns : tie.Need-returns
 returns c =
     let s = c .before .before .before .before .before .before .before .before .before .before .before .before .before .before .before .before .before .before .before .before .before .before .before in let a = s .args in let g = s .pre .0 in

@@ -10,41 +10,34 @@ use Rattle.bits.proofs.clear.Reads as clear-reads
 use Rattle.growth.proofs.entries.enter.Reads as enter-reads
 use Rattle.page.proofs.read.slot_at.Reads as slot-at-reads
 
--- src/shrink.rt:40:9
 slot-at-requires : tie.Need-slot-at-requires
 slot-at-requires c κs =
     let s = c .before .before in let a = s .args in let g = s .pre .0 in
     (omega (arith, top-lt (a .img .now) (a .u) (a .f) (a .h) g), omega arith)
 
--- src/shrink.rt:41:34
 sub-enter : tie.Need-sub-enter
 sub-enter c =
     let s = c .before .before .before .before .before in let a = s .args in let g = s .pre .0 in
     omega (arith, file-paid (a .img .now) (a .u) (a .f) (a .h) (g .at) (g .kind .0) (some (a .img .now) (a .u) (a .f) (a .h) g), s .pre .1)
 
--- src/shrink.rt:41:5
 enter-requires : tie.Need-enter-requires
 enter-requires c κs =
     let s = c .before .before .before .before .before in let a = s .args in let g = s .pre .0 in
     can-enter (a .img .now) (a .u) (a .f) (a .h) (g .at) _ _ _ _ _ (omega arith) (omega arith) (omega arith) (omega (arith, g .at .ready .whole .most, g .at .ready .whole .least)) (omega (arith, file-used-lt (a .img .now) (a .u) (a .f) (a .h) (g .at)))
 
--- src/shrink.rt:42:5
 clear-requires : tie.Need-clear-requires
 clear-requires c κs =
     let s = c .before .before .before .before .before .before .before .before .before in let a = s .args in let g = s .pre .0 in
     (omega (arith, g .at .head .bitsAt .below, c .before .before .img .given), omega (arith, first-lt (a .img .now) (a .u) (a .f) (a .h) g (s .pre .1) _ (c .before .before .before .before .before .before .slot-at .ensures .0), g .at .ready .whole .most))
 
--- src/shrink.rt:43:5
 clear-requires-2 : tie.Need-clear-requires-2
 clear-requires-2 c κs =
     let s = c .before .before .before .before .before .before .before .before .before .before .before .before .before in let a = s .args in let g = s .pre .0 in
     (omega (arith, g .at .head .bitsAt .below, c .before .before .img2 .given, c .before .before .before .before .before .before .img .given), omega (arith, top-lt (a .img .now) (a .u) (a .f) (a .h) g, g .at .ready .whole .most))
 
--- src/shrink.rt:35:1
 same-length : tie.Need-same-length
 same-length c = search needs
 
--- src/shrink.rt:35:1
 returns : tie.Need-returns
 returns c =
     let s = c .before .before .before .before .before .before .before .before .before .before .before .before .before .before .before .before in let a = s .args in let g = s .pre .0 in

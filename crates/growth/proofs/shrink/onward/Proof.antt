@@ -13,52 +13,43 @@ use Rattle.growth.proofs.entries.index_of.Reads as index-of-reads
 use Rattle.growth.proofs.entries.set_slot.Reads as set-slot-reads
 use Rattle.page.proofs.read.slot_at.Reads as slot-at-reads
 
--- src/shrink.rt:25:16
 sub-last : tie.Need-sub-last
 sub-last c = search needs
 
--- src/shrink.rt:27:9
 index-of-requires : tie.Need-index-of-requires
 index-of-requires c κs =
     let s = c .before .before .before in let a = s .args in let g = s .pre .0 in
     (flags-in (a .img .now) (a .u) (a .f) (a .h) (g .at) (g .kind .0) (some (a .img .now) (a .u) (a .f) (a .h) g) .0, top-lt (a .img .now) (a .u) (a .f) (a .h) g, last-small (a .img .now) (a .u) (a .f) (a .h) g)
 
--- src/shrink.rt:28:9
 slot-at-requires : tie.Need-slot-at-requires
 slot-at-requires c κs =
     let s = c .before .before .before .before .before in let a = s .args in let g = s .pre .0 in
     let lt = onward-lt (a .img .now) (a .u) (a .f) (a .h) g _ _ (c .before .index-of .ensures) refl in (omega (arith, lt .0), omega arith)
 
--- src/shrink.rt:29:5
 set-slot-requires : tie.Need-set-slot-requires
 set-slot-requires c κs =
     let s = c .before .before .before .before .before .before .before in let a = s .args in let g = s .pre .0 in
     let lt = onward-lt (a .img .now) (a .u) (a .f) (a .h) g _ _ (c .before .before .before .index-of .ensures) (c .before .slot-at .ensures .0) in (omega (arith, lt .0), omega arith, omega arith)
 
--- src/shrink.rt:30:47
 sub-enter : tie.Need-sub-enter
 sub-enter c =
     let s = c .before .before .before .before .before .before .before .before .before .before .before .before in let a = s .args in let g = s .pre .0 in
     omega (arith, file-paid (a .img .now) (a .u) (a .f) (a .h) (g .at) (g .kind .0) (some (a .img .now) (a .u) (a .f) (a .h) g))
 
--- src/shrink.rt:30:5
 enter-requires : tie.Need-enter-requires
 enter-requires c κs =
     let s = c .before .before .before .before .before .before .before .before .before .before .before .before in let a = s .args in let g = s .pre .0 in
     can-enter (a .img .now) (a .u) (a .f) (a .h) (g .at) _ _ _ _ _ (omega (arith, c .before .before .before .img .given)) (omega (arith, last-small (a .img .now) (a .u) (a .f) (a .h) g)) (flags-in (a .img .now) (a .u) (a .f) (a .h) (g .at) (g .kind .0) (some (a .img .now) (a .u) (a .f) (a .h) g) .1) (top-lt (a .img .now) (a .u) (a .f) (a .h) g) (omega (arith, file-used-lt (a .img .now) (a .u) (a .f) (a .h) (g .at)))
 
--- src/shrink.rt:31:5
 clear-requires : tie.Need-clear-requires
 clear-requires c κs =
     let s = c .before .before .before .before .before .before .before .before .before .before .before .before .before .before .before .before in let a = s .args in let g = s .pre .0 in
     let lt = onward-lt (a .img .now) (a .u) (a .f) (a .h) g _ _ (c .before .before .before .before .before .before .before .before .before .before .before .before .index-of .ensures) (c .before .before .before .before .before .before .before .before .before .before .slot-at .ensures .0) in
     (omega (arith, g .at .head .bitsAt .below, c .before .before .img2 .given, c .before .before .before .before .before .before .before .img .given), omega (arith, lt .1, g .at .ready .whole .most))
 
--- src/shrink.rt:21:1
 same-length : tie.Need-same-length
 same-length c = search needs
 
--- src/shrink.rt:21:1
 returns : tie.Need-returns
 returns c =
     let s = c .before .before .before .before .before .before .before .before .before .before .before .before .before .before .before .before .before .before .before in let a = s .args in let g = s .pre .0 in

@@ -10,61 +10,48 @@ use Rattle.growth.proofs.shrink.first.Reads as first-reads
 use Rattle.growth.proofs.shrink.onward.Reads as onward-reads
 use Rattle.growth.proofs.shrink.raise.Reads as raise-reads
 
--- src/shrink.rt:81:16
 sub-last : tie.Need-sub-last
 sub-last c = search needs
 
--- src/shrink.rt:83:9
 onward-requires : tie.Need-onward-requires
 onward-requires c κs = search needs
 
--- src/shrink.rt:83:9
 same-length : tie.Need-same-length
 same-length c = search needs
 
--- src/shrink.rt:83:9
 returns : tie.Need-returns
 returns c =
     let s = c .before .before .before .before .before .before .before in let a = s .args in
     shrink-onward (a .img .now) (a .u) (a .f) (a .h) (s .pre) _ (omega arith) (c .before .before .onward .ensures)
 
--- src/shrink.rt:86:9
 first-requires : tie.Need-first-requires
 first-requires c κs = search needs
 
--- src/shrink.rt:86:9
 same-length-2 : tie.Need-same-length-2
 same-length-2 c = search needs
 
--- src/shrink.rt:86:9
 returns-2 : tie.Need-returns-2
 returns-2 c =
     let s = c .before .before .before .before .before .before .before .before in let a = s .args in
     shrink-first (a .img .now) (a .u) (a .f) (a .h) (s .pre) _ (c .before .before .before .before .if2 .taken) (c .before .before .first .ensures)
 
--- src/shrink.rt:89:9
 raise-requires : tie.Need-raise-requires
 raise-requires c κs = search needs
 
--- src/shrink.rt:89:9
 same-length-3 : tie.Need-same-length-3
 same-length-3 c = search needs
 
--- src/shrink.rt:89:9
 returns-3 : tie.Need-returns-3
 returns-3 c =
     let s = c .before .before .before .before .before .before .before .before .before in let a = s .args in
     shrink-raise (a .img .now) (a .u) (a .f) (a .h) (s .pre) _ (c .before .before .before .before .if3 .taken) (c .before .before .raise .ensures)
 
--- src/shrink.rt:91:5
 block-requires : tie.Need-block-requires
 block-requires c κs = search needs
 
--- src/shrink.rt:77:1
 same-length-4 : tie.Need-same-length-4
 same-length-4 c = search needs
 
--- src/shrink.rt:77:1
 returns-4 : tie.Need-returns-4
 returns-4 c =
     let s = c .before .before .before .before .before .before .before .before .before in let a = s .args in

@@ -17,55 +17,42 @@ use Rattle.tree.proofs.entry.entry_flags.Reads as entry-flags-reads
 use Rattle.tree.proofs.entry.entry_two.Reads as entry-two-reads
 use Rattle.tree.proofs.entry.entry_used.Reads as entry-used-reads
 
--- src/lines.rt:103:9
 entry-used-requires : tie.Need-entry-used-requires
 entry-used-requires c κs = search needs
 
--- src/lines.rt:104:9
 returns : tie.Need-returns
 returns c = (wrote-as (lines-none _ _ (fails (c .before .entry-used .result) _ (c .before .entry-used .ensures) (c .if1 .taken))) (wrote-none _ _), omega arith)
 
--- src/lines.rt:106:13
 entry-two-requires : tie.Need-entry-two-requires
 entry-two-requires c κs = search needs
 
--- src/lines.rt:106:13
 cast-n : tie.Need-cast-n
 cast-n c = search needs
 
--- src/lines.rt:107:9
 entry-flags-requires : tie.Need-entry-flags-requires
 entry-flags-requires c κs = search needs
 
--- src/lines.rt:108:9
 put-title-requires : tie.Need-put-title-requires
 put-title-requires c κs = search needs
 
--- src/lines.rt:109:27
 slice-aggregate-put-field : tie.Need-slice-aggregate-put-field
 slice-aggregate-put-field c = search needs
 
--- src/lines.rt:109:5
 put-field-requires : tie.Need-put-field-requires
 put-field-requires c κs = search needs
 
--- src/lines.rt:110:5
 put-kind-requires : tie.Need-put-kind-requires
 put-kind-requires c κs = search needs
 
--- src/lines.rt:111:23
 slice-aggregate-put-bytes : tie.Need-slice-aggregate-put-bytes
 slice-aggregate-put-bytes c = search needs
 
--- src/lines.rt:111:5
 put-bytes-requires : tie.Need-put-bytes-requires
 put-bytes-requires c κs = search needs
 
--- src/lines.rt:99:1
 same-length : tie.Need-same-length
 same-length c = search needs
 
--- src/lines.rt:99:1
 returns-2 : tie.Need-returns-2
 unfolding fileLine
 returns-2 c = let n = c .before .before .before .before .before .before .before .before .before .before .before .before .before .before .before .before .before .before .before .entry-two .ensures .0 in

@@ -19,78 +19,60 @@ use Rattle.listing.proofs.put.put_field.Reads as put-field-reads
 use Rattle.page.proofs.read.page_at.Reads as page-at-reads
 use Rattle.seek.proofs.users.unreserved.Reads as unreserved-reads
 
--- src/lines.rt:42:13
 page-at-requires : tie.Need-page-at-requires
 page-at-requires c κs = search needs
 
--- src/lines.rt:42:13
 cast-b : tie.Need-cast-b
 cast-b c = search needs
 
--- src/lines.rt:43:9
 reserved-requires : tie.Need-reserved-requires
 reserved-requires c κs = let a = (c .before .before .before) .args in let R = (c .before .before .before) .pre in
     let B = bits-at (pages (a .img .now)) (vol (a .img .now)) (R .whole .most) (R .sound .r1) in
     let e = c .page-at .ensures .0 in
     (omega (arith, B .below, R .whole .even), subst (BitsAt (pages (a .img .now)) (vol (a .img .now))) (sym e) B)
 
--- src/lines.rt:44:16
 unreserved-requires : tie.Need-unreserved-requires
 unreserved-requires c κs = search needs
 
--- src/lines.rt:44:16
 cast-left : tie.Need-cast-left
 cast-left c = search needs
 
--- src/lines.rt:45:35
 slice-aggregate-put-bytes : tie.Need-slice-aggregate-put-bytes
 slice-aggregate-put-bytes c = search needs
 
--- src/lines.rt:45:9
 put-bytes-requires : tie.Need-put-bytes-requires
 put-bytes-requires c κs = search needs
 
--- src/lines.rt:46:5
 put-name-requires : tie.Need-put-name-requires
 put-name-requires c κs = search needs
 
--- src/lines.rt:47:27
 slice-aggregate-put-field : tie.Need-slice-aggregate-put-field
 slice-aggregate-put-field c = search needs
 
--- src/lines.rt:47:5
 put-field-requires : tie.Need-put-field-requires
 put-field-requires c κs = search needs
 
--- src/lines.rt:48:27
 slice-aggregate-put-field-2 : tie.Need-slice-aggregate-put-field-2
 slice-aggregate-put-field-2 c = search needs
 
--- src/lines.rt:48:5
 put-field-requires-2 : tie.Need-put-field-requires-2
 put-field-requires-2 c κs = search needs
 
--- src/lines.rt:49:27
 slice-aggregate-put-field-3 : tie.Need-slice-aggregate-put-field-3
 slice-aggregate-put-field-3 c = search needs
 
--- src/lines.rt:49:5
 put-field-requires-3 : tie.Need-put-field-requires-3
 put-field-requires-3 c κs = search needs
 
--- src/lines.rt:50:23
 slice-aggregate-put-bytes-2 : tie.Need-slice-aggregate-put-bytes-2
 slice-aggregate-put-bytes-2 c = search needs
 
--- src/lines.rt:50:5
 put-bytes-requires-2 : tie.Need-put-bytes-requires-2
 put-bytes-requires-2 c κs = search needs
 
--- src/lines.rt:37:1
 same-length : tie.Need-same-length
 same-length c = search needs
 
--- src/lines.rt:37:1
 returns : tie.Need-returns
 unfolding headLine
 returns c = let w = wrote-then (c .before .before .before .before .before .before .before .before .before .before .before .before .before .before .before .before .before .before .before .before .before .before .before .before .before .before .put-bytes .ensures) (c .before .before .before .before .before .before .before .before .before .before .before .before .before .before .before .before .before .before .before .before .before .before .put-name .ensures .0) in

@@ -8,67 +8,51 @@ use Rattle.listing.proofs.lines.put_kind.Reads as reads
 use Rattle.listing.proofs.lines.put_kind.Lts as lts
 use Rattle.listing.proofs.put.put_bytes.Reads as put-bytes-reads
 
--- src/lines.rt:75:35
 slice-aggregate-put-bytes : tie.Need-slice-aggregate-put-bytes
 slice-aggregate-put-bytes c = search needs
 
--- src/lines.rt:75:9
 put-bytes-requires : tie.Need-put-bytes-requires
 put-bytes-requires c κs = search needs
 
--- src/lines.rt:75:9
 same-length : tie.Need-same-length
 same-length c = search needs
 
--- src/lines.rt:75:9
 returns : tie.Need-returns
 returns c = (wrote-as (kind-index _ _ (c .before .before .before .before .before .if1 .taken)) (c .before .before .put-bytes .ensures), omega (arith, c .before .before .put-bytes .ensures .next))
 
--- src/lines.rt:78:35
 slice-aggregate-put-bytes-2 : tie.Need-slice-aggregate-put-bytes-2
 slice-aggregate-put-bytes-2 c = search needs
 
--- src/lines.rt:78:9
 put-bytes-requires-2 : tie.Need-put-bytes-requires-2
 put-bytes-requires-2 c κs = search needs
 
--- src/lines.rt:78:9
 same-length-2 : tie.Need-same-length-2
 same-length-2 c = search needs
 
--- src/lines.rt:78:9
 returns-2 : tie.Need-returns-2
 returns-2 c = (wrote-as (kind-subindex _ _ (c .before .before .before .before .before .before .if1 .left) (c .before .before .before .before .before .if2 .taken)) (c .before .before .put-bytes2 .ensures), omega (arith, c .before .before .put-bytes2 .ensures .next))
 
--- src/lines.rt:81:35
 slice-aggregate-put-bytes-3 : tie.Need-slice-aggregate-put-bytes-3
 slice-aggregate-put-bytes-3 c = search needs
 
--- src/lines.rt:81:9
 put-bytes-requires-3 : tie.Need-put-bytes-requires-3
 put-bytes-requires-3 c κs = search needs
 
--- src/lines.rt:81:9
 same-length-3 : tie.Need-same-length-3
 same-length-3 c = search needs
 
--- src/lines.rt:81:9
 returns-3 : tie.Need-returns-3
 returns-3 c = (wrote-as (kind-empty _ _ (c .before .before .before .before .before .before .if2 .left) (c .before .before .before .before .before .if3 .taken)) (c .before .before .put-bytes3 .ensures), omega (arith, c .before .before .put-bytes3 .ensures .next))
 
--- src/lines.rt:83:24
 slice-aggregate-put-bytes-4 : tie.Need-slice-aggregate-put-bytes-4
 slice-aggregate-put-bytes-4 c = search needs
 
--- src/lines.rt:83:5
 put-bytes-requires-4 : tie.Need-put-bytes-requires-4
 put-bytes-requires-4 c κs = search needs
 
--- src/lines.rt:70:1
 same-length-4 : tie.Need-same-length-4
 same-length-4 c = search needs
 
--- src/lines.rt:70:1
 returns-4 : tie.Need-returns-4
 returns-4 c = (wrote-as (kind-contiguous _ _ (c .before .before .before .before .before .before .if2 .left) (c .before .before .before .before .before .if3 .left)) (c .before .before .put-bytes4 .ensures), omega (arith, c .before .before .put-bytes4 .ensures .next))
 

@@ -10,43 +10,33 @@ use Rattle.listing.proofs.name.put_entry_name.Reads as put-entry-name-r
 use Rattle.listing.proofs.put.put_bytes.Reads as put-bytes-reads
 use Rattle.listing.proofs.put.put_field.Reads as put-field-reads
 
--- src/lines.rt:91:36
 slice-aggregate-put-field : tie.Need-slice-aggregate-put-field
 slice-aggregate-put-field c = search needs
 
--- src/lines.rt:91:9
 put-field-requires : tie.Need-put-field-requires
 put-field-requires c κs = search needs
 
--- src/lines.rt:92:27
 slice-aggregate-put-bytes : tie.Need-slice-aggregate-put-bytes
 slice-aggregate-put-bytes c = search needs
 
--- src/lines.rt:92:5
 put-bytes-requires : tie.Need-put-bytes-requires
 put-bytes-requires c κs = search needs
 
--- src/lines.rt:93:5
 put-entry-name-requires : tie.Need-put-entry-name-requires
 put-entry-name-requires c κs = search needs
 
--- src/lines.rt:94:27
 slice-aggregate-put-bytes-2 : tie.Need-slice-aggregate-put-bytes-2
 slice-aggregate-put-bytes-2 c = search needs
 
--- src/lines.rt:94:5
 put-bytes-requires-2 : tie.Need-put-bytes-requires-2
 put-bytes-requires-2 c κs = search needs
 
--- src/lines.rt:95:5
 put-entry-name-requires-2 : tie.Need-put-entry-name-requires-2
 put-entry-name-requires-2 c κs = search needs
 
--- src/lines.rt:87:1
 same-length : tie.Need-same-length
 same-length c = search needs
 
--- src/lines.rt:87:1
 returns : tie.Need-returns
 unfolding fileTitle
 returns c = let a = wrote-then (wrote-then (c .before .before .before .before .before .before .before .before .before .before .before .before .before .before .before .before .before .before .before .before .put-field .ensures .0) (c .before .before .before .before .before .before .before .before .before .before .before .before .before .before .before .put-bytes .ensures)) (c .before .before .before .before .before .before .before .before .before .before .before .put-entry-name .ensures .0) in (

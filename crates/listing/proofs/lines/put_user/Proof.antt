@@ -18,76 +18,58 @@ use Rattle.seek.proofs.users.given.Reads as given-reads
 use Rattle.seek.proofs.users.used_pages.Reads as used-pages-reads
 use Rattle.tree.proofs.root.user_page.Reads as user-page-reads
 
--- src/lines.rt:58:9
 user-page-requires : tie.Need-user-page-requires
 user-page-requires c κs = ready-users _ ((c .before .before) .pre .0)
 
--- src/lines.rt:59:15
 given-requires : tie.Need-given-requires
 given-requires c κs = search needs
 
--- src/lines.rt:59:15
 cast-had : tie.Need-cast-had
 cast-had c = search needs
 
--- src/lines.rt:60:16
 used-pages-requires : tie.Need-used-pages-requires
 used-pages-requires c κs = search needs
 
--- src/lines.rt:60:16
 cast-uses : tie.Need-cast-uses
 cast-uses c = search needs
 
--- src/lines.rt:61:36
 slice-aggregate-put-field : tie.Need-slice-aggregate-put-field
 slice-aggregate-put-field c = search needs
 
--- src/lines.rt:61:9
 put-field-requires : tie.Need-put-field-requires
 put-field-requires c κs = search needs
 
--- src/lines.rt:62:27
 slice-aggregate-put-bytes : tie.Need-slice-aggregate-put-bytes
 slice-aggregate-put-bytes c = search needs
 
--- src/lines.rt:62:5
 put-bytes-requires : tie.Need-put-bytes-requires
 put-bytes-requires c κs = search needs
 
--- src/lines.rt:63:5
 put-entry-name-requires : tie.Need-put-entry-name-requires
 put-entry-name-requires c κs = let a = (c .before .before .before .before .before .before .before .before .before .before .before .before .before .before .before .before) .args in
     (user-there (vol (a .img .now)) (a .u) _ (c .before .before .before .before .before .before .before .before .before .before .before .before .before .user-page .ensures .0) ((c .before .before .before .before .before .before .before .before .before .before .before .before .before .before .before .before) .pre .1), c .before .before .before .before .before .before .before .before .before .before .before .before .before .user-page .ensures .1, omega arith, omega arith, omega (arith, c .before .before .before .put-bytes .ensures .next, c .before .before .before .before .before .before .before .before .put-field .ensures .1, (c .before .before .before .before .before .before .before .before .before .before .before .before .before .before .before .before) .pre .2))
 
--- src/lines.rt:64:27
 slice-aggregate-put-field-2 : tie.Need-slice-aggregate-put-field-2
 slice-aggregate-put-field-2 c = search needs
 
--- src/lines.rt:64:5
 put-field-requires-2 : tie.Need-put-field-requires-2
 put-field-requires-2 c κs = search needs
 
--- src/lines.rt:65:27
 slice-aggregate-put-field-3 : tie.Need-slice-aggregate-put-field-3
 slice-aggregate-put-field-3 c = search needs
 
--- src/lines.rt:65:5
 put-field-requires-3 : tie.Need-put-field-requires-3
 put-field-requires-3 c κs = (omega (arith, c .before .before .before .before .put-field2 .ensures .1, c .before .before .before .before .before .before .before .before .before .put-entry-name .ensures .1, c .before .before .before .before .before .before .before .before .before .before .before .before .before .put-bytes .ensures .next, c .before .before .before .before .before .before .before .before .before .before .before .before .before .before .before .before .before .before .put-field .ensures .1, (c .before .before .before .before .before .before .before .before .before .before .before .before .before .before .before .before .before .before .before .before .before .before .before .before .before .before) .pre .2), omega arith)
 
--- src/lines.rt:66:23
 slice-aggregate-put-bytes-2 : tie.Need-slice-aggregate-put-bytes-2
 slice-aggregate-put-bytes-2 c = search needs
 
--- src/lines.rt:66:5
 put-bytes-requires-2 : tie.Need-put-bytes-requires-2
 put-bytes-requires-2 c κs = (omega (arith, c .before .before .before .before .put-field3 .ensures .1, c .before .before .before .before .before .before .before .before .before .put-field2 .ensures .1, c .before .before .before .before .before .before .before .before .before .before .before .before .before .before .put-entry-name .ensures .1, c .before .before .before .before .before .before .before .before .before .before .before .before .before .before .before .before .before .before .put-bytes .ensures .next, c .before .before .before .before .before .before .before .before .before .before .before .before .before .before .before .before .before .before .before .before .before .before .before .put-field .ensures .1, (c .before .before .before .before .before .before .before .before .before .before .before .before .before .before .before .before .before .before .before .before .before .before .before .before .before .before .before .before .before .before .before) .pre .2), omega arith)
 
--- src/lines.rt:54:1
 same-length : tie.Need-same-length
 same-length c = search needs
 
--- src/lines.rt:54:1
 returns : tie.Need-returns
 unfolding userLine
 returns c = let a = (c .before .before .before .before .before .before .before .before .before .before .before .before .before .before .before .before .before .before .before .before .before .before .before .before .before .before .before .before .before .before .before .before .before .before) .args in

@@ -11,27 +11,21 @@ use Rattle.page.proofs.names.high.Reads as high-reads
 use Rattle.page.proofs.names.low.Reads as low-reads
 use Rattle.page.proofs.read.word_at.Reads as word-at-reads
 
--- src/name.rt:32:29
 add-word-at : tie.Need-add-word-at
 add-word-at c = search needs
 
--- src/name.rt:32:9
 word-at-requires : tie.Need-word-at-requires
 word-at-requires c κs = search needs
 
--- src/name.rt:34:9
 high-requires : tie.Need-high-requires
 high-requires c κs = search needs
 
--- src/name.rt:34:9
 returns : tie.Need-returns
 returns c = let a = c .before .before .before .before .args in omega (arith, c .high .ensures, c .before .before .word-at .ensures, byte-even (vol (a .img .now) (a .p)) (a .k) (a .i) (c .before .if1 .taken))
 
--- src/name.rt:36:5
 low-requires : tie.Need-low-requires
 low-requires c κs = search needs
 
--- src/name.rt:28:1
 returns-2 : tie.Need-returns-2
 returns-2 c = let a = c .before .before .before .before .args in omega (arith, c .low .ensures, c .before .before .word-at .ensures, byte-odd (vol (a .img .now) (a .p)) (a .k) (a .i) (omega arith))
 

@@ -10,23 +10,18 @@ use Rattle.listing.proofs.name.put_entry_name.Lts as lts
 use Rattle.listing.proofs.name.put_name.Reads as put-name-reads
 use Rattle.page.proofs.entry.EntryPlace.of.Reads as of-reads
 
--- src/name.rt:66:9
 of-requires : tie.Need-of-requires
 of-requires c κs = search needs
 
--- src/name.rt:68:31
 add-put-name : tie.Need-add-put-name
 add-put-name c = search needs
 
--- src/name.rt:68:5
 put-name-requires : tie.Need-put-name-requires
 put-name-requires c κs = search needs
 
--- src/name.rt:54:1
 same-length : tie.Need-same-length
 same-length c = search needs
 
--- src/name.rt:54:1
 returns : tie.Need-returns
 returns c = let a = c .before .before .before .before .before .before .before .args in
     (wrote-as (spelled-there (vol (a .img .now)) (a .q) (a .n) _ (a .k) (a .m) (c .before .before .before .before .before .before .before .pre .0) (c .before .before .before .before .of .ensures .1)) (c .before .before .put-name .ensures .0), c .before .before .put-name .ensures .1)

@@ -20,37 +20,29 @@ Inv-loop img out₀ at p k n z₀ i₀ out z i = (i ≤ n) × (z ≤ at + i) × 
 abbrev μ-loop : tie.MeasureT-loop
 μ-loop img out₀ at p k n z₀ i₀ out z i = n - i
 
--- src/name.rt:46:5
 loop-holds : tie.Need-loop-holds Inv-loop μ-loop
 loop-holds c = let a = c .before .before .args in (omega arith, omega arith, wrote-as (spelled-zero _ _) (wrote-none _ _))
 
--- src/name.rt:47:32
 byte-at-requires : tie.Need-byte-at-requires Inv-loop μ-loop
 byte-at-requires c κs = (c .before .before .before .before .before .pre .0, omega arith)
 
--- src/name.rt:47:9
 put-letter-requires : tie.Need-put-letter-requires Inv-loop μ-loop
 put-letter-requires c κs = omega arith
 
--- src/name.rt:48:9
 add-i : tie.Need-add-i Inv-loop μ-loop
 add-i c = omega arith
 
--- src/name.rt:46:5
 loop-less : tie.Need-loop-less Inv-loop μ-loop
 loop-less c = omega arith
 
--- src/name.rt:46:5
 loop-again : tie.Need-loop-again Inv-loop μ-loop
 loop-again c = let a = c .before .before .before .before .before .before .before .before .before .args in let l = c .before .before .before .before .before .before .loop in let w = vol (a .img .now) (a .p) in
     let s = wrote-as (ap letter (c .before .before .before .byte-at .ensures)) (c .before .before .put-letter .ensures .0) in
     (omega arith, omega (arith, c .before .before .put-letter .ensures .1), wrote-as (spelled-more w (a .k) (l .i)) (wrote-then (l .inv .2) s))
 
--- src/name.rt:40:1
 same-length : tie.Need-same-length Inv-loop μ-loop
 same-length c = wrote-size (c .before .loop .inv .2)
 
--- src/name.rt:40:1
 returns : tie.Need-returns Inv-loop μ-loop
 returns c = let a = c .before .before .before .before .args in let l = c .before .loop in
     let e : l .i ≡ a .n = omega arith in

@@ -27,7 +27,6 @@ abbrev put-digits-below : ℕ → In 1 put-digits-kinds.ps
 put-digits-below t =
     and 1 put-digits-kinds.ps (falls 1 put-digits-kinds.ps _<_ μ-put-digits t) put-digits.Pre
 
--- src/put.rt:56:9
 put-digits-returns : (t : ℕ) → put-digits-lts.Need-returns (
   digit-reads.Asked,
   digit-reads.Learnt,
@@ -38,7 +37,6 @@ put-digits-returns : (t : ℕ) → put-digits-lts.Need-returns (
 ) (put-digits-at t) put-digits.Post
 put-digits-returns t c = (wrote-as (digits-none _ _ (c .if1 .taken)) (wrote-none _ _), omega arith)
 
--- src/put.rt:59:22
 put-digits-digit-requires : (t : ℕ) → put-digits-lts.Need-digit-requires (
   digit-reads.Asked,
   digit-reads.Learnt,
@@ -49,7 +47,6 @@ put-digits-digit-requires : (t : ℕ) → put-digits-lts.Need-digit-requires (
 ) (put-digits-at t) put-digits.Post
 put-digits-digit-requires t c κs = search needs
 
--- src/put.rt:59:9
 put-digits-put-requires : (t : ℕ) → put-digits-lts.Need-put-requires (
   digit-reads.Asked,
   digit-reads.Learnt,
@@ -60,7 +57,6 @@ put-digits-put-requires : (t : ℕ) → put-digits-lts.Need-put-requires (
 ) (put-digits-at t) put-digits.Post
 put-digits-put-requires t c κs = search needs
 
--- src/put.rt:60:16
 put-digits-add-result : (t : ℕ) → put-digits-lts.Need-add-result (
   digit-reads.Asked,
   digit-reads.Learnt,
@@ -71,7 +67,6 @@ put-digits-add-result : (t : ℕ) → put-digits-lts.Need-add-result (
 ) (put-digits-at t) put-digits.Post
 put-digits-add-result t c = search needs
 
--- src/put.rt:60:9
 put-digits-same-length : (t : ℕ) → put-digits-lts.Need-same-length (
   digit-reads.Asked,
   digit-reads.Learnt,
@@ -82,7 +77,6 @@ put-digits-same-length : (t : ℕ) → put-digits-lts.Need-same-length (
 ) (put-digits-at t) put-digits.Post
 put-digits-same-length t c = search needs
 
--- src/put.rt:60:9
 put-digits-returns-2 : (t : ℕ) → put-digits-lts.Need-returns-2 (
   digit-reads.Asked,
   digit-reads.Learnt,
@@ -95,7 +89,6 @@ put-digits-returns-2 t c = let a = c .before .before .before .before .before .be
     let b = c .before .before .put .ensures ∙ ap (λ (x : ℕ). set (a .out .now) (a .at) x) (c .before .before .before .digit .ensures) in
     (wrote-as (digits-last _ _ (c .before .before .before .before .before .before .if1 .left) (c .before .before .before .before .before .if2 .taken)) (wrote-byte b refl), omega (arith, c .before .before .before .before .before .before .if1 .left))
 
--- src/put.rt:62:41
 put-digits-sub-put-digits : (t : ℕ) → put-digits-lts.Need-sub-put-digits (
   digit-reads.Asked,
   digit-reads.Learnt,
@@ -106,7 +99,6 @@ put-digits-sub-put-digits : (t : ℕ) → put-digits-lts.Need-sub-put-digits (
 ) (put-digits-at t) put-digits.Post
 put-digits-sub-put-digits t c = search needs
 
--- src/put.rt:62:9
 put-digits-put-digits-requires : (t : ℕ) → put-digits-lts.Need-put-digits-requires (
   digit-reads.Asked,
   digit-reads.Learnt,
@@ -117,7 +109,6 @@ put-digits-put-digits-requires : (t : ℕ) → put-digits-lts.Need-put-digits-re
 ) (put-digits-at t) put-digits.Post
 put-digits-put-digits-requires t c κs = let a = c .before .before .before .before .args in let e : a .k ≡ t = c .before .before .before .before .pre .0 in let h : a .k - 1 < t = omega (arith, c .before .before .if1 .left) in (h, (omega (arith, c .before .before .before .before .pre .1), omega (arith, c .before .before .before .before .pre .1)))
 
--- src/put.rt:63:17
 put-digits-digit-requires-2 : (t : ℕ) → put-digits-lts.Need-digit-requires-2 (
   digit-reads.Asked,
   digit-reads.Learnt,
@@ -128,7 +119,6 @@ put-digits-digit-requires-2 : (t : ℕ) → put-digits-lts.Need-digit-requires-2
 ) (put-digits-at t) put-digits.Post
 put-digits-digit-requires-2 t c κs = search needs
 
--- src/put.rt:63:5
 put-digits-put-requires-2 : (t : ℕ) → put-digits-lts.Need-put-requires-2 (
   digit-reads.Asked,
   digit-reads.Learnt,
@@ -139,7 +129,6 @@ put-digits-put-requires-2 : (t : ℕ) → put-digits-lts.Need-put-requires-2 (
 ) (put-digits-at t) put-digits.Post
 put-digits-put-requires-2 t c κs = search needs
 
--- src/put.rt:64:5
 put-digits-add-result-2 : (t : ℕ) → put-digits-lts.Need-add-result-2 (
   digit-reads.Asked,
   digit-reads.Learnt,
@@ -150,7 +139,6 @@ put-digits-add-result-2 : (t : ℕ) → put-digits-lts.Need-add-result-2 (
 ) (put-digits-at t) put-digits.Post
 put-digits-add-result-2 t c = omega (arith, c .before .before .before .before .before .before .before .put-digits .ensures .1, c .before .before .before .before .before .before .before .before .before .before .before .before .pre .1)
 
--- src/put.rt:51:1
 put-digits-same-length-2 : (t : ℕ) → put-digits-lts.Need-same-length-2 (
   digit-reads.Asked,
   digit-reads.Learnt,
@@ -161,7 +149,6 @@ put-digits-same-length-2 : (t : ℕ) → put-digits-lts.Need-same-length-2 (
 ) (put-digits-at t) put-digits.Post
 put-digits-same-length-2 t c = search needs
 
--- src/put.rt:51:1
 put-digits-returns-3 : (t : ℕ) → put-digits-lts.Need-returns-3 (
   digit-reads.Asked,
   digit-reads.Learnt,

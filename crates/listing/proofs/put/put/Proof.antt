@@ -7,19 +7,15 @@ use Rattle.listing.proofs.put.put.Tie as tie
 use Rattle.listing.proofs.put.put.Reads as reads
 use Rattle.listing.proofs.put.put.Lts as lts
 
--- src/put.rt:14:9
 slice-write-out : tie.Need-slice-write-out
 slice-write-out c = search needs
 
--- src/put.rt:10:1
 same-length : tie.Need-same-length
 same-length c = search needs
 
--- src/put.rt:10:1
 returns : tie.Need-returns
 returns c = search needs
 
--- src/put.rt:10:1
 returns-2 : tie.Need-returns-2
 returns-2 c = sym (set-out _ _ _ (omega arith))
 

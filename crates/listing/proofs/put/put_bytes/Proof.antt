@@ -17,44 +17,34 @@ Inv-loop out₀ at s i₀ out i = (i ≤ length s) × (out ≡ sets out₀ at (t
 abbrev μ-loop : tie.MeasureT-loop
 μ-loop out₀ at s i₀ out i = length s - i
 
--- src/put.rt:24:5
 loop-holds : tie.Need-loop-holds Inv-loop μ-loop
 loop-holds c = (omega arith, refl)
 
--- src/put.rt:25:18
 add-put : tie.Need-add-put Inv-loop μ-loop
 add-put c = omega arith
 
--- src/put.rt:25:26
 shared-slice-read-put : tie.Need-shared-slice-read-put Inv-loop μ-loop
 shared-slice-read-put c = omega arith
 
--- src/put.rt:25:9
 put-requires : tie.Need-put-requires Inv-loop μ-loop
 put-requires c κs = search needs
 
--- src/put.rt:26:9
 add-i : tie.Need-add-i Inv-loop μ-loop
 add-i c = omega arith
 
--- src/put.rt:24:5
 loop-less : tie.Need-loop-less Inv-loop μ-loop
 loop-less c = omega arith
 
--- src/put.rt:24:5
 loop-again : tie.Need-loop-again Inv-loop μ-loop
 loop-again c = let a = c .before .before .before .before .before .before .before .before .before .args in let l = c .before .before .before .before .before .before .loop in
     (omega arith, bytes-more (a .s .now) (a .out .now) (l .out) (c .before .before .put .last .0) (a .at) (l .i) (c .before .before .before .before .before .loop-test .taken) (l .inv .1) (c .before .before .put .ensures))
 
--- src/put.rt:28:5
 add-result : tie.Need-add-result Inv-loop μ-loop
 add-result c = omega arith
 
--- src/put.rt:19:1
 same-length : tie.Need-same-length Inv-loop μ-loop
 same-length c = let a = c .before .before .before .before .args in ap length (c .before .loop .inv .1) ∙ length-sets (a .out .now) (a .at) (take (c .before .loop .i) (a .s .now))
 
--- src/put.rt:19:1
 returns : tie.Need-returns Inv-loop μ-loop
 returns c = let a = c .before .before .before .before .args in let l = c .before .loop in wrote-all (a .s .now) (a .out .now) (l .out) (a .at) (l .i) _ (omega arith) (l .inv .0) (l .inv .1) refl
 

@@ -9,19 +9,15 @@ use Rattle.listing.proofs.put.put_field.Lts as lts
 use Rattle.listing.proofs.put.put_bytes.Reads as put-bytes-reads
 use Rattle.listing.proofs.put.put_digits.Reads as put-digits-reads
 
--- src/put.rt:72:9
 put-bytes-requires : tie.Need-put-bytes-requires
 put-bytes-requires c κs = search needs
 
--- src/put.rt:73:5
 put-digits-requires : tie.Need-put-digits-requires
 put-digits-requires c κs = (omega (arith, c .before .before .before .put-bytes .ensures .next, c .before .before .before .before .before .before .before .pre), omega arith)
 
--- src/put.rt:68:1
 same-length : tie.Need-same-length
 same-length c = search needs
 
--- src/put.rt:68:1
 returns : tie.Need-returns
 unfolding field
 returns c = (wrote-then (c .before .before .before .before .before .before .put-bytes .ensures) (c .before .before .put-digits .ensures .0), omega (arith, c .before .before .before .before .before .before .put-bytes .ensures .next, c .before .before .put-digits .ensures .1, c .before .before .before .before .before .before .before .before .before .before .pre))

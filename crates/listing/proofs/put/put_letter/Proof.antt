@@ -9,23 +9,18 @@ use Rattle.listing.proofs.put.put_letter.Reads as reads
 use Rattle.listing.proofs.put.put_letter.Lts as lts
 use Rattle.listing.proofs.put.put.Reads as put-reads
 
--- src/put.rt:37:9
 returns : tie.Need-returns
 returns c = (wrote-as (letter-none _ (c .if1 .taken)) (wrote-none _ _), omega arith)
 
--- src/put.rt:39:5
 put-requires : tie.Need-put-requires
 put-requires c κs = search needs
 
--- src/put.rt:40:5
 add-result : tie.Need-add-result
 add-result c = search needs
 
--- src/put.rt:32:1
 same-length : tie.Need-same-length
 same-length c = search needs
 
--- src/put.rt:32:1
 returns-2 : tie.Need-returns-2
 returns-2 c = (wrote-as (letter-one _ (c .before .before .before .before .if1 .left)) (wrote-byte (c .before .before .put .ensures) refl), omega arith)
 

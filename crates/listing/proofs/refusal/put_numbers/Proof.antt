@@ -8,51 +8,39 @@ use Rattle.listing.proofs.refusal.put_numbers.Lts as lts
 use Rattle.listing.proofs.put.put_bytes.Reads as put-bytes-reads
 use Rattle.listing.proofs.put.put_field.Reads as put-field-reads
 
--- src/refusal.rt:53:31
 slice-aggregate-put-field : tie.Need-slice-aggregate-put-field
 slice-aggregate-put-field c = search needs
 
--- src/refusal.rt:53:9
 put-field-requires : tie.Need-put-field-requires
 put-field-requires c κs = search needs
 
--- src/refusal.rt:55:34
 slice-aggregate-put-bytes : tie.Need-slice-aggregate-put-bytes
 slice-aggregate-put-bytes c = search needs
 
--- src/refusal.rt:55:9
 put-bytes-requires : tie.Need-put-bytes-requires
 put-bytes-requires c κs = search needs
 
--- src/refusal.rt:55:9
 same-length : tie.Need-same-length
 same-length c = search needs
 
--- src/refusal.rt:55:9
 returns : tie.Need-returns
 returns c = wrote-as (refused-plain _ _ (c .before .before .before .before .before .if1 .taken)) (wrote-then (c .before .before .before .before .before .before .before .before .put-field .ensures .0) (c .before .before .put-bytes .ensures))
 
--- src/refusal.rt:57:31
 slice-aggregate-put-field-2 : tie.Need-slice-aggregate-put-field-2
 slice-aggregate-put-field-2 c = search needs
 
--- src/refusal.rt:57:9
 put-field-requires-2 : tie.Need-put-field-requires-2
 put-field-requires-2 c κs = search needs
 
--- src/refusal.rt:58:23
 slice-aggregate-put-bytes-2 : tie.Need-slice-aggregate-put-bytes-2
 slice-aggregate-put-bytes-2 c = search needs
 
--- src/refusal.rt:58:5
 put-bytes-requires-2 : tie.Need-put-bytes-requires-2
 put-bytes-requires-2 c κs = search needs
 
--- src/refusal.rt:50:1
 same-length-2 : tie.Need-same-length-2
 same-length-2 c = search needs
 
--- src/refusal.rt:50:1
 returns-2 : tie.Need-returns-2
 returns-2 c = wrote-as (refused-rule _ _ (c .before .before .before .before .before .before .before .before .before .before .if1 .left)) (wrote-then (wrote-then (c .before .before .before .before .before .before .before .before .before .before .before .before .before .put-field .ensures .0) (c .before .before .before .before .before .before .before .put-field2 .ensures .0)) (c .before .before .put-bytes2 .ensures))
 

@@ -10,30 +10,24 @@ use Rattle.sound.proofs.numbers.number_of.Reads as number-of-reads
 use Rattle.listing.proofs.refusal.put_numbers.Reads as put-numbers-reads
 use Rattle.sound.proofs.numbers.rule_of.Reads as rule-of-reads
 
--- src/refusal.rt:65:9
 number-of-requires : tie.Need-number-of-requires
 number-of-requires c κs = search needs
 
 cast-number : tie.Need-cast-number
 cast-number c = search needs
 
--- src/refusal.rt:66:16
 rule-of-requires : tie.Need-rule-of-requires
 rule-of-requires c κs = search needs
 
--- src/refusal.rt:66:16
 cast-rule : tie.Need-cast-rule
 cast-rule c = search needs
 
--- src/refusal.rt:67:5
 put-numbers-requires : tie.Need-put-numbers-requires
 put-numbers-requires c κs = search needs
 
--- src/refusal.rt:62:1
 same-length : tie.Need-same-length
 same-length c = search needs
 
--- src/refusal.rt:62:1
 returns : tie.Need-returns
 returns c = wrote-as (ap₂ refusedLine (c .before .before .before .before .before .number-of .ensures) (c .before .before .before .before .rule-of .ensures)) (c .before .before .put-numbers .ensures)
 

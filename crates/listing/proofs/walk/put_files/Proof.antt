@@ -18,34 +18,27 @@ Inv-loop img out₀ at u z₀ i₀ out z i = (i ≤ 8) × (z ≤ at + 4096 * i) 
 abbrev μ-loop : tie.MeasureT-loop
 μ-loop img out₀ at u z₀ i₀ out z i = 8 - i
 
--- src/walk.rt:39:5
 loop-holds : tie.Need-loop-holds Inv-loop μ-loop
 loop-holds c = (omega arith, omega arith, wrote-as (joined-zero _) (wrote-none _ _))
 
--- src/walk.rt:40:9
 put-page-requires : tie.Need-put-page-requires Inv-loop μ-loop
 put-page-requires c κs = ((c .before .before .before .before .before) .pre .0, (c .before .before .before .before .before) .pre .1, omega arith, omega arith)
 
--- src/walk.rt:41:9
 add-i : tie.Need-add-i Inv-loop μ-loop
 add-i c = omega arith
 
--- src/walk.rt:39:5
 loop-less : tie.Need-loop-less Inv-loop μ-loop
 loop-less c = omega arith
 
--- src/walk.rt:39:5
 loop-again : tie.Need-loop-again Inv-loop μ-loop
 loop-again c = let a = (c .before .before .before .before .before .before .before .before) .args in let l = c .before .before .before .before .before .loop in
     let e : 32 * l .i + 32 ≡ 32 * (l .i + 1) = omega arith in
     let s = joined-add (fileOf (vol (a .img .now)) (a .u)) (32 * l .i) 32 ∙ ap (joined (fileOf (vol (a .img .now)) (a .u))) e in
     (omega arith, omega (arith, c .before .before .put-page .ensures .1), wrote-as s (wrote-then (l .inv .2) (c .before .before .put-page .ensures .0)))
 
--- src/walk.rt:33:1
 same-length : tie.Need-same-length Inv-loop μ-loop
 same-length c = wrote-size (c .before .loop .inv .2)
 
--- src/walk.rt:33:1
 returns : tie.Need-returns Inv-loop μ-loop
 returns c = let a = (c .before .before .before .before) .args in let l = c .before .loop in
     let e : 32 * l .i ≡ 256 = omega arith in

@@ -19,36 +19,28 @@ Inv-loop img out₀ z₀ u₀ out z u = (u ≤ 256) × (z ≤ z₀ + 40000 * u) 
 abbrev μ-loop : tie.MeasureT-loop
 μ-loop img out₀ z₀ u₀ out z u = 256 - u
 
--- src/walk.rt:63:9
 put-head-requires : tie.Need-put-head-requires Inv-loop μ-loop
 put-head-requires c κs = (c .before .before .before) .pre
 
--- src/walk.rt:65:5
 loop-holds : tie.Need-loop-holds Inv-loop μ-loop
 loop-holds c = (omega arith, omega arith, wrote-as (joined-zero _) (wrote-none _ _))
 
--- src/walk.rt:66:9
 put-user-lines-requires : tie.Need-put-user-lines-requires Inv-loop μ-loop
 put-user-lines-requires c κs = ((c .before .before .before .before .before .before .before .before .before) .pre, c .before .loop-test .taken, omega (arith, c .before .before .before .before .before .put-head .ensures .1))
 
--- src/walk.rt:67:9
 add-u : tie.Need-add-u Inv-loop μ-loop
 add-u c = omega arith
 
--- src/walk.rt:65:5
 loop-less : tie.Need-loop-less Inv-loop μ-loop
 loop-less c = omega arith
 
--- src/walk.rt:65:5
 loop-again : tie.Need-loop-again Inv-loop μ-loop
 loop-again c = let a = (c .before .before .before .before .before .before .before .before .before .before .before .before) .args in let l = c .before .before .before .before .before .loop in
     (omega arith, omega (arith, c .before .before .put-user-lines .ensures .1), wrote-as (joined-one (userLines (vol (a .img .now))) (l .u)) (wrote-then (l .inv .2) (c .before .before .put-user-lines .ensures .0)))
 
--- src/walk.rt:59:1
 same-length : tie.Need-same-length Inv-loop μ-loop
 same-length c = wrote-size (c .before .loop .inv .2) ∙ wrote-size (c .before .before .before .before .put-head .ensures .0)
 
--- src/walk.rt:59:1
 returns : tie.Need-returns Inv-loop μ-loop
 unfolding listing
 returns c = let a = (c .before .before .before .before .before .before .before .before) .args in let l = c .before .loop in

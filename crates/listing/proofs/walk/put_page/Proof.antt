@@ -20,66 +20,51 @@ Inv-loop img out₀ at u i b q z₀ k₀ out z k = (k ≤ 32) × (z ≤ at + 128
 abbrev μ-loop : tie.MeasureT-loop
 μ-loop img out₀ at u i b q z₀ k₀ out z k = 32 - k
 
--- src/walk.rt:18:13
 mul-b : tie.Need-mul-b Inv-loop μ-loop
 mul-b c = omega arith
 
--- src/walk.rt:18:23
 mul-b-2 : tie.Need-mul-b-2 Inv-loop μ-loop
 mul-b-2 c = omega arith
 
--- src/walk.rt:18:13
 add-b : tie.Need-add-b Inv-loop μ-loop
 add-b c = omega arith
 
--- src/walk.rt:19:9
 object-page-requires : tie.Need-object-page-requires Inv-loop μ-loop
 object-page-requires c κs = ready-objects _ ((c .before .before) .pre .0)
 
--- src/walk.rt:21:9
 returns : tie.Need-returns Inv-loop μ-loop
 returns c = let a = (c .before .before .before .before) .args in
     (wrote-as (page-none (vol (a .img .now)) (a .u) (a .i) _ (c .before .object-page .ensures .0) (c .if1 .taken)) (wrote-none _ _), omega arith)
 
--- src/walk.rt:25:5
 loop-holds : tie.Need-loop-holds Inv-loop μ-loop
 loop-holds c = (omega arith, omega arith, wrote-as (joined-zero _) (wrote-none _ _))
 
--- src/walk.rt:26:38
 add-put-file : tie.Need-add-put-file Inv-loop μ-loop
 add-put-file c = omega arith
 
--- src/walk.rt:26:45
 mul-put-file : tie.Need-mul-put-file Inv-loop μ-loop
 mul-put-file c = omega arith
 
--- src/walk.rt:26:45
 add-put-file-2 : tie.Need-add-put-file-2 Inv-loop μ-loop
 add-put-file-2 c = omega arith
 
--- src/walk.rt:26:9
 put-file-requires : tie.Need-put-file-requires Inv-loop μ-loop
 put-file-requires c κs = (omega (arith, c .before .before .before .if1 .left), c .before .before .before .before .object-page .ensures .1, omega arith)
 
--- src/walk.rt:27:9
 add-k : tie.Need-add-k Inv-loop μ-loop
 add-k c = omega arith
 
--- src/walk.rt:25:5
 loop-less : tie.Need-loop-less Inv-loop μ-loop
 loop-less c = omega arith
 
--- src/walk.rt:25:5
 loop-again : tie.Need-loop-again Inv-loop μ-loop
 loop-again c = let a = (c .before .before .before .before .before .before .before .before .before .before) .args in let l = c .before .before .before .before .before .loop in let g : ℕ → Bytes = λ j. fileOf (vol (a .img .now)) (a .u) (32 * a .i + j) in
     let s = wrote-as (file-on (vol (a .img .now)) (a .u) (a .i) _ (c .before .before .before .before .before .before .before .object-page .ensures .0) (l .k) (c .before .before .before .before .loop-test .taken)) (c .before .before .put-file .ensures .0) in
     (omega arith, omega (arith, c .before .before .put-file .ensures .1), wrote-as (joined-one g (l .k)) (wrote-then (l .inv .2) s))
 
--- src/walk.rt:14:1
 same-length : tie.Need-same-length Inv-loop μ-loop
 same-length c = wrote-size (c .before .loop .inv .2)
 
--- src/walk.rt:14:1
 returns-2 : tie.Need-returns-2 Inv-loop μ-loop
 returns-2 c = let a = (c .before .before .before .before .before .before) .args in let l = c .before .loop in
     let e : l .k ≡ 32 = omega arith in

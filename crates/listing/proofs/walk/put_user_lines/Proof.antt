@@ -12,28 +12,22 @@ use Rattle.listing.proofs.lines.put_user.Reads as put-user-reads
 use Rattle.listing.proofs.walk.put_files.Reads as put-files-reads
 use Rattle.seek.proofs.users.has_user.Reads as has-user-reads
 
--- src/walk.rt:51:9
 has-user-requires : tie.Need-has-user-requires
 has-user-requires c κs = search needs
 
--- src/walk.rt:52:9
 returns : tie.Need-returns
 returns c = let a = (c .before .before .before .before) .args in
     (wrote-as (user-none (vol (a .img .now)) (a .u) (fails (c .before .has-user .result) _ (c .before .has-user .ensures) (c .if1 .taken))) (wrote-none _ _), omega arith)
 
--- src/walk.rt:54:9
 put-user-requires : tie.Need-put-user-requires
 put-user-requires c κs = ((c .before .before .before .before .before) .pre .0, holds (c .before .before .has-user .result) _ (c .before .before .has-user .ensures) (c .before .if1 .left), omega arith)
 
--- src/walk.rt:55:5
 put-files-requires : tie.Need-put-files-requires
 put-files-requires c κs = search needs
 
--- src/walk.rt:47:1
 same-length : tie.Need-same-length
 same-length c = search needs
 
--- src/walk.rt:47:1
 returns-2 : tie.Need-returns-2
 returns-2 c = let a = (c .before .before .before .before .before .before .before .before .before .before .before .before) .args in (
   wrote-as (user-one (vol (a .img .now)) (a .u) (holds (c .before .before .before .before .before .before .before .before .before .has-user .result) _ (c .before .before .before .before .before .before .before .before .before .has-user .ensures) (c .before .before .before .before .before .before .before .before .if1 .left))) (wrote-then (c .before .before .before .before .before .before .put-user .ensures .0) (c .before .before .put-files .ensures .0)),

@@ -8,23 +8,18 @@ use Rattle.nord.proofs.args.name_args.Reads as reads
 use Rattle.nord.proofs.args.name_args.Lts as lts
 use Rattle.page.proofs.names.text.Reads as text-reads
 
--- src/args.rt:67:9
 returns : tie.Need-returns
 returns c = search needs
 
--- src/args.rt:69:9
 text-requires : tie.Need-text-requires
 text-requires c κs = search needs
 
--- src/args.rt:70:9
 returns-2 : tie.Need-returns-2
 returns-2 c = λ h. fails (c .before .text .result) _ (c .before .text .ensures) (c .if2 .taken) (h .1)
 
--- src/args.rt:72:5
 text-requires-2 : tie.Need-text-requires-2
 text-requires-2 c κs = search needs
 
--- src/args.rt:63:1
 returns-3 : tie.Need-returns-3
 returns-3 c = decides-last (c .text2 .result) _ _ _ (omega arith) (holds (c .before .before .text .result) _ (c .before .before .text .ensures) (c .before .if2 .left)) (c .text2 .ensures)
 

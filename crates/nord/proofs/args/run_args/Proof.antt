@@ -7,23 +7,18 @@ use Rattle.nord.proofs.args.run_args.Reads as reads
 use Rattle.nord.proofs.args.run_args.Lts as lts
 use Rattle.nord.proofs.args.name_args.Reads as name-args-reads
 
--- src/args.rt:79:9
 name-args-requires : tie.Need-name-args-requires
 name-args-requires c κs = search needs
 
--- src/args.rt:80:9
 returns : tie.Need-returns
 returns c = λ h. fails (c .before .name-args .result) _ (c .before .name-args .ensures) (c .if1 .taken) (h .0, h .1, h .2)
 
--- src/args.rt:83:9
 returns-2 : tie.Need-returns-2
 returns-2 c = search needs
 
--- src/args.rt:86:9
 returns-3 : tie.Need-returns-3
 returns-3 c = search needs
 
--- src/args.rt:76:1
 returns-4 : tie.Need-returns-4
 returns-4 c = let a = (holds (c .before .before .before .name-args .result) _ (c .before .before .before .name-args .ensures) (c .before .before .if1 .left)) in (a .0, a .1, a .2, (omega arith, omega arith))
 

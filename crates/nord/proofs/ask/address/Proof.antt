@@ -18,19 +18,15 @@ use Rattle.seek.proofs.positions.address.Reads as address-reads
 use Rattle.seek.proofs.positions.has_position.Reads as has-position-reads
 use Rattle.sound.proofs.gate.Reads as gate-reads
 
--- src/ask.rt:77:9
 file-args-requires : tie.Need-file-args-requires
 file-args-requires c κs = search needs
 
--- src/ask.rt:78:9
 gate-requires : tie.Need-gate-requires
 gate-requires c κs = search needs
 
--- src/ask.rt:79:25
 enum-known-g : tie.Need-enum-known-g
 enum-known-g c = search needs
 
--- src/ask.rt:80:9
 returns : tie.Need-returns
 unfolding addressCall call
 returns c = gate-shut _ _ _ _ _ _ (c .before .before .before .before .file-args .result) (c .before .before .before .before .file-args .ensures) (c .before .before .before .gate .result) _ (c .before .before .before .gate .ensures) (c .before .g .given .1)
@@ -38,24 +34,19 @@ returns c = gate-shut _ _ _ _ _ _ (c .before .before .before .before .file-args 
 enum-told : tie.Need-enum-told
 enum-told c = search needs
 
--- src/ask.rt:82:9
 has-position-requires : tie.Need-has-position-requires
 has-position-requires c κs = let a = (gate-args _ _ (c .before .before .before .file-args .result) (c .before .before .before .file-args .ensures) (c .before .before .gate .result) _ (c .before .before .gate .ensures) (c .enum-told .given .1)) in ((gate-ready _ (c .before .before .before .file-args .result) (c .before .before .gate .result) _ (c .before .before .gate .ensures) (c .enum-told .given .1)), omega (arith, a .0), omega (arith, a .1))
 
--- src/ask.rt:83:9
 returns-2 : tie.Need-returns-2
 unfolding addressCall call positionRows Lowest
 returns-2 c = refuse _ _ _ _ _ _ (gate-ready _ (c .before .before .before .before .before .file-args .result) (c .before .before .before .before .gate .result) _ (c .before .before .before .before .gate .ensures) (c .before .before .enum-told .given .1)) (gate-args _ _ (c .before .before .before .before .before .file-args .result) (c .before .before .before .before .before .file-args .ensures) (c .before .before .before .before .gate .result) _ (c .before .before .before .before .gate .ensures) (c .before .before .enum-told .given .1)) Missing refl (λ e. let z : ⊥ = omega arith in z) (inl (refl, fails (c .before .has-position .result) _ (c .before .has-position .ensures) (c .if1 .taken)))
 
--- src/ask.rt:87:23
 address-requires : tie.Need-address-requires
 address-requires c κs = let a = (gate-args _ _ (c .before .before .before .before .before .file-args .result) (c .before .before .before .before .before .file-args .ensures) (c .before .before .before .before .gate .result) _ (c .before .before .before .before .gate .ensures) (c .before .before .enum-told .given .1)) in ((gate-ready _ (c .before .before .before .before .before .file-args .result) (c .before .before .before .before .gate .result) _ (c .before .before .before .before .gate .ensures) (c .before .before .enum-told .given .1)), omega (arith, a .0), omega (arith, a .1))
 
--- src/ask.rt:87:9
 short-requires : tie.Need-short-requires
 short-requires c κs = let W = (gate-ready _ (c .before .before .before .before .before .before .file-args .result) (c .before .before .before .before .before .gate .result) _ (c .before .before .before .before .before .gate .ensures) (c .before .before .before .enum-told .given .1)) .whole in omega (arith, c .address .ensures .1, W .most)
 
--- src/ask.rt:74:1
 returns-3 : tie.Need-returns-3
 unfolding addressCall call positionRows Clear
 returns-3 c = done _ _ _ _ _ _ (gate-ready _ (c .before .before .before .before .before .before .before .file-args .result) (c .before .before .before .before .before .before .gate .result) _ (c .before .before .before .before .before .before .gate .ensures) (c .before .before .before .before .enum-told .given .1)) (gate-args _ _ (c .before .before .before .before .before .before .before .file-args .result) (c .before .before .before .before .before .before .before .file-args .ensures) (c .before .before .before .before .before .before .gate .result) _ (c .before .before .before .before .before .before .gate .ensures) (c .before .before .before .before .enum-told .given .1)) (holds (c .before .before .before .has-position .result) _ (c .before .before .before .has-position .ensures) (c .before .before .if1 .left), tt) _ (c .short .ensures ∙ c .before .address .ensures .0) _ refl refl

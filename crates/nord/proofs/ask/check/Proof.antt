@@ -15,24 +15,19 @@ use Rattle.nord.proofs.ask.check.Reads as reads
 use Rattle.nord.proofs.ask.check.Lts as lts
 use Rattle.sound.proofs.gate.Reads as gate-reads
 
--- src/ask.rt:17:9
 gate-requires : tie.Need-gate-requires
 gate-requires c κs = search needs
 
--- src/ask.rt:19:22
 enum-known-g : tie.Need-enum-known-g
 enum-known-g c = search needs
 
--- src/ask.rt:20:22
 enum-known-g-2 : tie.Need-enum-known-g-2
 enum-known-g-2 c = search needs
 
--- src/ask.rt:14:1
 returns : tie.Need-returns
 unfolding checkCall call
 returns c = gate-shut _ _ _ _ _ _ true tt (c .before .before .before .gate .result) _ (c .before .before .before .gate .ensures) (c .before .g .given .1)
 
--- src/ask.rt:14:1
 returns-2 : tie.Need-returns-2
 unfolding checkCall call Clear
 returns-2 c =

@@ -18,19 +18,15 @@ use Rattle.seek.proofs.find.find_file.Reads as find-file-reads
 use Rattle.seek.proofs.users.has_user.Reads as has-user-reads
 use Rattle.sound.proofs.gate.Reads as gate-reads
 
--- src/ask.rt:46:9
 name-args-requires : tie.Need-name-args-requires
 name-args-requires c κs = search needs
 
--- src/ask.rt:47:9
 gate-requires : tie.Need-gate-requires
 gate-requires c κs = search needs
 
--- src/ask.rt:48:25
 enum-known-g : tie.Need-enum-known-g
 enum-known-g c = search needs
 
--- src/ask.rt:49:9
 returns : tie.Need-returns
 unfolding findFileCall
 returns c = gate-shut _ _ _ _ _ _ (c .before .before .before .before .name-args .result) (c .before .before .before .before .name-args .ensures) (c .before .before .before .gate .result) _ (c .before .before .before .gate .ensures) (c .before .g .given .1)
@@ -38,33 +34,26 @@ returns c = gate-shut _ _ _ _ _ _ (c .before .before .before .before .name-args 
 enum-told : tie.Need-enum-told
 enum-told c = search needs
 
--- src/ask.rt:51:9
 has-user-requires : tie.Need-has-user-requires
 has-user-requires c κs = (gate-ready _ (c .before .before .before .name-args .result) (c .before .before .gate .result) _ (c .before .before .gate .ensures) (c .enum-told .given .1))
 
--- src/ask.rt:52:9
 returns-2 : tie.Need-returns-2
 unfolding findFileCall Lowest
 returns-2 c = refuse _ _ _ _ _ _ (gate-ready _ (c .before .before .before .before .before .name-args .result) (c .before .before .before .before .gate .result) _ (c .before .before .before .before .gate .ensures) (c .before .before .enum-told .given .1)) (gate-args _ _ (c .before .before .before .before .before .name-args .result) (c .before .before .before .before .before .name-args .ensures) (c .before .before .before .before .gate .result) _ (c .before .before .before .before .gate .ensures) (c .before .before .enum-told .given .1)) Missing refl (λ e. let z : ⊥ = omega arith in z) (inl (refl, λ h. fails (c .before .has-user .result) _ (c .before .has-user .ensures) (c .if1 .taken) (h .0)))
 
--- src/ask.rt:56:9
 find-file-requires : tie.Need-find-file-requires
 find-file-requires c κs = let a = (gate-args _ _ (c .before .before .before .before .before .name-args .result) (c .before .before .before .before .before .name-args .ensures) (c .before .before .before .before .gate .result) _ (c .before .before .before .before .gate .ensures) (c .before .before .enum-told .given .1)) in ((gate-ready _ (c .before .before .before .before .before .name-args .result) (c .before .before .before .before .gate .result) _ (c .before .before .before .before .gate .ensures) (c .before .before .enum-told .given .1)), omega (arith, a .0))
 
--- src/ask.rt:57:21
 enum-known-found : tie.Need-enum-known-found
 enum-known-found c = search needs
 
--- src/ask.rt:59:18
 enum-told-2 : tie.Need-enum-told-2
 enum-told-2 c = search needs
 
--- src/ask.rt:58:9
 returns-3 : tie.Need-returns-3
 unfolding findFileCall Lowest
 returns-3 c = refuse _ _ _ _ _ _ (gate-ready _ (c .before .before .before .before .before .before .before .before .name-args .result) (c .before .before .before .before .before .before .before .gate .result) _ (c .before .before .before .before .before .before .before .gate .ensures) (c .before .before .before .before .before .enum-told .given .1)) (gate-args _ _ (c .before .before .before .before .before .before .before .before .name-args .result) (c .before .before .before .before .before .before .before .before .name-args .ensures) (c .before .before .before .before .before .before .before .gate .result) _ (c .before .before .before .before .before .before .before .gate .ensures) (c .before .before .before .before .before .enum-told .given .1)) Missing refl (λ e. let z : ⊥ = omega arith in z) (inl (refl, λ h. found-none _ (c .before .before .find-file .result) (c .enum-told2 .given .1) (c .before .before .find-file .ensures) (h .1 .0) (h .1 .1)))
 
--- src/ask.rt:43:1
 returns-4 : tie.Need-returns-4
 unfolding findFileCall Clear
 returns-4 c =

@@ -17,19 +17,15 @@ use Rattle.page.proofs.names.text.Reads as text-reads
 use Rattle.seek.proofs.find.find_user.Reads as find-user-reads
 use Rattle.sound.proofs.gate.Reads as gate-reads
 
--- src/ask.rt:28:9
 text-requires : tie.Need-text-requires
 text-requires c κs = search needs
 
--- src/ask.rt:29:9
 gate-requires : tie.Need-gate-requires
 gate-requires c κs = search needs
 
--- src/ask.rt:30:25
 enum-known-g : tie.Need-enum-known-g
 enum-known-g c = search needs
 
--- src/ask.rt:31:9
 returns : tie.Need-returns
 unfolding findUserCall
 returns c = gate-shut _ _ _ _ _ _ (c .before .before .before .before .text .result) (c .before .before .before .before .text .ensures) (c .before .before .before .gate .result) _ (c .before .before .before .gate .ensures) (c .before .g .given .1)
@@ -37,24 +33,19 @@ returns c = gate-shut _ _ _ _ _ _ (c .before .before .before .before .text .resu
 enum-told : tie.Need-enum-told
 enum-told c = search needs
 
--- src/ask.rt:33:9
 find-user-requires : tie.Need-find-user-requires
 find-user-requires c κs = (gate-ready _ (c .before .before .before .text .result) (c .before .before .gate .result) _ (c .before .before .gate .ensures) (c .enum-told .given .1))
 
--- src/ask.rt:34:21
 enum-known-found : tie.Need-enum-known-found
 enum-known-found c = search needs
 
--- src/ask.rt:36:18
 enum-told-2 : tie.Need-enum-told-2
 enum-told-2 c = search needs
 
--- src/ask.rt:35:9
 returns-2 : tie.Need-returns-2
 unfolding findUserCall Lowest
 returns-2 c = refuse _ _ _ _ _ _ (gate-ready _ (c .before .before .before .before .before .before .text .result) (c .before .before .before .before .before .gate .result) _ (c .before .before .before .before .before .gate .ensures) (c .before .before .before .enum-told .given .1)) (gate-args _ _ (c .before .before .before .before .before .before .text .result) (c .before .before .before .before .before .before .text .ensures) (c .before .before .before .before .before .gate .result) _ (c .before .before .before .before .before .gate .ensures) (c .before .before .before .enum-told .given .1)) Missing refl (λ e. let z : ⊥ = omega arith in z) (inl (refl, λ h. found-none _ (c .before .before .find-user .result) (c .enum-told2 .given .1) (c .before .before .find-user .ensures) (h .0) (h .1)))
 
--- src/ask.rt:25:1
 returns-3 : tie.Need-returns-3
 unfolding findUserCall Clear
 returns-3 c =

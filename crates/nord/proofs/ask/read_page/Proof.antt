@@ -20,23 +20,18 @@ use Rattle.seek.proofs.positions.address.Reads as address-reads
 use Rattle.seek.proofs.positions.has_position.Reads as has-position-reads
 use Rattle.sound.proofs.gate.Reads as gate-reads
 
--- src/ask.rt:94:9
 file-args-requires : tie.Need-file-args-requires
 file-args-requires c κs = search needs
 
--- src/ask.rt:95:9
 gate-requires : tie.Need-gate-requires
 gate-requires c κs = search needs
 
--- src/ask.rt:97:9
 enum-told : tie.Need-enum-told
 enum-told c = search needs
 
--- src/ask.rt:97:9
 empty-requires : tie.Need-empty-requires
 empty-requires c κs = search needs
 
--- src/ask.rt:97:9
 returns : tie.Need-returns
 unfolding readCall
 returns c = gives-shut _ _ _ _ _ _ (c .before .before .before .before .file-args .result) (c .before .before .before .before .file-args .ensures) (c .before .before .before .gate .result) _ (c .before .before .before .gate .ensures) (c .before .enum-told .given .1) _ (c .empty .ensures)
@@ -44,28 +39,22 @@ returns c = gives-shut _ _ _ _ _ _ (c .before .before .before .before .file-args
 enum-told-2 : tie.Need-enum-told-2
 enum-told-2 c = search needs
 
--- src/ask.rt:99:9
 has-position-requires : tie.Need-has-position-requires
 has-position-requires c κs = let a = (gate-args _ _ (c .before .before .before .file-args .result) (c .before .before .before .file-args .ensures) (c .before .before .gate .result) _ (c .before .before .gate .ensures) (c .enum-told2 .given .1)) in ((gate-ready _ (c .before .before .before .file-args .result) (c .before .before .gate .result) _ (c .before .before .gate .ensures) (c .enum-told2 .given .1)), omega (arith, a .0), omega (arith, a .1))
 
--- src/ask.rt:100:9
 empty-requires-2 : tie.Need-empty-requires-2
 empty-requires-2 c κs = search needs
 
--- src/ask.rt:100:9
 returns-2 : tie.Need-returns-2
 unfolding readCall positionRows Lowest
 returns-2 c = gives-refuse _ _ _ _ _ _ (gate-ready _ (c .before .before .before .before .before .before .file-args .result) (c .before .before .before .before .before .gate .result) _ (c .before .before .before .before .before .gate .ensures) (c .before .before .before .enum-told2 .given .1)) (gate-args _ _ (c .before .before .before .before .before .before .file-args .result) (c .before .before .before .before .before .before .file-args .ensures) (c .before .before .before .before .before .gate .result) _ (c .before .before .before .before .before .gate .ensures) (c .before .before .before .enum-told2 .given .1)) Missing refl (λ e. let z : ⊥ = omega arith in z) (inl (refl, fails (c .before .before .has-position .result) _ (c .before .before .has-position .ensures) (c .before .if1 .taken))) _ (c .empty2 .ensures)
 
--- src/ask.rt:102:32
 address-requires : tie.Need-address-requires
 address-requires c κs = let a = (gate-args _ _ (c .before .before .before .before .before .file-args .result) (c .before .before .before .before .before .file-args .ensures) (c .before .before .before .before .gate .result) _ (c .before .before .before .before .gate .ensures) (c .before .before .enum-told2 .given .1)) in ((gate-ready _ (c .before .before .before .before .before .file-args .result) (c .before .before .before .before .gate .result) _ (c .before .before .before .before .gate .ensures) (c .before .before .enum-told2 .given .1)), omega (arith, a .0), omega (arith, a .1))
 
--- src/ask.rt:102:5
 page-part-requires : tie.Need-page-part-requires
 page-part-requires c κs = search needs
 
--- src/ask.rt:91:1
 returns-3 : tie.Need-returns-3
 unfolding readCall positionRows Clear
 returns-3 c = gives-done _ _ _ _ _ _ (gate-ready _ (c .before .before .before .before .before .before .before .file-args .result) (c .before .before .before .before .before .before .gate .result) _ (c .before .before .before .before .before .before .gate .ensures) (c .before .before .before .before .enum-told2 .given .1)) (gate-args _ _ (c .before .before .before .before .before .before .before .file-args .result) (c .before .before .before .before .before .before .before .file-args .ensures) (c .before .before .before .before .before .before .gate .result) _ (c .before .before .before .before .before .before .gate .ensures) (c .before .before .before .before .enum-told2 .given .1)) (holds (c .before .before .before .has-position .result) _ (c .before .before .before .has-position .ensures) (c .before .before .if1 .left), tt) _ (c .page-part .ensures ∙ ap (partAt _) (c .before .address .ensures .0)) refl

@@ -11,19 +11,15 @@ use Rattle.nord.proofs.ask.page_arg.Reads as page-arg-reads
 use Rattle.sound.proofs.gate.Reads as gate-reads
 use Rattle.who.proofs.tell.who.Reads as who-reads
 
--- src/ask.rt:123:9
 page-arg-requires : tie.Need-page-arg-requires
 page-arg-requires c κs = search needs
 
--- src/ask.rt:124:9
 gate-requires : tie.Need-gate-requires
 gate-requires c κs = search needs
 
--- src/ask.rt:125:25
 enum-known-g : tie.Need-enum-known-g
 enum-known-g c = search needs
 
--- src/ask.rt:126:9
 returns : tie.Need-returns
 unfolding whoCall
 returns c = gate-shut _ _ _ _ _ _ (c .before .before .before .before .page-arg .result) (c .before .before .before .before .page-arg .ensures) (c .before .before .before .gate .result) _ (c .before .before .before .gate .ensures) (c .before .g .given .1)
@@ -31,11 +27,9 @@ returns c = gate-shut _ _ _ _ _ _ (c .before .before .before .before .page-arg .
 enum-told : tie.Need-enum-told
 enum-told c = search needs
 
--- src/ask.rt:129:17
 who-requires : tie.Need-who-requires
 who-requires c κs = ((gate-ready _ (c .before .before .before .page-arg .result) (c .before .before .gate .result) _ (c .before .before .gate .ensures) (c .enum-told .given .1)), (gate-args _ _ (c .before .before .before .page-arg .result) (c .before .before .before .page-arg .ensures) (c .before .before .gate .result) _ (c .before .before .gate .ensures) (c .enum-told .given .1)))
 
--- src/ask.rt:120:1
 returns-2 : tie.Need-returns-2
 unfolding whoCall Clear
 returns-2 c = done _ _ _ _ _ _ (gate-ready _ (c .before .before .before .before .page-arg .result) (c .before .before .before .gate .result) _ (c .before .before .before .gate .ensures) (c .before .enum-told .given .1)) (gate-args _ _ (c .before .before .before .before .page-arg .result) (c .before .before .before .before .page-arg .ensures) (c .before .before .before .gate .result) _ (c .before .before .before .gate .ensures) (c .before .enum-told .given .1)) tt _ (c .who .ensures) _ refl refl

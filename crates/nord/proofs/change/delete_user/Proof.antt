@@ -18,23 +18,18 @@ use Rattle.seek.proofs.users.has_user.Reads as has-user-reads
 use Rattle.sound.proofs.gate.Reads as gate-reads
 use Rattle.steps.proofs.users.delete_user_step.Reads as delete-user-step-reads
 
--- src/change.rt:70:9
 user-arg-requires : tie.Need-user-arg-requires
 user-arg-requires c κs = search needs
 
--- src/change.rt:71:9
 gate-requires : tie.Need-gate-requires
 gate-requires c κs = search needs
 
--- src/change.rt:72:25
 enum-known-g : tie.Need-enum-known-g
 enum-known-g c = search needs
 
--- src/change.rt:73:9
 same-length : tie.Need-same-length
 same-length c = search needs
 
--- src/change.rt:73:9
 returns : tie.Need-returns
 unfolding deleteUserCall call
 returns c =
@@ -43,16 +38,13 @@ returns c =
 enum-told : tie.Need-enum-told
 enum-told c = search needs
 
--- src/change.rt:75:9
 has-user-requires : tie.Need-has-user-requires
 has-user-requires c κs =
     gate-ready _ (c .before .before .before .before .before .user-arg .result) (c .before .before .before .gate .result) _ (c .before .before .before .gate .ensures) (c .before .enum-told .given .1)
 
--- src/change.rt:76:9
 same-length-2 : tie.Need-same-length-2
 same-length-2 c = search needs
 
--- src/change.rt:76:9
 returns-2 : tie.Need-returns-2
 unfolding deleteUserCall call Lowest
 returns-2 c =
@@ -60,16 +52,13 @@ returns-2 c =
     refuse _ _ _ _ _ _ (gate-ready _ (c .before .before .before .before .before .before .before .user-arg .result) (c .before .before .before .before .before .gate .result) _ (c .before .before .before .before .before .gate .ensures) (c .before .before .before .enum-told .given .1)) a Missing refl (λ e. let z : ⊥ = omega (arith, e) in z)
     (inl (refl, fails (c .before .has-user .result) _ (c .before .has-user .ensures) (c .if1 .taken)))
 
--- src/change.rt:80:9
 no-files-requires : tie.Need-no-files-requires
 no-files-requires c κs =
     let a = gate-args _ _ (c .before .before .before .before .before .before .before .before .user-arg .result) (c .before .before .before .before .before .before .before .before .user-arg .ensures) (c .before .before .before .before .before .before .gate .result) _ (c .before .before .before .before .before .before .gate .ensures) (c .before .before .before .before .enum-told .given .1) in (gate-ready _ (c .before .before .before .before .before .before .before .before .user-arg .result) (c .before .before .before .before .before .before .gate .result) _ (c .before .before .before .before .before .before .gate .ensures) (c .before .before .before .before .enum-told .given .1), omega (arith, a))
 
--- src/change.rt:81:9
 same-length-3 : tie.Need-same-length-3
 same-length-3 c = search needs
 
--- src/change.rt:81:9
 returns-3 : tie.Need-returns-3
 unfolding deleteUserCall call Lowest
 returns-3 c =
@@ -77,16 +66,13 @@ returns-3 c =
     refuse _ _ _ _ _ _ (gate-ready _ (c .before .before .before .before .before .before .before .before .before .before .user-arg .result) (c .before .before .before .before .before .before .before .before .gate .result) _ (c .before .before .before .before .before .before .before .before .gate .ensures) (c .before .before .before .before .before .before .enum-told .given .1)) a HasFiles refl (λ e. let z : ⊥ = omega (arith, e) in z)
     (inr (holds (c .before .before .before .before .has-user .result) _ (c .before .before .before .before .has-user .ensures) (c .before .before .before .if1 .left), inl (refl, fails (c .before .no-files .result) _ (c .before .no-files .ensures) (c .if2 .taken))))
 
--- src/change.rt:85:5
 delete-user-step-requires : tie.Need-delete-user-step-requires
 delete-user-step-requires c κs =
     let a = gate-args _ _ (c .before .before .before .before .before .before .before .before .before .before .before .user-arg .result) (c .before .before .before .before .before .before .before .before .before .before .before .user-arg .ensures) (c .before .before .before .before .before .before .before .before .before .gate .result) _ (c .before .before .before .before .before .before .before .before .before .gate .ensures) (c .before .before .before .before .before .before .before .enum-told .given .1) in (gate-ready _ (c .before .before .before .before .before .before .before .before .before .before .before .user-arg .result) (c .before .before .before .before .before .before .before .before .before .gate .result) _ (c .before .before .before .before .before .before .before .before .before .gate .ensures) (c .before .before .before .before .before .before .before .enum-told .given .1), omega (arith, a), holds (c .before .before .before .before .before .has-user .result) _ (c .before .before .before .before .before .has-user .ensures) (c .before .before .before .before .if1 .left))
 
--- src/change.rt:67:1
 same-length-4 : tie.Need-same-length-4
 same-length-4 c = search needs
 
--- src/change.rt:67:1
 returns-4 : tie.Need-returns-4
 unfolding deleteUserCall call Clear
 returns-4 c =

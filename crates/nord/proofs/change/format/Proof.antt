@@ -10,43 +10,34 @@ use Rattle.nord.proofs.change.format_args.Reads as format-args-reads
 use Rattle.sound.proofs.whole.Reads as whole-reads
 use Rattle.steps.proofs.format.format_step.Reads as format-step-reads
 
--- src/change.rt:148:9
 whole-requires : tie.Need-whole-requires
 whole-requires c κs = search needs
 
--- src/change.rt:149:9
 same-length : tie.Need-same-length
 same-length c = search needs
 
--- src/change.rt:149:9
 returns : tie.Need-returns
 returns c =
     format-size _ _ _ (fails (c .before .whole .result) _ (c .before .whole .ensures) (c .if1 .taken))
 
--- src/change.rt:152:9
 format-args-requires : tie.Need-format-args-requires
 format-args-requires c κs =
     search needs
 
--- src/change.rt:153:9
 same-length-2 : tie.Need-same-length-2
 same-length-2 c = search needs
 
--- src/change.rt:153:9
 returns-2 : tie.Need-returns-2
 returns-2 c =
     format-argument _ _ _ (holds (c .before .before .before .whole .result) _ (c .before .before .before .whole .ensures) (c .before .before .if1 .left)) _ (omega arith) (fails (c .before .format-args .result) _ (c .before .format-args .ensures) (c .if2 .taken))
 
--- src/change.rt:157:5
 format-step-requires : tie.Need-format-step-requires
 format-step-requires c κs =
     let W = holds (c .before .before .before .before .whole .result) _ (c .before .before .before .before .whole .ensures) (c .before .before .before .if1 .left) in let a = holds (c .before .before .format-args .result) _ (c .before .before .format-args .ensures) (c .before .if2 .left) in (W, a .0, bit-arg _ _ W _ (omega arith) (a .1) (a .2))
 
--- src/change.rt:145:1
 same-length-3 : tie.Need-same-length-3
 same-length-3 c = search needs
 
--- src/change.rt:145:1
 returns-3 : tie.Need-returns-3
 returns-3 c =
     format-done _ _ _ (holds (c .before .before .before .before .before .before .before .whole .result) _ (c .before .before .before .before .before .before .before .whole .ensures) (c .before .before .before .before .before .before .if1 .left)) _ (omega arith) (holds (c .before .before .before .before .before .format-args .result) _ (c .before .before .before .before .before .format-args .ensures) (c .before .before .before .before .if2 .left)) _ (c .before .before .format-step .ensures) (c .before .before .format-step .kept .0)

@@ -7,25 +7,20 @@ use Rattle.nord.proofs.change.format_args.Reads as reads
 use Rattle.nord.proofs.change.format_args.Lts as lts
 use Rattle.page.proofs.names.text.Reads as text-reads
 
--- src/change.rt:132:9
 text-requires : tie.Need-text-requires
 text-requires c κs = search needs
 
--- src/change.rt:133:9
 returns : tie.Need-returns
 returns c =
     λ a. fails (c .before .text .result) _ (c .before .text .ensures) (c .if1 .taken) (a .0)
 
--- src/change.rt:136:9
 returns-2 : tie.Need-returns-2
 returns-2 c = search needs
 
--- src/change.rt:139:9
 returns-3 : tie.Need-returns-3
 returns-3 c =
     λ a. omega (arith, a .2, c .if3 .taken)
 
--- src/change.rt:128:1
 returns-4 : tie.Need-returns-4
 returns-4 c =
     (holds (c .before .before .before .text .result) _ (c .before .before .before .text .ensures) (c .before .before .if1 .left), omega arith, omega arith)

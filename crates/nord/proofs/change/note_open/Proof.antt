@@ -19,23 +19,18 @@ use Rattle.seek.proofs.files.has_file.Reads as has-file-reads
 use Rattle.sound.proofs.gate.Reads as gate-reads
 use Rattle.steps.proofs.opens.open_step.Reads as open-step-reads
 
--- src/change.rt:93:9
 file-args-requires : tie.Need-file-args-requires
 file-args-requires c κs = search needs
 
--- src/change.rt:94:9
 gate-requires : tie.Need-gate-requires
 gate-requires c κs = search needs
 
--- src/change.rt:95:25
 enum-known-g : tie.Need-enum-known-g
 enum-known-g c = search needs
 
--- src/change.rt:96:9
 same-length : tie.Need-same-length
 same-length c = search needs
 
--- src/change.rt:96:9
 returns : tie.Need-returns
 unfolding openCall call
 returns c =
@@ -44,16 +39,13 @@ returns c =
 enum-told : tie.Need-enum-told
 enum-told c = search needs
 
--- src/change.rt:98:9
 has-file-requires : tie.Need-has-file-requires
 has-file-requires c κs =
     let a = gate-args _ _ (c .before .before .before .before .before .file-args .result) (c .before .before .before .before .before .file-args .ensures) (c .before .before .before .gate .result) _ (c .before .before .before .gate .ensures) (c .before .enum-told .given .1) in (gate-ready _ (c .before .before .before .before .before .file-args .result) (c .before .before .before .gate .result) _ (c .before .before .before .gate .ensures) (c .before .enum-told .given .1), omega (arith, a .0), omega (arith, a .1))
 
--- src/change.rt:99:9
 same-length-2 : tie.Need-same-length-2
 same-length-2 c = search needs
 
--- src/change.rt:99:9
 returns-2 : tie.Need-returns-2
 unfolding openCall call Lowest
 returns-2 c =
@@ -61,21 +53,17 @@ returns-2 c =
     refuse _ _ _ _ _ _ (gate-ready _ (c .before .before .before .before .before .before .before .file-args .result) (c .before .before .before .before .before .gate .result) _ (c .before .before .before .before .before .gate .ensures) (c .before .before .before .enum-told .given .1)) a Missing refl (λ e. let z : ⊥ = omega (arith, e) in z)
     (inl (refl, fails (c .before .has-file .result) _ (c .before .has-file .ensures) (c .if1 .taken)))
 
--- src/change.rt:103:9
 entry-number-requires : tie.Need-entry-number-requires
 entry-number-requires c κs =
     let a = gate-args _ _ (c .before .before .before .before .before .before .before .file-args .result) (c .before .before .before .before .before .before .before .file-args .ensures) (c .before .before .before .before .before .gate .result) _ (c .before .before .before .before .before .gate .ensures) (c .before .before .before .enum-told .given .1) in (omega (arith, a .0), omega (arith, a .1))
 
--- src/change.rt:104:5
 open-step-requires : tie.Need-open-step-requires
 open-step-requires c κs =
     let h = holds (c .before .before .before .has-file .result) _ (c .before .before .before .has-file .ensures) (c .before .before .if1 .left) in let e = c .before .entry-number .ensures in (gate-ready _ (c .before .before .before .before .before .before .before .before .before .file-args .result) (c .before .before .before .before .before .before .before .gate .result) _ (c .before .before .before .before .before .before .before .gate .ensures) (c .before .before .before .before .before .enum-told .given .1), e .1, used-at _ _ _ (e .0) (h .1))
 
--- src/change.rt:90:1
 same-length-3 : tie.Need-same-length-3
 same-length-3 c = search needs
 
--- src/change.rt:90:1
 returns-3 : tie.Need-returns-3
 unfolding openCall call Clear
 returns-3 c =

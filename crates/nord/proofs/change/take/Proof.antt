@@ -18,23 +18,18 @@ use Rattle.seek.proofs.users.spare.Reads as spare-reads
 use Rattle.sound.proofs.gate.Reads as gate-reads
 use Rattle.steps.proofs.counts.take_step.Reads as take-step-reads
 
--- src/change.rt:47:9
 count-args-requires : tie.Need-count-args-requires
 count-args-requires c κs = search needs
 
--- src/change.rt:48:9
 gate-requires : tie.Need-gate-requires
 gate-requires c κs = search needs
 
--- src/change.rt:49:25
 enum-known-g : tie.Need-enum-known-g
 enum-known-g c = search needs
 
--- src/change.rt:50:9
 same-length : tie.Need-same-length
 same-length c = search needs
 
--- src/change.rt:50:9
 returns : tie.Need-returns
 unfolding takeCall call
 returns c =
@@ -43,16 +38,13 @@ returns c =
 enum-told : tie.Need-enum-told
 enum-told c = search needs
 
--- src/change.rt:52:9
 has-user-requires : tie.Need-has-user-requires
 has-user-requires c κs =
     gate-ready _ (c .before .before .before .before .before .count-args .result) (c .before .before .before .gate .result) _ (c .before .before .before .gate .ensures) (c .before .enum-told .given .1)
 
--- src/change.rt:53:9
 same-length-2 : tie.Need-same-length-2
 same-length-2 c = search needs
 
--- src/change.rt:53:9
 returns-2 : tie.Need-returns-2
 unfolding takeCall call Lowest
 returns-2 c =
@@ -60,16 +52,13 @@ returns-2 c =
     refuse _ _ _ _ _ _ (gate-ready _ (c .before .before .before .before .before .before .before .count-args .result) (c .before .before .before .before .before .gate .result) _ (c .before .before .before .before .before .gate .ensures) (c .before .before .before .enum-told .given .1)) a Missing refl (λ e. let z : ⊥ = omega (arith, e) in z)
     (inl (refl, fails (c .before .has-user .result) _ (c .before .has-user .ensures) (c .if1 .taken)))
 
--- src/change.rt:57:8
 spare-requires : tie.Need-spare-requires
 spare-requires c κs =
     let a = gate-args _ _ (c .before .before .before .before .before .before .before .before .count-args .result) (c .before .before .before .before .before .before .before .before .count-args .ensures) (c .before .before .before .before .before .before .gate .result) _ (c .before .before .before .before .before .before .gate .ensures) (c .before .before .before .before .enum-told .given .1) in (gate-ready _ (c .before .before .before .before .before .before .before .before .count-args .result) (c .before .before .before .before .before .before .gate .result) _ (c .before .before .before .before .before .before .gate .ensures) (c .before .before .before .before .enum-told .given .1), omega (arith, a .0), holds (c .before .before .has-user .result) _ (c .before .before .has-user .ensures) (c .before .if1 .left))
 
--- src/change.rt:58:9
 same-length-3 : tie.Need-same-length-3
 same-length-3 c = search needs
 
--- src/change.rt:58:9
 returns-3 : tie.Need-returns-3
 unfolding takeCall call Lowest
 returns-3 c =
@@ -77,16 +66,13 @@ returns-3 c =
     refuse _ _ _ _ _ _ (gate-ready _ (c .before .before .before .before .before .before .before .before .before .before .count-args .result) (c .before .before .before .before .before .before .before .before .gate .result) _ (c .before .before .before .before .before .before .before .before .gate .ensures) (c .before .before .before .before .before .before .enum-told .given .1)) a Allowance refl (λ e. let z : ⊥ = omega (arith, e) in z)
     (inr (holds (c .before .before .before .before .has-user .result) _ (c .before .before .before .before .has-user .ensures) (c .before .before .before .if1 .left), inl (refl, λ h. let t = c .if2 .taken in let z : ⊥ = omega (arith, h, c .before .spare .ensures .0) in z)))
 
--- src/change.rt:62:5
 take-step-requires : tie.Need-take-step-requires
 take-step-requires c κs =
     let a = gate-args _ _ (c .before .before .before .before .before .before .before .before .before .before .before .count-args .result) (c .before .before .before .before .before .before .before .before .before .before .before .count-args .ensures) (c .before .before .before .before .before .before .before .before .before .gate .result) _ (c .before .before .before .before .before .before .before .before .before .gate .ensures) (c .before .before .before .before .before .before .before .enum-told .given .1) in let t = c .before .if2 .left in (gate-ready _ (c .before .before .before .before .before .before .before .before .before .before .before .count-args .result) (c .before .before .before .before .before .before .before .before .before .gate .result) _ (c .before .before .before .before .before .before .before .before .before .gate .ensures) (c .before .before .before .before .before .before .before .enum-told .given .1), omega (arith, a .0), holds (c .before .before .before .before .before .has-user .result) _ (c .before .before .before .before .before .has-user .ensures) (c .before .before .before .before .if1 .left), omega (arith, c .before .before .spare .ensures .0))
 
--- src/change.rt:44:1
 same-length-4 : tie.Need-same-length-4
 same-length-4 c = search needs
 
--- src/change.rt:44:1
 returns-4 : tie.Need-returns-4
 unfolding takeCall call Clear
 returns-4 c =

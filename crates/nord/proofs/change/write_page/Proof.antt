@@ -19,23 +19,18 @@ use Rattle.seek.proofs.positions.has_position.Reads as has-position-reads
 use Rattle.sound.proofs.gate.Reads as gate-reads
 use Rattle.steps.proofs.write.write_step.Reads as write-step-reads
 
--- src/change.rt:112:9
 page-args-requires : tie.Need-page-args-requires
 page-args-requires c κs = search needs
 
--- src/change.rt:113:9
 gate-requires : tie.Need-gate-requires
 gate-requires c κs = search needs
 
--- src/change.rt:114:25
 enum-known-g : tie.Need-enum-known-g
 enum-known-g c = search needs
 
--- src/change.rt:115:9
 same-length : tie.Need-same-length
 same-length c = search needs
 
--- src/change.rt:115:9
 returns : tie.Need-returns
 unfolding writeCall call positionRows
 returns c =
@@ -44,16 +39,13 @@ returns c =
 enum-told : tie.Need-enum-told
 enum-told c = search needs
 
--- src/change.rt:117:9
 has-position-requires : tie.Need-has-position-requires
 has-position-requires c κs =
     let a = gate-args _ _ (c .before .before .before .before .before .page-args .result) (c .before .before .before .before .before .page-args .ensures) (c .before .before .before .gate .result) _ (c .before .before .before .gate .ensures) (c .before .enum-told .given .1) in (gate-ready _ (c .before .before .before .before .before .page-args .result) (c .before .before .before .gate .result) _ (c .before .before .before .gate .ensures) (c .before .enum-told .given .1), omega (arith, a .0), omega (arith, a .1))
 
--- src/change.rt:118:9
 same-length-2 : tie.Need-same-length-2
 same-length-2 c = search needs
 
--- src/change.rt:118:9
 returns-2 : tie.Need-returns-2
 unfolding writeCall call positionRows Lowest
 returns-2 c =
@@ -61,21 +53,17 @@ returns-2 c =
     refuse _ _ _ _ _ _ (gate-ready _ (c .before .before .before .before .before .before .before .page-args .result) (c .before .before .before .before .before .gate .result) _ (c .before .before .before .before .before .gate .ensures) (c .before .before .before .enum-told .given .1)) a Missing refl (λ e. let z : ⊥ = omega (arith, e) in z)
     (inl (refl, fails (c .before .has-position .result) _ (c .before .has-position .ensures) (c .if1 .taken)))
 
--- src/change.rt:122:9
 entry-number-requires : tie.Need-entry-number-requires
 entry-number-requires c κs =
     let a = gate-args _ _ (c .before .before .before .before .before .before .before .page-args .result) (c .before .before .before .before .before .before .before .page-args .ensures) (c .before .before .before .before .before .gate .result) _ (c .before .before .before .before .before .gate .ensures) (c .before .before .before .enum-told .given .1) in (omega (arith, a .0), omega (arith, a .1))
 
--- src/change.rt:123:5
 write-step-requires : tie.Need-write-step-requires
 write-step-requires c κs =
     let a = gate-args _ _ (c .before .before .before .before .before .before .before .before .before .page-args .result) (c .before .before .before .before .before .before .before .before .before .page-args .ensures) (c .before .before .before .before .before .before .before .gate .result) _ (c .before .before .before .before .before .before .before .gate .ensures) (c .before .before .before .before .before .enum-told .given .1) in let h = holds (c .before .before .before .has-position .result) _ (c .before .before .before .has-position .ensures) (c .before .before .if1 .left) in let e = c .before .entry-number .ensures in (gate-ready _ (c .before .before .before .before .before .before .before .before .before .page-args .result) (c .before .before .before .before .before .before .before .gate .result) _ (c .before .before .before .before .before .before .before .gate .ensures) (c .before .before .before .before .before .enum-told .given .1), e .1, used-at _ _ _ (e .0) (h .1), counts-at _ _ _ (e .0) _ (h .2), a .2)
 
--- src/change.rt:109:1
 same-length-3 : tie.Need-same-length-3
 same-length-3 c = search needs
 
--- src/change.rt:109:1
 returns-3 : tie.Need-returns-3
 unfolding writeCall call positionRows Clear
 returns-3 c =

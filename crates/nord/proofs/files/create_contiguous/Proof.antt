@@ -25,23 +25,18 @@ use Rattle.seek.proofs.users.spare.Reads as spare-reads
 use Rattle.seek.proofs.users.unreserved.Reads as unreserved-reads
 use Rattle.sound.proofs.gate.Reads as gate-reads
 
--- src/files.rt:82:9
 run-args-requires : tie.Need-run-args-requires
 run-args-requires c κs = search needs
 
--- src/files.rt:83:9
 gate-requires : tie.Need-gate-requires
 gate-requires c κs = search needs
 
--- src/files.rt:84:25
 enum-known-g : tie.Need-enum-known-g
 enum-known-g c = search needs
 
--- src/files.rt:85:9
 same-length : tie.Need-same-length
 same-length c = search needs
 
--- src/files.rt:85:9
 returns : tie.Need-returns
 unfolding createContiguousCall call
 returns c = gate-shut _ _ _ _ _ _ (c .before .before .before .before .before .run-args .result) (c .before .before .before .before .before .run-args .ensures) (c .before .before .before .gate .result) _ (c .before .before .before .gate .ensures) (c .before .g .given .1)
@@ -49,93 +44,73 @@ returns c = gate-shut _ _ _ _ _ _ (c .before .before .before .before .before .ru
 enum-told : tie.Need-enum-told
 enum-told c = search needs
 
--- src/files.rt:87:9
 new-file-requires : tie.Need-new-file-requires
 new-file-requires c κs = let a = (gate-args _ _ (c .before .before .before .before .before .run-args .result) (c .before .before .before .before .before .run-args .ensures) (c .before .before .before .gate .result) _ (c .before .before .before .gate .ensures) (c .before .enum-told .given .1)) in ((gate-ready _ (c .before .before .before .before .before .run-args .result) (c .before .before .before .gate .result) _ (c .before .before .before .gate .ensures) (c .before .enum-told .given .1)), omega (arith, a .0))
 
--- src/files.rt:88:24
 enum-known-fresh : tie.Need-enum-known-fresh
 enum-known-fresh c = search needs
 
--- src/files.rt:89:9
 enum-told-2 : tie.Need-enum-told-2
 enum-told-2 c = search needs
 
--- src/files.rt:89:9
 same-length-2 : tie.Need-same-length-2
 same-length-2 c = search needs
 
--- src/files.rt:89:9
 returns-2 : tie.Need-returns-2
 unfolding createContiguousCall call
 returns-2 c = stale-as _ _ _ _ _ _ _ _ (gate-ready _ (c .before .before .before .before .before .before .before .before .run-args .result) (c .before .before .before .before .before .before .gate .result) _ (c .before .before .before .before .before .before .gate .ensures) (c .before .before .before .before .enum-told .given .1)) (gate-args _ _ (c .before .before .before .before .before .before .before .before .run-args .result) (c .before .before .before .before .before .before .before .before .run-args .ensures) (c .before .before .before .before .before .before .gate .result) _ (c .before .before .before .before .before .before .gate .ensures) (c .before .before .before .before .enum-told .given .1)) (c .before .before .new-file .result) _ (c .enum-told2 .given .1) (c .before .before .new-file .ensures)
 
--- src/files.rt:91:13
 cast-f : tie.Need-cast-f
 cast-f c = search needs
 
--- src/files.rt:92:8
 spare-requires : tie.Need-spare-requires
 spare-requires c κs = let a = (gate-args _ _ (c .before .before .before .before .before .before .before .before .before .before .run-args .result) (c .before .before .before .before .before .before .before .before .before .before .run-args .ensures) (c .before .before .before .before .before .before .before .before .gate .result) _ (c .before .before .before .before .before .before .before .before .gate .ensures) (c .before .before .before .before .before .before .enum-told .given .1)) in let N = (fresh-done _ _ _ _ (c .before .before .before .before .new-file .result) (c .before .before .before .before .new-file .ensures) _ (c .before .before .fresh .given .1)) in ((gate-ready _ (c .before .before .before .before .before .before .before .before .before .before .run-args .result) (c .before .before .before .before .before .before .before .before .gate .result) _ (c .before .before .before .before .before .before .before .before .gate .ensures) (c .before .before .before .before .before .before .enum-told .given .1)), omega (arith, a .0), N .owner)
 
--- src/files.rt:93:9
 same-length-3 : tie.Need-same-length-3
 same-length-3 c = search needs
 
--- src/files.rt:93:9
 returns-3 : tie.Need-returns-3
 unfolding createContiguousCall call Lowest
 returns-3 c =
     let N = (fresh-done _ _ _ _ (c .before .before .before .before .before .before .new-file .result) (c .before .before .before .before .before .before .new-file .ensures) _ (c .before .before .before .before .fresh .given .1)) in
     refuse _ _ _ _ _ _ (gate-ready _ (c .before .before .before .before .before .before .before .before .before .before .before .before .run-args .result) (c .before .before .before .before .before .before .before .before .before .before .gate .result) _ (c .before .before .before .before .before .before .before .before .before .before .gate .ensures) (c .before .before .before .before .before .before .before .before .enum-told .given .1)) (gate-args _ _ (c .before .before .before .before .before .before .before .before .before .before .before .before .run-args .result) (c .before .before .before .before .before .before .before .before .before .before .before .before .run-args .ensures) (c .before .before .before .before .before .before .before .before .before .before .gate .result) _ (c .before .before .before .before .before .before .before .before .before .before .gate .ensures) (c .before .before .before .before .before .before .before .before .enum-told .given .1)) Allowance refl (λ e. let z : ⊥ = omega arith in z) (inr (N .owner, inr (N .single, inr (omega (arith, N .lowest, N .room), inl (refl, λ h. let z : ⊥ = omega (arith, h, c .if1 .taken, c .before .spare .ensures .0) in z)))))
 
--- src/files.rt:97:9
 entry-number-requires : tie.Need-entry-number-requires
 entry-number-requires c κs = let a = (gate-args _ _ (c .before .before .before .before .before .before .before .before .before .before .before .before .run-args .result) (c .before .before .before .before .before .before .before .before .before .before .before .before .run-args .ensures) (c .before .before .before .before .before .before .before .before .before .before .gate .result) _ (c .before .before .before .before .before .before .before .before .before .before .gate .ensures) (c .before .before .before .before .before .before .before .before .enum-told .given .1)) in let N = (fresh-done _ _ _ _ (c .before .before .before .before .before .before .new-file .result) (c .before .before .before .before .before .before .new-file .ensures) _ (c .before .before .before .before .fresh .given .1)) in (omega (arith, a .0), N .room)
 
--- src/files.rt:98:8
 unreserved-requires : tie.Need-unreserved-requires
 unreserved-requires c κs = (gate-ready _ (c .before .before .before .before .before .before .before .before .before .before .before .before .before .before .run-args .result) (c .before .before .before .before .before .before .before .before .before .before .before .before .gate .result) _ (c .before .before .before .before .before .before .before .before .before .before .before .before .gate .ensures) (c .before .before .before .before .before .before .before .before .before .before .enum-told .given .1)) .whole
 
--- src/files.rt:98:39
 file-need-requires : tie.Need-file-need-requires
 file-need-requires c κs = ((gate-ready _ (c .before .before .before .before .before .before .before .before .before .before .before .before .before .before .before .before .run-args .result) (c .before .before .before .before .before .before .before .before .before .before .before .before .before .before .gate .result) _ (c .before .before .before .before .before .before .before .before .before .before .before .before .before .before .gate .ensures) (c .before .before .before .before .before .before .before .before .before .before .before .before .enum-told .given .1)), c .before .before .before .entry-number .ensures .1)
 
--- src/files.rt:99:9
 same-length-4 : tie.Need-same-length-4
 same-length-4 c = search needs
 
--- src/files.rt:99:9
 returns-4 : tie.Need-returns-4
 unfolding createContiguousCall call Lowest
 returns-4 c =
     let N = (fresh-done _ _ _ _ (c .before .before .before .before .before .before .before .before .before .before .before .before .new-file .result) (c .before .before .before .before .before .before .before .before .before .before .before .before .new-file .ensures) _ (c .before .before .before .before .before .before .before .before .before .before .fresh .given .1)) in
     refuse _ _ _ _ _ _ (gate-ready _ (c .before .before .before .before .before .before .before .before .before .before .before .before .before .before .before .before .before .before .run-args .result) (c .before .before .before .before .before .before .before .before .before .before .before .before .before .before .before .before .gate .result) _ (c .before .before .before .before .before .before .before .before .before .before .before .before .before .before .before .before .gate .ensures) (c .before .before .before .before .before .before .before .before .before .before .before .before .before .before .enum-told .given .1)) (gate-args _ _ (c .before .before .before .before .before .before .before .before .before .before .before .before .before .before .before .before .before .before .run-args .result) (c .before .before .before .before .before .before .before .before .before .before .before .before .before .before .before .before .before .before .run-args .ensures) (c .before .before .before .before .before .before .before .before .before .before .before .before .before .before .before .before .gate .result) _ (c .before .before .before .before .before .before .before .before .before .before .before .before .before .before .before .before .gate .ensures) (c .before .before .before .before .before .before .before .before .before .before .before .before .before .before .enum-told .given .1)) Unreserved refl (λ e. let z : ⊥ = omega arith in z) (inr (N .owner, inr (N .single, inr (omega (arith, N .lowest, N .room), inr (omega (arith, c .before .before .before .before .before .before .if1 .left, c .before .before .before .before .before .before .before .spare .ensures .0), inl (refl, λ h. let z : ⊥ = omega (arith, h, c .if2 .taken, c .before .before .before .unreserved .ensures .0, (c .before .file-need .ensures .0 ∙ file-need-of _ _ _ (c .before .before .before .before .before .entry-number .ensures .0 ∙ ap (fileEntry _) (N .lowest)))) in z))))))
 
--- src/files.rt:103:9
 find-run-requires : tie.Need-find-run-requires
 find-run-requires c κs = let a = (gate-args _ _ (c .before .before .before .before .before .before .before .before .before .before .before .before .before .before .before .before .before .before .before .run-args .result) (c .before .before .before .before .before .before .before .before .before .before .before .before .before .before .before .before .before .before .before .run-args .ensures) (c .before .before .before .before .before .before .before .before .before .before .before .before .before .before .before .before .before .gate .result) _ (c .before .before .before .before .before .before .before .before .before .before .before .before .before .before .before .before .before .gate .ensures) (c .before .before .before .before .before .before .before .before .before .before .before .before .before .before .before .enum-told .given .1)) in let N = (fresh-done _ _ _ _ (c .before .before .before .before .before .before .before .before .before .before .before .before .before .new-file .result) (c .before .before .before .before .before .before .before .before .before .before .before .before .before .new-file .ensures) _ (c .before .before .before .before .before .before .before .before .before .before .before .fresh .given .1)) in ((gate-ready _ (c .before .before .before .before .before .before .before .before .before .before .before .before .before .before .before .before .before .before .before .run-args .result) (c .before .before .before .before .before .before .before .before .before .before .before .before .before .before .before .before .before .gate .result) _ (c .before .before .before .before .before .before .before .before .before .before .before .before .before .before .before .before .before .gate .ensures) (c .before .before .before .before .before .before .before .before .before .before .before .before .before .before .before .enum-told .given .1)), omega (arith, a .0), N .owner, N .room, omega (arith, c .before .if2 .left, c .before .before .before .before .unreserved .ensures .0, c .before .before .file-need .ensures .0 ∙ file-need-of _ _ _ (c .before .before .before .before .before .before .entry-number .ensures .0)), a .3)
 
--- src/files.rt:105:9
 same-length-5 : tie.Need-same-length-5
 same-length-5 c = search needs
 
--- src/files.rt:105:9
 returns-5 : tie.Need-returns-5
 unfolding createContiguousCall call Lowest
 returns-5 c =
     let N = (fresh-done _ _ _ _ (c .before .before .before .before .before .before .before .before .before .before .before .before .before .before .before .new-file .result) (c .before .before .before .before .before .before .before .before .before .before .before .before .before .before .before .new-file .ensures) _ (c .before .before .before .before .before .before .before .before .before .before .before .before .before .fresh .given .1)) in
     refuse _ _ _ _ _ _ (gate-ready _ (c .before .before .before .before .before .before .before .before .before .before .before .before .before .before .before .before .before .before .before .before .before .run-args .result) (c .before .before .before .before .before .before .before .before .before .before .before .before .before .before .before .before .before .before .before .gate .result) _ (c .before .before .before .before .before .before .before .before .before .before .before .before .before .before .before .before .before .before .before .gate .ensures) (c .before .before .before .before .before .before .before .before .before .before .before .before .before .before .before .before .before .enum-told .given .1)) (gate-args _ _ (c .before .before .before .before .before .before .before .before .before .before .before .before .before .before .before .before .before .before .before .before .before .run-args .result) (c .before .before .before .before .before .before .before .before .before .before .before .before .before .before .before .before .before .before .before .before .before .run-args .ensures) (c .before .before .before .before .before .before .before .before .before .before .before .before .before .before .before .before .before .before .before .gate .result) _ (c .before .before .before .before .before .before .before .before .before .before .before .before .before .before .before .before .before .before .before .gate .ensures) (c .before .before .before .before .before .before .before .before .before .before .before .before .before .before .before .before .before .enum-told .given .1)) NoRun refl (λ e. let z : ⊥ = omega arith in z) (inr (N .owner, inr (N .single, inr (omega (arith, N .lowest, N .room), inr (omega (arith, c .before .before .before .before .before .before .before .before .before .if1 .left, c .before .before .before .before .before .before .before .before .before .before .spare .ensures .0), inr (omega (arith, c .before .before .before .if2 .left, c .before .before .before .before .before .before .unreserved .ensures .0, (c .before .before .before .before .file-need .ensures .0 ∙ file-need-of _ _ _ (c .before .before .before .before .before .before .before .before .entry-number .ensures .0 ∙ ap (fileEntry _) (N .lowest)))), inl (refl, λ h. let z : ⊥ = omega (arith, h, c .if3 .taken, (c .before .find-run .ensures ∙ run-of _ _ _ _ _ _ (N .lowest))) in z)))))))
 
--- src/files.rt:109:5
 create-contiguous-step-requires : tie.Need-create-contiguous-step-requires
 create-contiguous-step-requires c κs = let a = (gate-args _ _ (c .before .before .before .before .before .before .before .before .before .before .before .before .before .before .before .before .before .before .before .before .before .before .run-args .result) (c .before .before .before .before .before .before .before .before .before .before .before .before .before .before .before .before .before .before .before .before .before .before .run-args .ensures) (c .before .before .before .before .before .before .before .before .before .before .before .before .before .before .before .before .before .before .before .before .gate .result) _ (c .before .before .before .before .before .before .before .before .before .before .before .before .before .before .before .before .before .before .before .before .gate .ensures) (c .before .before .before .before .before .before .before .before .before .before .before .before .before .before .before .before .before .before .enum-told .given .1)) in let N = (fresh-done _ _ _ _ (c .before .before .before .before .before .before .before .before .before .before .before .before .before .before .before .before .new-file .result) (c .before .before .before .before .before .before .before .before .before .before .before .before .before .before .before .before .new-file .ensures) _ (c .before .before .before .before .before .before .before .before .before .before .before .before .before .before .fresh .given .1)) in ((gate-ready _ (c .before .before .before .before .before .before .before .before .before .before .before .before .before .before .before .before .before .before .before .before .before .before .run-args .result) (c .before .before .before .before .before .before .before .before .before .before .before .before .before .before .before .before .before .before .before .before .gate .result) _ (c .before .before .before .before .before .before .before .before .before .before .before .before .before .before .before .before .before .before .before .before .gate .ensures) (c .before .before .before .before .before .before .before .before .before .before .before .before .before .before .before .before .before .before .enum-told .given .1)), omega (arith, a .0), N .owner, N .lowest, N .room, omega (arith, c .before .before .before .before .if2 .left, c .before .before .before .before .before .before .before .unreserved .ensures .0, c .before .before .before .before .before .file-need .ensures .0 ∙ file-need-of _ _ _ (c .before .before .before .before .before .before .before .before .before .entry-number .ensures .0)), a .3, omega (arith, c .before .before .before .before .before .before .before .before .before .before .if1 .left, c .before .before .before .before .before .before .before .before .before .before .before .spare .ensures .0), c .before .before .find-run .ensures, omega (arith, c .before .if3 .left))
 
--- src/files.rt:72:1
 same-length-6 : tie.Need-same-length-6
 same-length-6 c = search needs
 
--- src/files.rt:72:1
 returns-6 : tie.Need-returns-6
 unfolding createContiguousCall call Clear
 returns-6 c =

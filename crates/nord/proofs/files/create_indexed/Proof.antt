@@ -23,23 +23,18 @@ use Rattle.seek.proofs.needs.file_need.Reads as file-need-reads
 use Rattle.seek.proofs.users.unreserved.Reads as unreserved-reads
 use Rattle.sound.proofs.gate.Reads as gate-reads
 
--- src/files.rt:46:9
 name-args-requires : tie.Need-name-args-requires
 name-args-requires c κs = search needs
 
--- src/files.rt:47:9
 gate-requires : tie.Need-gate-requires
 gate-requires c κs = search needs
 
--- src/files.rt:48:25
 enum-known-g : tie.Need-enum-known-g
 enum-known-g c = search needs
 
--- src/files.rt:49:9
 same-length : tie.Need-same-length
 same-length c = search needs
 
--- src/files.rt:49:9
 returns : tie.Need-returns
 unfolding createIndexedCall call
 returns c = gate-shut _ _ _ _ _ _ (c .before .before .before .before .before .name-args .result) (c .before .before .before .before .before .name-args .ensures) (c .before .before .before .gate .result) _ (c .before .before .before .gate .ensures) (c .before .g .given .1)
@@ -47,63 +42,49 @@ returns c = gate-shut _ _ _ _ _ _ (c .before .before .before .before .before .na
 enum-told : tie.Need-enum-told
 enum-told c = search needs
 
--- src/files.rt:51:9
 new-file-requires : tie.Need-new-file-requires
 new-file-requires c κs = let a = (gate-args _ _ (c .before .before .before .before .before .name-args .result) (c .before .before .before .before .before .name-args .ensures) (c .before .before .before .gate .result) _ (c .before .before .before .gate .ensures) (c .before .enum-told .given .1)) in ((gate-ready _ (c .before .before .before .before .before .name-args .result) (c .before .before .before .gate .result) _ (c .before .before .before .gate .ensures) (c .before .enum-told .given .1)), omega (arith, a .0))
 
--- src/files.rt:52:24
 enum-known-fresh : tie.Need-enum-known-fresh
 enum-known-fresh c = search needs
 
--- src/files.rt:53:9
 enum-told-2 : tie.Need-enum-told-2
 enum-told-2 c = search needs
 
--- src/files.rt:53:9
 same-length-2 : tie.Need-same-length-2
 same-length-2 c = search needs
 
--- src/files.rt:53:9
 returns-2 : tie.Need-returns-2
 unfolding createIndexedCall call
 returns-2 c = stale-as _ _ _ _ _ _ _ _ (gate-ready _ (c .before .before .before .before .before .before .before .before .name-args .result) (c .before .before .before .before .before .before .gate .result) _ (c .before .before .before .before .before .before .gate .ensures) (c .before .before .before .before .enum-told .given .1)) (gate-args _ _ (c .before .before .before .before .before .before .before .before .name-args .result) (c .before .before .before .before .before .before .before .before .name-args .ensures) (c .before .before .before .before .before .before .gate .result) _ (c .before .before .before .before .before .before .gate .ensures) (c .before .before .before .before .enum-told .given .1)) (c .before .before .new-file .result) _ (c .enum-told2 .given .1) (c .before .before .new-file .ensures)
 
--- src/files.rt:55:13
 cast-f : tie.Need-cast-f
 cast-f c = search needs
 
--- src/files.rt:56:9
 entry-number-requires : tie.Need-entry-number-requires
 entry-number-requires c κs = let a = (gate-args _ _ (c .before .before .before .before .before .before .before .before .before .name-args .result) (c .before .before .before .before .before .before .before .before .before .name-args .ensures) (c .before .before .before .before .before .before .before .gate .result) _ (c .before .before .before .before .before .before .before .gate .ensures) (c .before .before .before .before .before .enum-told .given .1)) in let N = (fresh-done _ _ _ _ (c .before .before .before .new-file .result) (c .before .before .before .new-file .ensures) _ (c .before .fresh .given .1)) in (omega (arith, a .0), N .room)
 
--- src/files.rt:57:8
 unreserved-requires : tie.Need-unreserved-requires
 unreserved-requires c κs = (gate-ready _ (c .before .before .before .before .before .before .before .before .before .before .before .name-args .result) (c .before .before .before .before .before .before .before .before .before .gate .result) _ (c .before .before .before .before .before .before .before .before .before .gate .ensures) (c .before .before .before .before .before .before .before .enum-told .given .1)) .whole
 
--- src/files.rt:57:39
 file-need-requires : tie.Need-file-need-requires
 file-need-requires c κs = ((gate-ready _ (c .before .before .before .before .before .before .before .before .before .before .before .before .before .name-args .result) (c .before .before .before .before .before .before .before .before .before .before .before .gate .result) _ (c .before .before .before .before .before .before .before .before .before .before .before .gate .ensures) (c .before .before .before .before .before .before .before .before .before .enum-told .given .1)), c .before .before .before .entry-number .ensures .1)
 
--- src/files.rt:58:9
 same-length-3 : tie.Need-same-length-3
 same-length-3 c = search needs
 
--- src/files.rt:58:9
 returns-3 : tie.Need-returns-3
 unfolding createIndexedCall call Lowest
 returns-3 c =
     let N = (fresh-done _ _ _ _ (c .before .before .before .before .before .before .before .before .before .new-file .result) (c .before .before .before .before .before .before .before .before .before .new-file .ensures) _ (c .before .before .before .before .before .before .before .fresh .given .1)) in
     refuse _ _ _ _ _ _ (gate-ready _ (c .before .before .before .before .before .before .before .before .before .before .before .before .before .before .before .name-args .result) (c .before .before .before .before .before .before .before .before .before .before .before .before .before .gate .result) _ (c .before .before .before .before .before .before .before .before .before .before .before .before .before .gate .ensures) (c .before .before .before .before .before .before .before .before .before .before .before .enum-told .given .1)) (gate-args _ _ (c .before .before .before .before .before .before .before .before .before .before .before .before .before .before .before .name-args .result) (c .before .before .before .before .before .before .before .before .before .before .before .before .before .before .before .name-args .ensures) (c .before .before .before .before .before .before .before .before .before .before .before .before .before .gate .result) _ (c .before .before .before .before .before .before .before .before .before .before .before .before .before .gate .ensures) (c .before .before .before .before .before .before .before .before .before .before .before .enum-told .given .1)) Unreserved refl (λ e. let z : ⊥ = omega arith in z) (inr (N .owner, inr (N .single, inr (omega (arith, N .lowest, N .room), inl (refl, λ h. let z : ⊥ = omega (arith, h, c .if1 .taken, c .before .before .before .unreserved .ensures .0, (c .before .file-need .ensures .0 ∙ file-need-of _ _ _ (c .before .before .before .before .before .entry-number .ensures .0 ∙ ap (fileEntry _) (N .lowest)))) in z)))))
 
--- src/files.rt:62:5
 create-indexed-step-requires : tie.Need-create-indexed-step-requires
 create-indexed-step-requires c κs = let a = (gate-args _ _ (c .before .before .before .before .before .before .before .before .before .before .before .before .before .before .before .before .name-args .result) (c .before .before .before .before .before .before .before .before .before .before .before .before .before .before .before .before .name-args .ensures) (c .before .before .before .before .before .before .before .before .before .before .before .before .before .before .gate .result) _ (c .before .before .before .before .before .before .before .before .before .before .before .before .before .before .gate .ensures) (c .before .before .before .before .before .before .before .before .before .before .before .before .enum-told .given .1)) in let N = (fresh-done _ _ _ _ (c .before .before .before .before .before .before .before .before .before .before .new-file .result) (c .before .before .before .before .before .before .before .before .before .before .new-file .ensures) _ (c .before .before .before .before .before .before .before .before .fresh .given .1)) in ((gate-ready _ (c .before .before .before .before .before .before .before .before .before .before .before .before .before .before .before .before .name-args .result) (c .before .before .before .before .before .before .before .before .before .before .before .before .before .before .gate .result) _ (c .before .before .before .before .before .before .before .before .before .before .before .before .before .before .gate .ensures) (c .before .before .before .before .before .before .before .before .before .before .before .before .enum-told .given .1)), omega (arith, a .0), N .owner, N .lowest, N .room, omega (arith, c .before .if1 .left, c .before .before .before .before .unreserved .ensures .0, c .before .before .file-need .ensures .0 ∙ file-need-of _ _ _ (c .before .before .before .before .before .before .entry-number .ensures .0)))
 
--- src/files.rt:43:1
 same-length-4 : tie.Need-same-length-4
 same-length-4 c = search needs
 
--- src/files.rt:43:1
 returns-4 : tie.Need-returns-4
 unfolding createIndexedCall call Clear
 returns-4 c =

@@ -17,23 +17,18 @@ use Rattle.nord.proofs.args.file_args.Reads as file-args-reads
 use Rattle.seek.proofs.files.has_file.Reads as has-file-reads
 use Rattle.sound.proofs.gate.Reads as gate-reads
 
--- src/files.rt:166:9
 file-args-requires : tie.Need-file-args-requires
 file-args-requires c κs = search needs
 
--- src/files.rt:167:9
 gate-requires : tie.Need-gate-requires
 gate-requires c κs = search needs
 
--- src/files.rt:168:25
 enum-known-g : tie.Need-enum-known-g
 enum-known-g c = search needs
 
--- src/files.rt:169:9
 same-length : tie.Need-same-length
 same-length c = search needs
 
--- src/files.rt:169:9
 returns : tie.Need-returns
 unfolding deleteFileCall call
 returns c = gate-shut _ _ _ _ _ _ (c .before .before .before .before .before .file-args .result) (c .before .before .before .before .before .file-args .ensures) (c .before .before .before .gate .result) _ (c .before .before .before .gate .ensures) (c .before .g .given .1)
@@ -41,28 +36,22 @@ returns c = gate-shut _ _ _ _ _ _ (c .before .before .before .before .before .fi
 enum-told : tie.Need-enum-told
 enum-told c = search needs
 
--- src/files.rt:171:9
 has-file-requires : tie.Need-has-file-requires
 has-file-requires c κs = let a = (gate-args _ _ (c .before .before .before .before .before .file-args .result) (c .before .before .before .before .before .file-args .ensures) (c .before .before .before .gate .result) _ (c .before .before .before .gate .ensures) (c .before .enum-told .given .1)) in ((gate-ready _ (c .before .before .before .before .before .file-args .result) (c .before .before .before .gate .result) _ (c .before .before .before .gate .ensures) (c .before .enum-told .given .1)), omega (arith, a .0), omega (arith, a .1))
 
--- src/files.rt:172:9
 same-length-2 : tie.Need-same-length-2
 same-length-2 c = search needs
 
--- src/files.rt:172:9
 returns-2 : tie.Need-returns-2
 unfolding deleteFileCall call Lowest
 returns-2 c = refuse _ _ _ _ _ _ (gate-ready _ (c .before .before .before .before .before .before .before .file-args .result) (c .before .before .before .before .before .gate .result) _ (c .before .before .before .before .before .gate .ensures) (c .before .before .before .enum-told .given .1)) (gate-args _ _ (c .before .before .before .before .before .before .before .file-args .result) (c .before .before .before .before .before .before .before .file-args .ensures) (c .before .before .before .before .before .gate .result) _ (c .before .before .before .before .before .gate .ensures) (c .before .before .before .enum-told .given .1)) Missing refl (λ e. let z : ⊥ = omega arith in z) (inl (refl, fails (c .before .has-file .result) _ (c .before .has-file .ensures) (c .if1 .taken)))
 
--- src/files.rt:176:5
 delete-file-step-requires : tie.Need-delete-file-step-requires
 delete-file-step-requires c κs = let a = (gate-args _ _ (c .before .before .before .before .before .before .before .before .file-args .result) (c .before .before .before .before .before .before .before .before .file-args .ensures) (c .before .before .before .before .before .before .gate .result) _ (c .before .before .before .before .before .before .gate .ensures) (c .before .before .before .before .enum-told .given .1)) in ((gate-ready _ (c .before .before .before .before .before .before .before .before .file-args .result) (c .before .before .before .before .before .before .gate .result) _ (c .before .before .before .before .before .before .gate .ensures) (c .before .before .before .before .enum-told .given .1)), omega (arith, a .0), omega (arith, a .1), (holds (c .before .before .has-file .result) _ (c .before .before .has-file .ensures) (c .before .if1 .left)) .1)
 
--- src/files.rt:163:1
 same-length-3 : tie.Need-same-length-3
 same-length-3 c = search needs
 
--- src/files.rt:163:1
 returns-3 : tie.Need-returns-3
 unfolding deleteFileCall call Clear
 returns-3 c = done _ _ _ _ _ _ (gate-ready _ (c .before .before .before .before .before .before .before .before .before .before .before .file-args .result) (c .before .before .before .before .before .before .before .before .before .gate .result) _ (c .before .before .before .before .before .before .before .before .before .gate .ensures) (c .before .before .before .before .before .before .before .enum-told .given .1)) (gate-args _ _ (c .before .before .before .before .before .before .before .before .before .before .before .file-args .result) (c .before .before .before .before .before .before .before .before .before .before .before .file-args .ensures) (c .before .before .before .before .before .before .before .before .before .gate .result) _ (c .before .before .before .before .before .before .before .before .before .gate .ensures) (c .before .before .before .before .before .before .before .enum-told .given .1)) ((holds (c .before .before .before .before .before .has-file .result) _ (c .before .before .before .before .before .has-file .ensures) (c .before .before .before .before .if1 .left)), tt) _ refl _ (c .before .before .delete-file-step .ensures) (c .before .before .delete-file-step .kept .0)

@@ -23,23 +23,18 @@ use Rattle.seek.proofs.needs.need.Reads as need-reads
 use Rattle.seek.proofs.users.spare.Reads as spare-reads
 use Rattle.sound.proofs.gate.Reads as gate-reads
 
--- src/files.rt:70:9
 file-args-requires : tie.Need-file-args-requires
 file-args-requires c κs = search needs
 
--- src/files.rt:71:9
 gate-requires : tie.Need-gate-requires
 gate-requires c κs = search needs
 
--- src/files.rt:72:25
 enum-known-g : tie.Need-enum-known-g
 enum-known-g c = search needs
 
--- src/files.rt:73:9
 same-length : tie.Need-same-length
 same-length c = search needs
 
--- src/files.rt:73:9
 returns : tie.Need-returns
 unfolding growCall call
 returns c = gate-shut _ _ _ _ _ _ (c .before .before .before .before .before .file-args .result) (c .before .before .before .before .before .file-args .ensures) (c .before .before .before .gate .result) _ (c .before .before .before .gate .ensures) (c .before .g .given .1)
@@ -47,66 +42,51 @@ returns c = gate-shut _ _ _ _ _ _ (c .before .before .before .before .before .fi
 enum-told : tie.Need-enum-told
 enum-told c = search needs
 
--- src/files.rt:75:9
 has-file-requires : tie.Need-has-file-requires
 has-file-requires c κs = let a = (gate-args _ _ (c .before .before .before .before .before .file-args .result) (c .before .before .before .before .before .file-args .ensures) (c .before .before .before .gate .result) _ (c .before .before .before .gate .ensures) (c .before .enum-told .given .1)) in ((gate-ready _ (c .before .before .before .before .before .file-args .result) (c .before .before .before .gate .result) _ (c .before .before .before .gate .ensures) (c .before .enum-told .given .1)), omega (arith, a .0), omega (arith, a .1))
 
--- src/files.rt:76:9
 same-length-2 : tie.Need-same-length-2
 same-length-2 c = search needs
 
--- src/files.rt:76:9
 returns-2 : tie.Need-returns-2
 unfolding growCall call Lowest
 returns-2 c = refuse _ _ _ _ _ _ (gate-ready _ (c .before .before .before .before .before .before .before .file-args .result) (c .before .before .before .before .before .gate .result) _ (c .before .before .before .before .before .gate .ensures) (c .before .before .before .enum-told .given .1)) (gate-args _ _ (c .before .before .before .before .before .before .before .file-args .result) (c .before .before .before .before .before .before .before .file-args .ensures) (c .before .before .before .before .before .gate .result) _ (c .before .before .before .before .before .gate .ensures) (c .before .before .before .enum-told .given .1)) Missing refl (λ e. let z : ⊥ = omega arith in z) (inl (refl, fails (c .before .has-file .result) _ (c .before .has-file .ensures) (c .if1 .taken)))
 
--- src/files.rt:80:9
 entry-number-requires : tie.Need-entry-number-requires
 entry-number-requires c κs = let a = (gate-args _ _ (c .before .before .before .before .before .before .before .file-args .result) (c .before .before .before .before .before .before .before .file-args .ensures) (c .before .before .before .before .before .gate .result) _ (c .before .before .before .before .before .gate .ensures) (c .before .before .before .enum-told .given .1)) in (omega (arith, a .0), omega (arith, a .1))
 
--- src/files.rt:81:9
 grows-requires : tie.Need-grows-requires
 grows-requires c κs = (gate-ready _ (c .before .before .before .before .before .before .before .before .before .file-args .result) (c .before .before .before .before .before .before .before .gate .result) _ (c .before .before .before .before .before .before .before .gate .ensures) (c .before .before .before .before .before .enum-told .given .1))
 
--- src/files.rt:82:9
 same-length-3 : tie.Need-same-length-3
 same-length-3 c = search needs
 
--- src/files.rt:82:9
 returns-3 : tie.Need-returns-3
 unfolding growCall call Lowest
 returns-3 c = refuse _ _ _ _ _ _ (gate-ready _ (c .before .before .before .before .before .before .before .before .before .before .before .file-args .result) (c .before .before .before .before .before .before .before .before .before .gate .result) _ (c .before .before .before .before .before .before .before .before .before .gate .ensures) (c .before .before .before .before .before .before .before .enum-told .given .1)) (gate-args _ _ (c .before .before .before .before .before .before .before .before .before .before .before .file-args .result) (c .before .before .before .before .before .before .before .before .before .before .before .file-args .ensures) (c .before .before .before .before .before .before .before .before .before .gate .result) _ (c .before .before .before .before .before .before .before .before .before .gate .ensures) (c .before .before .before .before .before .before .before .enum-told .given .1)) Kind refl (λ e. let z : ⊥ = omega arith in z) (inr ((holds (c .before .before .before .before .before .has-file .result) _ (c .before .before .before .before .before .has-file .ensures) (c .before .before .before .before .if1 .left)), inl (refl, λ h. fails (c .before .grows .result) _ (c .before .grows .ensures) (c .if2 .taken) (grows-at _ _ _ (c .before .before .before .entry-number .ensures .0) h))))
 
--- src/files.rt:86:8
 spare-requires : tie.Need-spare-requires
 spare-requires c κs = let a = (gate-args _ _ (c .before .before .before .before .before .before .before .before .before .before .before .before .file-args .result) (c .before .before .before .before .before .before .before .before .before .before .before .before .file-args .ensures) (c .before .before .before .before .before .before .before .before .before .before .gate .result) _ (c .before .before .before .before .before .before .before .before .before .before .gate .ensures) (c .before .before .before .before .before .before .before .before .enum-told .given .1)) in ((gate-ready _ (c .before .before .before .before .before .before .before .before .before .before .before .before .file-args .result) (c .before .before .before .before .before .before .before .before .before .before .gate .result) _ (c .before .before .before .before .before .before .before .before .before .before .gate .ensures) (c .before .before .before .before .before .before .before .before .enum-told .given .1)), omega (arith, a .0), (holds (c .before .before .before .before .before .before .has-file .result) _ (c .before .before .before .before .before .before .has-file .ensures) (c .before .before .before .before .before .if1 .left)) .0)
 
--- src/files.rt:86:58
 page-count-requires : tie.Need-page-count-requires
 page-count-requires c κs = (gate-ready _ (c .before .before .before .before .before .before .before .before .before .before .before .before .before .before .file-args .result) (c .before .before .before .before .before .before .before .before .before .before .before .before .gate .result) _ (c .before .before .before .before .before .before .before .before .before .before .before .before .gate .ensures) (c .before .before .before .before .before .before .before .before .before .before .enum-told .given .1))
 
--- src/files.rt:86:40
 need-requires : tie.Need-need-requires
 need-requires c κs = search needs
 
--- src/files.rt:87:9
 same-length-4 : tie.Need-same-length-4
 same-length-4 c = search needs
 
--- src/files.rt:87:9
 returns-4 : tie.Need-returns-4
 unfolding growCall call Lowest
 returns-4 c = refuse _ _ _ _ _ _ (gate-ready _ (c .before .before .before .before .before .before .before .before .before .before .before .before .before .before .before .before .before .file-args .result) (c .before .before .before .before .before .before .before .before .before .before .before .before .before .before .before .gate .result) _ (c .before .before .before .before .before .before .before .before .before .before .before .before .before .before .before .gate .ensures) (c .before .before .before .before .before .before .before .before .before .before .before .before .before .enum-told .given .1)) (gate-args _ _ (c .before .before .before .before .before .before .before .before .before .before .before .before .before .before .before .before .before .file-args .result) (c .before .before .before .before .before .before .before .before .before .before .before .before .before .before .before .before .before .file-args .ensures) (c .before .before .before .before .before .before .before .before .before .before .before .before .before .before .before .gate .result) _ (c .before .before .before .before .before .before .before .before .before .before .before .before .before .before .before .gate .ensures) (c .before .before .before .before .before .before .before .before .before .before .before .before .before .enum-told .given .1)) Allowance refl (λ e. let z : ⊥ = omega arith in z) (inr ((holds (c .before .before .before .before .before .before .before .before .before .before .before .has-file .result) _ (c .before .before .before .before .before .before .before .before .before .before .before .has-file .ensures) (c .before .before .before .before .before .before .before .before .before .before .if1 .left)), inr (grows-of _ _ _ (c .before .before .before .before .before .before .before .before .before .entry-number .ensures .0) (holds (c .before .before .before .before .before .before .before .grows .result) _ (c .before .before .before .before .before .before .before .grows .ensures) (c .before .before .before .before .before .before .if2 .left)), inl (refl, λ h. let z : ⊥ = omega (arith, h, c .if3 .taken, c .before .before .before .before .spare .ensures .0, (c .before .need .ensures .0 ∙ need-of _ _ _ (c .before .before .before .before .before .before .before .before .before .entry-number .ensures .0) _ (c .before .before .page-count .ensures .0))) in z))))
 
--- src/files.rt:91:9
 grow-step-requires : tie.Need-grow-step-requires
 grow-step-requires c κs = let a = (gate-args _ _ (c .before .before .before .before .before .before .before .before .before .before .before .before .before .before .before .before .before .before .file-args .result) (c .before .before .before .before .before .before .before .before .before .before .before .before .before .before .before .before .before .before .file-args .ensures) (c .before .before .before .before .before .before .before .before .before .before .before .before .before .before .before .before .gate .result) _ (c .before .before .before .before .before .before .before .before .before .before .before .before .before .before .before .before .gate .ensures) (c .before .before .before .before .before .before .before .before .before .before .before .before .before .before .enum-told .given .1)) in ((gate-ready _ (c .before .before .before .before .before .before .before .before .before .before .before .before .before .before .before .before .before .before .file-args .result) (c .before .before .before .before .before .before .before .before .before .before .before .before .before .before .before .before .gate .result) _ (c .before .before .before .before .before .before .before .before .before .before .before .before .before .before .before .before .gate .ensures) (c .before .before .before .before .before .before .before .before .before .before .before .before .before .before .enum-told .given .1)), omega (arith, a .0), omega (arith, a .1), (holds (c .before .before .before .before .before .before .before .before .before .before .before .before .has-file .result) _ (c .before .before .before .before .before .before .before .before .before .before .before .before .has-file .ensures) (c .before .before .before .before .before .before .before .before .before .before .before .if1 .left)) .1, grows-of _ _ _ (c .before .before .before .before .before .before .before .before .before .before .entry-number .ensures .0) (holds (c .before .before .before .before .before .before .before .before .grows .result) _ (c .before .before .before .before .before .before .before .before .grows .ensures) (c .before .before .before .before .before .before .before .if2 .left)), omega (arith, c .before .if3 .left, c .before .before .before .before .before .spare .ensures .0, (c .before .before .need .ensures .0 ∙ need-of _ _ _ (c .before .before .before .before .before .before .before .before .before .before .entry-number .ensures .0) _ (c .before .before .before .page-count .ensures .0))))
 
--- src/files.rt:67:1
 same-length-5 : tie.Need-same-length-5
 same-length-5 c = search needs
 
--- src/files.rt:67:1
 returns-5 : tie.Need-returns-5
 unfolding growCall call Clear
 returns-5 c =

@@ -20,23 +20,18 @@ use Rattle.seek.proofs.files.has_file.Reads as has-file-reads
 use Rattle.seek.proofs.files.shrinks.Reads as shrinks-reads
 use Rattle.sound.proofs.gate.Reads as gate-reads
 
--- src/files.rt:99:9
 file-args-requires : tie.Need-file-args-requires
 file-args-requires c κs = search needs
 
--- src/files.rt:100:9
 gate-requires : tie.Need-gate-requires
 gate-requires c κs = search needs
 
--- src/files.rt:101:25
 enum-known-g : tie.Need-enum-known-g
 enum-known-g c = search needs
 
--- src/files.rt:102:9
 same-length : tie.Need-same-length
 same-length c = search needs
 
--- src/files.rt:102:9
 returns : tie.Need-returns
 unfolding shrinkCall call
 returns c = gate-shut _ _ _ _ _ _ (c .before .before .before .before .before .file-args .result) (c .before .before .before .before .before .file-args .ensures) (c .before .before .before .gate .result) _ (c .before .before .before .gate .ensures) (c .before .g .given .1)
@@ -44,45 +39,35 @@ returns c = gate-shut _ _ _ _ _ _ (c .before .before .before .before .before .fi
 enum-told : tie.Need-enum-told
 enum-told c = search needs
 
--- src/files.rt:104:9
 has-file-requires : tie.Need-has-file-requires
 has-file-requires c κs = let a = (gate-args _ _ (c .before .before .before .before .before .file-args .result) (c .before .before .before .before .before .file-args .ensures) (c .before .before .before .gate .result) _ (c .before .before .before .gate .ensures) (c .before .enum-told .given .1)) in ((gate-ready _ (c .before .before .before .before .before .file-args .result) (c .before .before .before .gate .result) _ (c .before .before .before .gate .ensures) (c .before .enum-told .given .1)), omega (arith, a .0), omega (arith, a .1))
 
--- src/files.rt:105:9
 same-length-2 : tie.Need-same-length-2
 same-length-2 c = search needs
 
--- src/files.rt:105:9
 returns-2 : tie.Need-returns-2
 unfolding shrinkCall call Lowest
 returns-2 c = refuse _ _ _ _ _ _ (gate-ready _ (c .before .before .before .before .before .before .before .file-args .result) (c .before .before .before .before .before .gate .result) _ (c .before .before .before .before .before .gate .ensures) (c .before .before .before .enum-told .given .1)) (gate-args _ _ (c .before .before .before .before .before .before .before .file-args .result) (c .before .before .before .before .before .before .before .file-args .ensures) (c .before .before .before .before .before .gate .result) _ (c .before .before .before .before .before .gate .ensures) (c .before .before .before .enum-told .given .1)) Missing refl (λ e. let z : ⊥ = omega arith in z) (inl (refl, fails (c .before .has-file .result) _ (c .before .has-file .ensures) (c .if1 .taken)))
 
--- src/files.rt:109:9
 entry-number-requires : tie.Need-entry-number-requires
 entry-number-requires c κs = let a = (gate-args _ _ (c .before .before .before .before .before .before .before .file-args .result) (c .before .before .before .before .before .before .before .file-args .ensures) (c .before .before .before .before .before .gate .result) _ (c .before .before .before .before .before .gate .ensures) (c .before .before .before .enum-told .given .1)) in (omega (arith, a .0), omega (arith, a .1))
 
--- src/files.rt:110:9
 shrinks-requires : tie.Need-shrinks-requires
 shrinks-requires c κs = (gate-ready _ (c .before .before .before .before .before .before .before .before .before .file-args .result) (c .before .before .before .before .before .before .before .gate .result) _ (c .before .before .before .before .before .before .before .gate .ensures) (c .before .before .before .before .before .enum-told .given .1))
 
--- src/files.rt:111:9
 same-length-3 : tie.Need-same-length-3
 same-length-3 c = search needs
 
--- src/files.rt:111:9
 returns-3 : tie.Need-returns-3
 unfolding shrinkCall call Lowest
 returns-3 c = refuse _ _ _ _ _ _ (gate-ready _ (c .before .before .before .before .before .before .before .before .before .before .before .file-args .result) (c .before .before .before .before .before .before .before .before .before .gate .result) _ (c .before .before .before .before .before .before .before .before .before .gate .ensures) (c .before .before .before .before .before .before .before .enum-told .given .1)) (gate-args _ _ (c .before .before .before .before .before .before .before .before .before .before .before .file-args .result) (c .before .before .before .before .before .before .before .before .before .before .before .file-args .ensures) (c .before .before .before .before .before .before .before .before .before .gate .result) _ (c .before .before .before .before .before .before .before .before .before .gate .ensures) (c .before .before .before .before .before .before .before .enum-told .given .1)) Kind refl (λ e. let z : ⊥ = omega arith in z) (inr ((holds (c .before .before .before .before .before .has-file .result) _ (c .before .before .before .before .before .has-file .ensures) (c .before .before .before .before .if1 .left)), inl (refl, λ h. fails (c .before .shrinks .result) _ (c .before .shrinks .ensures) (c .if2 .taken) (shrinks-at _ _ _ (c .before .before .before .entry-number .ensures .0) h))))
 
--- src/files.rt:115:5
 shrink-step-requires : tie.Need-shrink-step-requires
 shrink-step-requires c κs = let a = (gate-args _ _ (c .before .before .before .before .before .before .before .before .before .before .before .before .file-args .result) (c .before .before .before .before .before .before .before .before .before .before .before .before .file-args .ensures) (c .before .before .before .before .before .before .before .before .before .before .gate .result) _ (c .before .before .before .before .before .before .before .before .before .before .gate .ensures) (c .before .before .before .before .before .before .before .before .enum-told .given .1)) in ((gate-ready _ (c .before .before .before .before .before .before .before .before .before .before .before .before .file-args .result) (c .before .before .before .before .before .before .before .before .before .before .gate .result) _ (c .before .before .before .before .before .before .before .before .before .before .gate .ensures) (c .before .before .before .before .before .before .before .before .enum-told .given .1)), omega (arith, a .0), omega (arith, a .1), (holds (c .before .before .before .before .before .before .has-file .result) _ (c .before .before .before .before .before .before .has-file .ensures) (c .before .before .before .before .before .if1 .left)) .1, shrinks-of _ _ _ (c .before .before .before .before .entry-number .ensures .0) (holds (c .before .before .shrinks .result) _ (c .before .before .shrinks .ensures) (c .before .if2 .left)))
 
--- src/files.rt:96:1
 same-length-4 : tie.Need-same-length-4
 same-length-4 c = search needs
 
--- src/files.rt:96:1
 returns-4 : tie.Need-returns-4
 unfolding shrinkCall call Clear
 returns-4 c =

@@ -23,23 +23,18 @@ use Rattle.seek.proofs.needs.user_need.Reads as user-need-reads
 use Rattle.seek.proofs.users.unreserved.Reads as unreserved-reads
 use Rattle.sound.proofs.gate.Reads as gate-reads
 
--- src/users.rt:23:9
 text-requires : tie.Need-text-requires
 text-requires c κs = search needs
 
--- src/users.rt:24:9
 gate-requires : tie.Need-gate-requires
 gate-requires c κs = search needs
 
--- src/users.rt:25:25
 enum-known-g : tie.Need-enum-known-g
 enum-known-g c = search needs
 
--- src/users.rt:26:9
 same-length : tie.Need-same-length
 same-length c = search needs
 
--- src/users.rt:26:9
 returns : tie.Need-returns
 unfolding createUserCall call
 returns c = gate-shut _ _ _ _ _ _ (c .before .before .before .before .before .text .result) (c .before .before .before .before .before .text .ensures) (c .before .before .before .gate .result) _ (c .before .before .before .gate .ensures) (c .before .g .given .1)
@@ -47,19 +42,15 @@ returns c = gate-shut _ _ _ _ _ _ (c .before .before .before .before .before .te
 enum-told : tie.Need-enum-told
 enum-told c = search needs
 
--- src/users.rt:28:9
 find-user-requires : tie.Need-find-user-requires
 find-user-requires c κs = (gate-ready _ (c .before .before .before .before .before .text .result) (c .before .before .before .gate .result) _ (c .before .before .before .gate .ensures) (c .before .enum-told .given .1))
 
--- src/users.rt:31:18
 enum-told-2 : tie.Need-enum-told-2
 enum-told-2 c = search needs
 
--- src/users.rt:30:9
 same-length-2 : tie.Need-same-length-2
 same-length-2 c = search needs
 
--- src/users.rt:30:9
 returns-2 : tie.Need-returns-2
 unfolding createUserCall call Lowest
 returns-2 c = refuse _ _ _ _ _ _ (gate-ready _ (c .before .before .before .before .before .before .before .before .text .result) (c .before .before .before .before .before .before .gate .result) _ (c .before .before .before .before .before .before .gate .ensures) (c .before .before .before .before .enum-told .given .1)) (gate-args _ _ (c .before .before .before .before .before .before .before .before .text .result) (c .before .before .before .before .before .before .before .before .text .ensures) (c .before .before .before .before .before .before .gate .result) _ (c .before .before .before .before .before .before .gate .ensures) (c .before .before .before .before .enum-told .given .1)) Taken refl (λ e. let z : ⊥ = omega arith in z) (inl (refl, λ n. n _ (found-at _ (c .before .before .find-user .result) _ (c .enum-told2 .given .1) (c .before .before .find-user .ensures))))
@@ -67,49 +58,38 @@ returns-2 c = refuse _ _ _ _ _ _ (gate-ready _ (c .before .before .before .befor
 enum-told-3 : tie.Need-enum-told-3
 enum-told-3 c = search needs
 
--- src/users.rt:34:9
 free-user-requires : tie.Need-free-user-requires
 free-user-requires c κs = (gate-ready _ (c .before .before .before .before .before .before .before .before .before .text .result) (c .before .before .before .before .before .before .before .gate .result) _ (c .before .before .before .before .before .before .before .gate .ensures) (c .before .before .before .before .before .enum-told .given .1))
 
--- src/users.rt:36:9
 same-length-3 : tie.Need-same-length-3
 same-length-3 c = search needs
 
--- src/users.rt:36:9
 returns-3 : tie.Need-returns-3
 unfolding createUserCall call Lowest
 returns-3 c = refuse _ _ _ _ _ _ (gate-ready _ (c .before .before .before .before .before .before .before .before .before .before .before .text .result) (c .before .before .before .before .before .before .before .before .before .gate .result) _ (c .before .before .before .before .before .before .before .before .before .gate .ensures) (c .before .before .before .before .before .before .before .enum-told .given .1)) (gate-args _ _ (c .before .before .before .before .before .before .before .before .before .before .before .text .result) (c .before .before .before .before .before .before .before .before .before .before .before .text .ensures) (c .before .before .before .before .before .before .before .before .before .gate .result) _ (c .before .before .before .before .before .before .before .before .before .gate .ensures) (c .before .before .before .before .before .before .before .enum-told .given .1)) Full refl (λ e. let z : ⊥ = omega arith in z) (inr ((found-none _ (c .before .before .before .before .before .find-user .result) (c .before .before .before .enum-told3 .given .1) (c .before .before .before .before .before .find-user .ensures)), inl (refl, λ h. let z : ⊥ = omega (arith, h, c .before .free-user .ensures .0, c .if1 .taken) in z)))
 
--- src/users.rt:40:8
 unreserved-requires : tie.Need-unreserved-requires
 unreserved-requires c κs = (gate-ready _ (c .before .before .before .before .before .before .before .before .before .before .before .before .text .result) (c .before .before .before .before .before .before .before .before .before .before .gate .result) _ (c .before .before .before .before .before .before .before .before .before .before .gate .ensures) (c .before .before .before .before .before .before .before .before .enum-told .given .1)) .whole
 
--- src/users.rt:40:39
 user-need-requires : tie.Need-user-need-requires
 user-need-requires c κs = (gate-ready _ (c .before .before .before .before .before .before .before .before .before .before .before .before .before .before .text .result) (c .before .before .before .before .before .before .before .before .before .before .before .before .gate .result) _ (c .before .before .before .before .before .before .before .before .before .before .before .before .gate .ensures) (c .before .before .before .before .before .before .before .before .before .before .enum-told .given .1))
 
--- src/users.rt:41:9
 same-length-4 : tie.Need-same-length-4
 same-length-4 c = search needs
 
--- src/users.rt:41:9
 returns-4 : tie.Need-returns-4
 unfolding createUserCall call Lowest
 returns-4 c = refuse _ _ _ _ _ _ (gate-ready _ (c .before .before .before .before .before .before .before .before .before .before .before .before .before .before .before .before .text .result) (c .before .before .before .before .before .before .before .before .before .before .before .before .before .before .gate .result) _ (c .before .before .before .before .before .before .before .before .before .before .before .before .before .before .gate .ensures) (c .before .before .before .before .before .before .before .before .before .before .before .before .enum-told .given .1)) (gate-args _ _ (c .before .before .before .before .before .before .before .before .before .before .before .before .before .before .before .before .text .result) (c .before .before .before .before .before .before .before .before .before .before .before .before .before .before .before .before .text .ensures) (c .before .before .before .before .before .before .before .before .before .before .before .before .before .before .gate .result) _ (c .before .before .before .before .before .before .before .before .before .before .before .before .before .before .gate .ensures) (c .before .before .before .before .before .before .before .before .before .before .before .before .enum-told .given .1)) Unreserved refl (λ e. let z : ⊥ = omega arith in z) (inr ((found-none _ (c .before .before .before .before .before .before .before .before .before .before .find-user .result) (c .before .before .before .before .before .before .before .before .enum-told3 .given .1) (c .before .before .before .before .before .before .before .before .before .before .find-user .ensures)), inr (omega (arith, c .before .before .before .before .before .before .free-user .ensures .0, c .before .before .before .before .before .if1 .left), inl (refl, λ h. let z : ⊥ = omega (arith, h, c .if2 .taken, c .before .before .before .unreserved .ensures .0, (c .before .user-need .ensures .0 ∙ user-need-of _ _ _ (c .before .before .before .before .before .before .free-user .ensures .0))) in z))))
 
--- src/users.rt:45:5
 create-user-step-requires : tie.Need-create-user-step-requires
 create-user-step-requires c κs = ((gate-ready _ (c .before .before .before .before .before .before .before .before .before .before .before .before .before .before .before .before .before .text .result) (c .before .before .before .before .before .before .before .before .before .before .before .before .before .before .before .gate .result) _ (c .before .before .before .before .before .before .before .before .before .before .before .before .before .before .before .gate .ensures) (c .before .before .before .before .before .before .before .before .before .before .before .before .before .enum-told .given .1)), c .before .before .before .before .before .before .before .free-user .ensures .0, omega (arith, c .before .before .before .before .before .before .if1 .left), omega (arith, c .before .if2 .left, c .before .before .before .before .unreserved .ensures .0, c .before .before .user-need .ensures .0))
 
--- src/users.rt:46:27
 index-requires : tie.Need-index-requires
 index-requires c κs = search needs
 
--- src/users.rt:20:1
 same-length-5 : tie.Need-same-length-5
 same-length-5 c = search needs
 
--- src/users.rt:20:1
 returns-5 : tie.Need-returns-5
 unfolding createUserCall call Clear
 returns-5 c = done _ _ _ _ _ _ (gate-ready _ (c .before .before .before .before .before .before .before .before .before .before .before .before .before .before .before .before .before .before .before .before .before .text .result) (c .before .before .before .before .before .before .before .before .before .before .before .before .before .before .before .before .before .before .before .gate .result) _ (c .before .before .before .before .before .before .before .before .before .before .before .before .before .before .before .before .before .before .before .gate .ensures) (c .before .before .before .before .before .before .before .before .before .before .before .before .before .before .before .before .before .enum-told .given .1)) (gate-args _ _ (c .before .before .before .before .before .before .before .before .before .before .before .before .before .before .before .before .before .before .before .before .before .text .result) (c .before .before .before .before .before .before .before .before .before .before .before .before .before .before .before .before .before .before .before .before .before .text .ensures) (c .before .before .before .before .before .before .before .before .before .before .before .before .before .before .before .before .before .before .before .gate .result) _ (c .before .before .before .before .before .before .before .before .before .before .before .before .before .before .before .before .before .before .before .gate .ensures) (c .before .before .before .before .before .before .before .before .before .before .before .before .before .before .before .before .before .enum-told .given .1)) ((found-none _ (c .before .before .before .before .before .before .before .before .before .before .before .before .before .before .before .find-user .result) (c .before .before .before .before .before .before .before .before .before .before .before .before .before .enum-told3 .given .1) (c .before .before .before .before .before .before .before .before .before .before .before .before .before .before .before .find-user .ensures)), (omega (arith, c .before .before .before .before .before .before .before .before .before .before .before .free-user .ensures .0, c .before .before .before .before .before .before .before .before .before .before .if1 .left), (omega (arith, c .before .before .before .before .before .if2 .left, c .before .before .before .before .before .before .before .before .unreserved .ensures .0, (c .before .before .before .before .before .before .user-need .ensures .0 ∙ user-need-of _ _ _ (c .before .before .before .before .before .before .before .before .before .before .before .free-user .ensures .0))), tt))) _ (c .index .ensures ∙ c .before .before .before .before .before .before .before .before .before .before .before .free-user .ensures .0) _ (c .before .before .before .create-user-step .ensures) (c .before .before .before .create-user-step .kept .0)

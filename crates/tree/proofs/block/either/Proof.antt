@@ -2,7 +2,6 @@ use Rattle.tree.proofs.Blocks.{either-is}
 use Rattle.tree.proofs.block.either.Statement.{statement}
 use Rattle.tree.proofs.block.either.Tie as tie
 
--- src/block.rt:11:1
 returns : tie.Need-returns
 returns c = either-is (c .args .a) (c .args .b)
 
