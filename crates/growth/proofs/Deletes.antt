@@ -18,14 +18,14 @@ use Rattle.book.specs.Files.{fileAt, Shape}
 use Rattle.book.specs.Holders.{hit, some, mine}
 use Rattle.book.specs.Image.{pages, Whole}
 use Rattle.book.specs.Rules.{Rule1}
-use Rattle.laws.specs.Claim.{bitPage-is, bitPage-rest, pair-zero}
-use Rattle.laws.specs.Count.{BelowR, Good, good}
-use Rattle.laws.specs.Edit.{obj-page, user-page}
-use Rattle.laws.specs.Frame.{weighR-frame, blocksR-frame, blocksR-le}
-use Rattle.laws.specs.Part.{rest, file-le, blocksR-add}
-use Rattle.laws.specs.Reach.{below-shape}
-use Rattle.laws.specs.Rules.{Master, page-ext, rule1}
-use Rattle.laws.specs.Tree.{Agree, Below-frame}
+use Rattle.laws.specs.Bits.Claim.{bitPage-is, bitPage-rest, pair-zero}
+use Rattle.laws.specs.Count.Good.{BelowR, Good, good}
+use Rattle.laws.specs.Count.Reach.{below-shape}
+use Rattle.laws.specs.Frame.Edit.{obj-page, user-page}
+use Rattle.laws.specs.Frame.Renewed.{Master, page-ext, rule1}
+use Rattle.laws.specs.Frame.Rest.{rest, file-le, blocksR-add}
+use Rattle.laws.specs.Frame.Roots.{weighR-frame, blocksR-frame, blocksR-le}
+use Rattle.laws.specs.Tree.Weigh.{Agree, Below-frame}
 use Rattle.growth.specs.declared.entries.Head.{Head}
 use Rattle.growth.specs.Head.{FileHead, heldBy}
 use Rattle.growth.specs.Freeing.{Freeing, RootApart}

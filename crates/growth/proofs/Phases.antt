@@ -16,15 +16,15 @@ use Rattle.book.specs.Holders.{hit}
 use Rattle.book.specs.Image.{pages, IndexArg}
 use Rattle.book.specs.Calls.{HasFile}
 use Rattle.book.specs.Grow.{Phase, finish, entered, indexOf, taken₁, taken₂, taken₃, growTo, grow, first, onward, raise, block, phaseBy}
-use Rattle.laws.specs.Claim.{claim-good, claim-agree, claim-roots, claim-none, claim-quiet, free-pos}
-use Rattle.laws.specs.Count.{Good, good}
-use Rattle.laws.specs.Kinds.{grows-kind, kind-low, kind-high}
-use Rattle.laws.specs.Leave.{Still, still-trans}
-use Rattle.laws.specs.Levels.{need-mid, need-block, need-raise}
-use Rattle.laws.specs.Marks.{claim-still}
-use Rattle.laws.specs.Part.{q-file}
-use Rattle.laws.specs.Space.{Finds, space-data, space-index, space-subindex}
-use Rattle.laws.specs.Tree.{Agree, slot-same}
+use Rattle.laws.specs.Bits.Claim.{claim-good, claim-agree, claim-roots, claim-none, claim-quiet, free-pos}
+use Rattle.laws.specs.Bits.Marked.{claim-still}
+use Rattle.laws.specs.Count.Good.{Good, good}
+use Rattle.laws.specs.File.Kinds.{grows-kind, kind-low, kind-high}
+use Rattle.laws.specs.Frame.Beside.{Still, still-trans}
+use Rattle.laws.specs.Frame.Rest.{q-file}
+use Rattle.laws.specs.Grow.Space.{Finds, space-data, space-index, space-subindex}
+use Rattle.laws.specs.Tree.Levels.{need-mid, need-block, need-raise}
+use Rattle.laws.specs.Tree.Weigh.{Agree, slot-same}
 use Rattle.bits.specs.File.{BitsAt}
 use Rattle.bits.proofs.Places.{bits-claim}
 use Rattle.growth.specs.declared.entries.Head.{Head}

@@ -12,14 +12,14 @@ use Rattle.book.specs.Entries.{userFile, objectFile, unreserved, objectPage, en
 use Rattle.book.specs.Holders.{hit}
 use Rattle.book.specs.Rules.{Sound}
 use Rattle.book.specs.Create.{extend, objectIndex, fileNeed, filePlace}
-use Rattle.laws.specs.Choose.{lowest-chooser}
-use Rattle.laws.specs.Claim.{bitPage-rest, claim-bit, claim-bit-other}
-use Rattle.laws.specs.Count.{good}
-use Rattle.laws.specs.Extend.{extend-free, extend-pos, extend-master}
-use Rattle.laws.specs.Frame.{blocksR-le}
-use Rattle.laws.specs.Join.{Vacant, pay-page}
-use Rattle.laws.specs.Part.{rest}
-use Rattle.laws.specs.Vacant.{Reached, object-none, top-vacant, index-vacant}
+use Rattle.laws.specs.Bits.Choose.{lowest-chooser}
+use Rattle.laws.specs.Bits.Claim.{bitPage-rest, claim-bit, claim-bit-other}
+use Rattle.laws.specs.Count.Good.{good}
+use Rattle.laws.specs.Create.Join.{Vacant, pay-page}
+use Rattle.laws.specs.Create.Placed.{extend-free, extend-pos, extend-master}
+use Rattle.laws.specs.Create.Vacant.{Reached, object-none, top-vacant, index-vacant}
+use Rattle.laws.specs.Frame.Rest.{rest}
+use Rattle.laws.specs.Frame.Roots.{blocksR-le}
 use Rattle.bits.specs.File.{BitsAt}
 use Rattle.bits.proofs.Places.{bit-page, bit-at, bits-kept, bits-claim, bits-at}
 use Rattle.making.specs.Beside.{Beside}

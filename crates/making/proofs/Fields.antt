@@ -8,7 +8,7 @@ use Rattle.book.specs.Words.{Words, Vol, put, put2, putWords, setWord, setTwo, 
 use Rattle.book.specs.Entries.{putEntry, entryWord}
 use Rattle.book.specs.Names.{packed}
 use Rattle.book.specs.Create.{userEntry, objectEntry}
-use Rattle.laws.specs.Fields.{putEntry-word, putEntry-two, putEntry-words}
+use Rattle.laws.specs.Frame.Fields.{putEntry-word, putEntry-two, putEntry-words}
 use Rattle.making.specs.Entry.{begun, numbered}
 
 module _ (v : Vol) (q k : ℕ) where

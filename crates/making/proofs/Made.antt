@@ -10,13 +10,13 @@ use Rattle.book.specs.Entries.{Table, user, used, usedPages, spare, unreserved,
 use Rattle.book.specs.Image.{pages, Ready}
 use Rattle.book.specs.Rules.{Rule4}
 use Rattle.book.specs.Create.{userEntry, objectEntry, userNeed, fileNeed, userPlace, filePlace, createUser, createIndexed, createContiguous}
-use Rattle.laws.specs.Choose.{lowest-chooser}
-use Rattle.laws.specs.CreateUser.{new-first}
-use Rattle.laws.specs.FilePlace.{FilePlaced, file-placed}
-use Rattle.laws.specs.Granted.{given-room}
-use Rattle.laws.specs.Highest.{FreeRun, run-found}
-use Rattle.laws.specs.UserPlace.{user-placed}
-use Rattle.laws.specs.Vacant.{Reached, used-reached}
+use Rattle.laws.specs.Bits.Choose.{lowest-chooser}
+use Rattle.laws.specs.Bits.Highest.{FreeRun, run-found}
+use Rattle.laws.specs.Count.Granted.{given-room}
+use Rattle.laws.specs.Create.FilePlace.{FilePlaced, file-placed}
+use Rattle.laws.specs.Create.User.{new-first}
+use Rattle.laws.specs.Create.UserPlace.{user-placed}
+use Rattle.laws.specs.Create.Vacant.{Reached, used-reached}
 use Rattle.making.proofs.Ready.{ready-next}
 
 -- ---- a user

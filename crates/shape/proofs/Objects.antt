@@ -11,7 +11,7 @@ use Rattle.book.specs.Pointers.{flags, page}
 use Rattle.book.specs.Rules.{Rule2, Rule5, Rule7}
 use Rattle.book.specs.Trees.{rootBy, pageAt}
 use Rattle.book.specs.Words.{Vol, vol}
-use Rattle.laws.specs.Reach.{below-objects}
+use Rattle.laws.specs.Count.Reach.{below-objects}
 use Rattle.tree.specs.Reach.{entryIn}
 use Rattle.tree.proofs.Entries.{object-in, absent-word}
 use Rattle.tree.specs.Ends.{Ends}

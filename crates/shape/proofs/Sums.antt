@@ -10,8 +10,8 @@ use Rattle.book.specs.Entries.{object, objectPage, used}
 use Rattle.book.specs.Files.{cost}
 use Rattle.book.specs.Pointers.{flags}
 use Rattle.book.specs.Words.{Words, Vol, vol, two}
-use Rattle.laws.specs.Charge.{charge, entryPages}
-use Rattle.laws.specs.Several.{sum-cat}
+use Rattle.laws.specs.Count.Charge.{charge, entryPages}
+use Rattle.laws.specs.Count.Sums.{sum-cat}
 use Rattle.tree.specs.Ends.{Ends}
 use Rattle.tree.specs.Reach.{entryIn}
 use Rattle.tree.proofs.Absent.{ends-unused}

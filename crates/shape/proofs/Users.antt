@@ -15,8 +15,8 @@ use Rattle.book.specs.Image.{pages, Whole}
 use Rattle.book.specs.Rules.{Rule2, Rule3, Rule6, Rule7, Rule10}
 use Rattle.book.specs.Trees.{pageAt}
 use Rattle.book.specs.Words.{Words, Vol, vol, two}
-use Rattle.laws.specs.Charge.{mine-pages}
-use Rattle.laws.specs.Reach.{below-users}
+use Rattle.laws.specs.Count.Charge.{mine-pages}
+use Rattle.laws.specs.Count.Reach.{below-users}
 use Rattle.page.proofs.Deciding.{decides-iff}
 use Rattle.tree.specs.Reach.{Reach, entryIn}
 use Rattle.tree.proofs.Entries.{user-in, absent-word}

@@ -5,7 +5,7 @@ use Rattle.sums.specs.Sum.{sum}
 use Rattle.sums.specs.Search.{pick}
 use Rattle.book.specs.Entries.{object, user, used}
 use Rattle.book.specs.Words.{Words, Vol, two}
-use Rattle.laws.specs.Charge.{entryPages}
+use Rattle.laws.specs.Count.Charge.{entryPages}
 
 -- the pages of the files whose entries are at position n of the object file
 abbrev pub pagesAt : Vol → ℕ → ℕ

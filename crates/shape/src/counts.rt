@@ -9,7 +9,7 @@ ghost use Rattle.book.specs.Entries.{objectPage};
 ghost use Rattle.book.specs.Files.{cost};
 ghost use Rattle.book.specs.Image.{pages};
 ghost use Rattle.book.specs.Words.{vol};
-ghost use Rattle.laws.specs.Charge.{charge, entryPages};
+ghost use Rattle.laws.specs.Count.Charge.{charge, entryPages};
 ghost use Rattle.tree.specs.Ends.{Ends};
 ghost use Rattle.tree.specs.Reach.{entryIn};
 ghost use Rattle.shape.specs.Counts.{pagesAt, pagesOf};

@@ -8,7 +8,7 @@ use Rattle.book.specs.Words.{Words, Vol, vol}
 use Rattle.book.specs.Pointers.{slot}
 use Rattle.book.specs.Entries.{object, objectFile, objectPage, used}
 use Rattle.book.specs.Trees.{Root, rootBy, pageAt}
-use Rattle.laws.specs.Positions.{root-one, root-one-past, root-two, root-run-past, root-bad}
+use Rattle.laws.specs.Tree.Positions.{root-one, root-one-past, root-two, root-run-past, root-bad}
 use Rattle.page.proofs.Slots.{slot-absent}
 use Rattle.tree.specs.Blocks.{End}
 use Rattle.tree.specs.Ends.{Ends, SlotsEnd, TreeEnd}

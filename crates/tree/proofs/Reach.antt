@@ -8,7 +8,7 @@ use Rattle.book.specs.Pointers.{flags, page}
 use Rattle.book.specs.Trees.{Root, run, rootAt, rootBy, pageAt}
 use Rattle.book.specs.Entries.{objectFile}
 use Rattle.book.specs.Image.{pages}
-use Rattle.laws.specs.Frame.{pageAt-below, upto-out}
+use Rattle.laws.specs.Frame.Roots.{pageAt-below, upto-out}
 use Rattle.tree.specs.Reach.{Reach}
 
 pub reach-page : (img : List ℕ) (r : Root) → Reach img r → (n : ℕ) → pageAt (vol img) r n < pages img

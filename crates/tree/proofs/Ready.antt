@@ -6,7 +6,7 @@ use Rattle.book.specs.Words.{vol}
 use Rattle.book.specs.Entries.{userFile, objectFile}
 use Rattle.book.specs.Files.{fileAt}
 use Rattle.book.specs.Image.{pages, Ready}
-use Rattle.laws.specs.Reach.{below-users, below-objects, below-files}
+use Rattle.laws.specs.Count.Reach.{below-users, below-objects, below-files}
 use Rattle.tree.specs.Reach.{Reach}
 
 module _ (img : List ℕ) (d : Ready img) where

@@ -11,7 +11,7 @@ use Rattle.book.specs.Entries.{object, objectFile, objectPage, used, pageCount}
 use Rattle.book.specs.Files.{fileAt}
 use Rattle.book.specs.Holders.{hit, some, mine}
 use Rattle.book.specs.Image.{pages}
-use Rattle.laws.specs.Several.{sum-rows}
+use Rattle.laws.specs.Count.Sums.{sum-rows}
 use Rattle.tree.specs.Reach.{entryIn}
 use Rattle.tree.specs.Ends.{Ends}
 use Rattle.tree.proofs.Entries.{object-in, absent-word, file-in, file-in-none}

@@ -11,9 +11,9 @@ use Rattle.book.specs.Pointers.{slot}
 use Rattle.book.specs.Trees.{Root, tree, run, rootBy, leaf, pageAt, indexAt, subindexOf}
 use Rattle.book.specs.Holders.{rolePage}
 use Rattle.book.specs.Image.{pages}
-use Rattle.laws.specs.Frame.{upto-in}
-use Rattle.laws.specs.Positions.{root-one, root-two, slots-two}
-use Rattle.laws.specs.Roles.{upto-pos}
+use Rattle.laws.specs.Frame.Roots.{upto-in}
+use Rattle.laws.specs.Tree.Positions.{root-one, root-two, slots-two}
+use Rattle.laws.specs.Tree.Roles.{upto-pos}
 use Rattle.tree.specs.Reach.{Reach}
 
 -- ---- the root of flags x, page t and count m

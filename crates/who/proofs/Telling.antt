@@ -17,10 +17,10 @@ use Rattle.book.specs.Entries.{userFile, objectFile, fileEntry}
 use Rattle.book.specs.Files.{fileAt}
 use Rattle.book.specs.Holders.{hit, system, all, holders, rolePage, Holds, Told}
 use Rattle.book.specs.Rules.{Rule8, Sound}
-use Rattle.laws.specs.Holder.{joined, Joined, owner-holds}
-use Rattle.laws.specs.Owners.{rootOf, owner-shallow, file-shallow}
-use Rattle.laws.specs.Roles.{Shallow, role-pos, role-one, role-none}
-use Rattle.laws.specs.Who.{holds-held, holders-none}
+use Rattle.laws.specs.Count.Holder.{joined, Joined, owner-holds}
+use Rattle.laws.specs.Count.Owners.{rootOf, owner-shallow, file-shallow}
+use Rattle.laws.specs.Count.Who.{holds-held, holders-none}
+use Rattle.laws.specs.Tree.Roles.{Shallow, role-pos, role-one, role-none}
 use Rattle.bits.specs.File.{BitsAt}
 use Rattle.bits.proofs.Places.{bit-page}
 use Rattle.who.proofs.ByKind.{run-none}

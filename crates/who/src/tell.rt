@@ -13,7 +13,7 @@ ghost use Rattle.book.specs.Trees.{weighR};
 ghost use Rattle.book.specs.Bits.{bitFile};
 ghost use Rattle.book.specs.Holders.{hit, Told};
 ghost use Rattle.book.specs.Image.{pages, Ready};
-ghost use Rattle.laws.specs.Holder.{joined};
+ghost use Rattle.laws.specs.Count.Holder.{joined};
 
 // The pointers of the master page.
 const OBJECTS: usize = 1016;

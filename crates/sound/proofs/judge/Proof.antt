@@ -1,6 +1,6 @@
 use native.Mathlib.Omega.{arith}
 use Rattle.book.specs.Decides.{holds, fails}
-use Rattle.laws.specs.Reach.{below-objects}
+use Rattle.laws.specs.Count.Reach.{below-objects}
 use Rattle.sound.proofs.Laws.{low-1, low-2, low-3, low-4, low-5, low-6, low-7, late-judged}
 use borrow.Author.Needs.{needs}
 use Rattle.sound.proofs.judge.Statement.{statement}

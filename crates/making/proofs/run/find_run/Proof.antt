@@ -3,7 +3,7 @@ use Rattle.book.specs.Create.{fileNeed}
 use Rattle.book.specs.Entries.{fileEntry}
 use Rattle.book.specs.Image.{pages}
 use Rattle.book.specs.Words.{vol}
-use Rattle.laws.specs.Vacant.{used-reached}
+use Rattle.laws.specs.Create.Vacant.{used-reached}
 use Rattle.making.proofs.Beside.{beside-zero, beside-one, beside-two}
 use Rattle.tree.proofs.Ready.{ready-some}
 use mathlib.Core.Path.{ap, _∙_}

@@ -4,7 +4,7 @@ use Prim.Native.Nat.{ℕ, _/_}
 use Rattle.book.specs.Words.{vol}
 use Rattle.book.specs.Pointers.{slot}
 use Rattle.book.specs.Image.{pages}
-use Rattle.laws.specs.Indexes.{index-read, index-none, index-one, index-two, object-top, index-below}
+use Rattle.laws.specs.Tree.Indexes.{index-read, index-none, index-one, index-two, object-top, index-below}
 use Rattle.tree.proofs.Ready.{ready-some}
 use borrow.Author.Needs.{needs}
 use native.Mathlib.Omega.{arith}

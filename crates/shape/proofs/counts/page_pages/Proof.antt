@@ -4,7 +4,7 @@ use Prim.Native.Nat.{ℕ, _+_, _-_, _*_, _≤_}
 use Rattle.sums.specs.Sum.{sum as sumOf, sum-zero}
 use Rattle.book.specs.Entries.{object}
 use Rattle.book.specs.Words.{vol}
-use Rattle.laws.specs.Charge.{entryPages}
+use Rattle.laws.specs.Count.Charge.{entryPages}
 use Rattle.shape.proofs.Sums.{sum-more, pages-at}
 use native.Mathlib.Omega.{arith}
 use Rattle.shape.proofs.counts.page_pages.Statement.{statement}

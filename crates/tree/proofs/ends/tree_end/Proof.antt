@@ -1,7 +1,7 @@
 use Prim.Native.Nat.{_+_, _-_, _*_, _≤_}
 use mathlib.Core.Path.{refl}
 use Rattle.book.specs.Words.{vol}
-use Rattle.laws.specs.Positions.{slots-two}
+use Rattle.laws.specs.Tree.Positions.{slots-two}
 use Rattle.tree.specs.Ends.{TreeEnd}
 use Rattle.tree.proofs.Absent.{tree-all, tree-less, tree-at}
 use native.Mathlib.Omega.{arith}

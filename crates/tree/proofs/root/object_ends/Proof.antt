@@ -2,7 +2,7 @@ use mathlib.Core.Path.{refl, ap, _∙_}
 use Prim.Native.Nat.{ℕ}
 use Rattle.book.specs.Words.{vol}
 use Rattle.book.specs.Trees.{rootBy}
-use Rattle.laws.specs.Positions.{slots-one}
+use Rattle.laws.specs.Tree.Positions.{slots-one}
 use Rattle.tree.proofs.Reach.{reach-same, object-root}
 use Rattle.tree.proofs.Absent.{ends-one, ends-two, ends-other}
 use native.Mathlib.Omega.{arith}

@@ -3,7 +3,7 @@ use mathlib.Core.Path.{sym, _∙_, ap}
 use Prim.Native.Nat.{ℕ, _/_, _%_}
 use Rattle.book.specs.Words.{vol}
 use Rattle.book.specs.Pointers.{slot}
-use Rattle.laws.specs.Positions.{root-one, root-one-past, root-two, root-two-past, root-run, root-run-past, root-bad, run-below, slots-one, slots-two}
+use Rattle.laws.specs.Tree.Positions.{root-one, root-one-past, root-two, root-two-past, root-run, root-run-past, root-bad, run-below, slots-one, slots-two}
 use Rattle.tree.proofs.Reach.{reached}
 use Rattle.tree.proofs.root.root_page.Statement.{statement}
 use Rattle.tree.proofs.root.root_page.Tie as tie

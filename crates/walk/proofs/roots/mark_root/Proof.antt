@@ -1,7 +1,7 @@
 use native.Mathlib.Omega.{arith}
 use Rattle.book.specs.Image.{pages}
 use Rattle.book.specs.Words.{vol}
-use Rattle.laws.specs.Positions.{run-below}
+use Rattle.laws.specs.Tree.Positions.{run-below}
 use Rattle.walk.proofs.Runs.{walked-run, root-tree}
 use Rattle.walk.proofs.Short.{short-same}
 use Rattle.walk.proofs.Entries.{walked-root}

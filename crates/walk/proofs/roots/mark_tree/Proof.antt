@@ -1,7 +1,7 @@
 use native.Mathlib.Omega.{arith}
 use Rattle.book.specs.Image.{pages}
 use Rattle.book.specs.Words.{vol}
-use Rattle.laws.specs.Positions.{root-below}
+use Rattle.laws.specs.Tree.Positions.{root-below}
 use Rattle.walk.proofs.Short.{root-short}
 use Rattle.walk.proofs.Runs.{walked-tree, walked-bare}
 use Rattle.walk.proofs.roots.mark_tree.Statement.{statement}

@@ -3,7 +3,7 @@ use mathlib.Core.Path.{sym, subst}
 use native.Mathlib.Omega.{arith}
 use Rattle.book.specs.Words.{vol}
 use Rattle.book.specs.Trees.{Root, rootBy}
-use Rattle.laws.specs.Positions.{slots-one}
+use Rattle.laws.specs.Tree.Positions.{slots-one}
 use Rattle.tree.proofs.Reach.{reach-same}
 use Rattle.who.specs.Places.{In}
 use Rattle.who.proofs.ByKind.{by-run, by-one, by-two, by-bad, empty-none}

@@ -3,7 +3,7 @@ use mathlib.Core.Path.{sym, _∙_, subst}
 use native.Mathlib.Omega.{arith}
 use Rattle.book.specs.Words.{vol}
 use Rattle.book.specs.Image.{pages}
-use Rattle.laws.specs.Who.{told-free}
+use Rattle.laws.specs.Count.Who.{told-free}
 use Rattle.bits.specs.File.{BitsAt}
 use Rattle.bits.proofs.Places.{bits-at}
 use Rattle.who.proofs.Telling.{told-master, told-bits, bits-none}

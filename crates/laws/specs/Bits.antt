@@ -1,0 +1,10 @@
+-- Bits and pages in hand: chosen, claimed, marked, given back.
+pub mod Choose
+pub mod Claim
+pub mod Freed
+pub mod Highest
+pub mod Mark
+pub mod Marked
+pub mod RunTaking
+pub mod Runs
+pub mod Taking

@@ -1,0 +1,44 @@
+-- A run of free pages is taken. Assumes nothing.
+use mathlib.Core.Path.{_≡_, refl, _∙_}
+use mathlib.Core.Logic.{_≢_, _⊎_, inl, inr}
+use Prim.Native.Nat.{ℕ, zero, suc, _+_, _≤_, _<_}
+use native.Mathlib.Omega.{arith}
+use Rattle.sums.specs.Sum.{sum, sum-suc, sum-zero}
+use Rattle.book.specs.Bits.{bit, claimRun}
+use Rattle.book.specs.Entries.{user, object}
+use Rattle.book.specs.Holders.{hit}
+use Rattle.book.specs.Words.{Vol}
+use Rattle.laws.specs.Bits.Claim.{claim-good, claim-bit-other, claim-user, claim-obj}
+use Rattle.laws.specs.Count.Good.{Good}
+
+pub record Taken (P : ℕ) (v : Vol) (hand : ℕ → ℕ) (s n : ℕ) : Type 0 where
+  pub good : Good P (claimRun P v s n) (λ p. hand p + sum n (λ i. hit (s + i) p))
+  pub others : (p : ℕ) → p < P → (p < s) ⊎ (s + n ≤ p) → bit P (claimRun P v s n) p ≡ bit P v p
+  pub users : user (claimRun P v s n) ≡ user v
+  pub objs : object (claimRun P v s n) ≡ object v
+
+pub Good-ext : (P : ℕ) (v : Vol) (h k : ℕ → ℕ) → ((p : ℕ) → p < P → h p ≡ k p) → Good P v h → Good P v k
+Good-ext P v h k e g = record { most = g .most; held = λ p i. omega (arith, g .held p i, e p i) }
+
+pub taken : (P : ℕ) (v : Vol) (hand : ℕ → ℕ) → Good P v hand → (s n : ℕ) → s + n ≤ P → ((i : ℕ) → i < n → bit P v (s + i) ≡ 0) → Taken P v hand s n
+unfolding claimRun
+taken P v hand G s zero h z = record { good = Good-ext P v hand _ (λ p i. omega (arith, sum-zero (λ i. hit (s + i) p))) G; others = λ p h o. refl; users = refl; objs = refl }
+taken P v hand G s (suc n) h z =
+    let t : Taken P v hand s n = taken P v hand G s n (omega arith) (λ i q. z i (omega arith)) in
+    let w : Vol = claimRun P v s n in
+    let hd : s + n < P = omega arith in
+    let fd : bit P w (s + n) ≡ 0 = t .others (s + n) hd (inr (omega arith)) ∙ z n (omega arith) in
+    record {
+      good = Good-ext P _ _ _ (λ p i. omega (arith, sum-suc n (λ i. hit (s + i) p))) (claim-good P w (λ p. hand p + sum n (λ i. hit (s + i) p)) (t .good) (s + n) hd fd);
+      others = λ p i o. claim-bit-other P w (λ p. hand p + sum n (λ i. hit (s + i) p)) (t .good) (s + n) hd fd p i (apart p o) ∙ t .others p i (less p o);
+      users = claim-user P w (λ p. hand p + sum n (λ i. hit (s + i) p)) (t .good) (s + n) hd fd ∙ t .users;
+      objs = claim-obj P w (λ p. hand p + sum n (λ i. hit (s + i) p)) (t .good) (s + n) hd fd ∙ t .objs;
+    }
+  where
+    apart : (p : ℕ) → (p < s) ⊎ (s + suc n ≤ p) → p ≢ s + n
+    apart p (inl a) = omega arith
+    apart p (inr a) = omega arith
+
+    less : (p : ℕ) → (p < s) ⊎ (s + suc n ≤ p) → (p < s) ⊎ (s + n ≤ p)
+    less p (inl a) = inl a
+    less p (inr a) = inr (omega arith)

@@ -1,0 +1,19 @@
+-- Users and files are created: system pages, places, entries.
+pub mod Created
+pub mod Enough
+pub mod File
+pub mod FileCall
+pub mod FilePlace
+pub mod First
+pub mod Join
+pub mod NewEntry
+pub mod NewFile
+pub mod Placed
+pub mod Raise
+pub mod Settled
+pub mod Start
+pub mod User
+pub mod UserCall
+pub mod UserPlace
+pub mod Vacant
+pub mod WriteFile

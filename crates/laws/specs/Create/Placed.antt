@@ -1,0 +1,171 @@
+-- A new system page in an empty slot of a block: taken, linked and paid, it leaves a sound volume sound. Assumes nothing.
+use mathlib.Core.Path.{_≡_, refl, sym, ap, _∙_, subst}
+use mathlib.Core.Logic.{_≢_, inr}
+use Prim.Native.Nat.{ℕ, _+_, _*_, _≤_, _<_}
+use native.Mathlib.Omega.{arith}
+use Rattle.book.specs.Bits.{bit, bitPage, claim}
+use Rattle.book.specs.Create.{extend}
+use Rattle.book.specs.Entries.{userFile, objectFile, unreserved}
+use Rattle.book.specs.Holders.{hit, all}
+use Rattle.book.specs.Pointers.{slot, setSlot}
+use Rattle.book.specs.Rules.{Sound}
+use Rattle.book.specs.Trees.{Root, blocksR}
+use Rattle.book.specs.Words.{Vol, two, word}
+use Rattle.book.specs.Written.{word-ext}
+use Rattle.laws.specs.Bits.Claim.{bitPage-rest, free-none, free-pos, claim-agree, claim-roots, claim-quiet, claim-none, claim-good, claim-master, claim-zero, claim-bit}
+use Rattle.laws.specs.Bits.Taking.{Taken, TakenWords, NoWords, no-words, Taking, taking-none, taking-then, taking-wider, claim-taking, calm-blocks}
+use Rattle.laws.specs.Count.Good.{Good, good, sound, bit-le}
+use Rattle.laws.specs.Count.Room.{system-room, chosen}
+use Rattle.laws.specs.Create.Join.{only-pay, pay-page, pay-below, pay-less, SlotWords, Vacant, join-bare, join-good, join-slot, join-taking}
+use Rattle.laws.specs.Frame.Places.{Places, UnreservedWords, Either, OnlyAt, only-then, only-put2}
+use Rattle.laws.specs.Frame.Renewed.{Master, flags-ext, page-ext}
+use Rattle.laws.specs.Frame.Rest.{rest, all-rest}
+use Rattle.laws.specs.Frame.Roots.{Roots, blocksR-le, blocksR-frame, users-root, objs-root}
+use Rattle.laws.specs.Grow.Grown.{setSlot-page}
+use Rattle.laws.specs.Grow.Indexed.{hit-sym}
+use Rattle.laws.specs.Grow.Step.{Chooser, slot-bare}
+use Rattle.laws.specs.Tree.Weigh.{Agree, two-ext, hit-same, hit-other, slot-same}
+
+-- from v to w, n system pages were taken and paid: w is sound, and all entries and files stay
+pub record Placed (P : ℕ) (v w : Vol) (F : Places) (n : ℕ) : Type 0 where
+  pub sound : Sound P w
+  pub taking : Taking P v w F n n
+
+pub placed-none : (P : ℕ) (v : Vol) → Sound P v → Placed P v v NoWords 0
+placed-none P v S = record { sound = S; taking = taking-none P v }
+
+pub placed-then : (P : ℕ) (v w x : Vol) (F H K : Places) (a b n : ℕ) → Placed P v w F a → Placed P w x H b → n ≡ a + b
+    → ((p k : ℕ) → Either F H p k → Either (TakenWords P v x) K p k) → Placed P v x K n
+placed-then P v w x F H K a b n S T e wide = record { sound = T .sound; taking = taking-then P v w x F H K a a b b n n (S .taking) (T .taking) e e wide }
+
+pub placed-wider : (P : ℕ) (v w : Vol) (F K : Places) (a n : ℕ) → Placed P v w F a → n ≡ a → ((p k : ℕ) → F p k → Either (TakenWords P v w) K p k) → Placed P v w K n
+placed-wider P v w F K a n S e wide = record { sound = S .sound; taking = taking-wider P v w F K a a n n (S .taking) e e wide }
+
+-- ---- a claim leaves the blocks
+
+module _ (P : ℕ) (v : Vol) (hand : ℕ → ℕ) (G : Good P v hand) (d : ℕ) (hd : d < P) (fd : bit P v d ≡ 0) where
+  abbrev w : Vol
+  w = claim P v d
+
+  abbrev C : ℕ → ℕ
+  C x = hit (bitPage P v d) x + hit d x
+
+  pub claim-word : (X : ℕ) → 1 ≤ rest v (hit X) → (j : ℕ) → word w X j ≡ word v X j
+  unfolding Agree
+  claim-word X h j = claim-agree P v hand G d hd fd X (omega (
+    arith,
+    hit-other (bitPage P v d) X (λ e. omega (arith, h, subst (λ (x : ℕ). rest v (hit x) ≡ 0) (sym e) (bitPage-rest P v hand G d hd .0))),
+    hit-other d X (λ e. omega (arith, h, all-rest P v (hit X), subst (λ (x : ℕ). all P v (hit x) ≡ 0) (sym e) (free-none P v hand G d hd fd .0))),
+  )) j
+
+  pub claim-vacant : (X k : ℕ) → Vacant P v X k → Vacant P w X k
+  unfolding rest
+  claim-vacant X k N = record {
+    below = N .below;
+    real = N .real;
+    block = omega (
+      arith,
+      N .block,
+      ap (λ (r : Root). blocksR w r (hit X)) (users-root v w R) ∙ blocksR-frame v w C (claim-agree P v hand G d hd fd) (userFile v) (calm .0) (hit X),
+      ap (λ (r : Root). blocksR w r (hit X)) (objs-root v w R) ∙ blocksR-frame v w C (claim-agree P v hand G d hd fd) (objectFile v) (calm .1) (hit X),
+    );
+    room = N .room;
+    was = slot-same v w X (claim-word X (omega (arith, N .block, blocksR-le v (userFile v) (hit X), blocksR-le v (objectFile v) (hit X)))) k ∙ N .was;
+    eight = λ e. N .eight (sym (page-ext (w 0) (v 0) 1018 (m 1018) (m 1019)) ∙ e);
+    four = λ x e. N .four (sym (flags-ext (w 0) (v 0) 1016 (m 1016)) ∙ x) (sym (page-ext (w 0) (v 0) 1016 (m 1016) (m 1017)) ∙ e);
+  }
+    where
+      R : Roots v w
+      R = claim-roots P v hand G d hd fd
+
+      m : (k : ℕ) → w 0 k ≡ v 0 k
+      m = claim-master P v hand G d hd fd
+
+      calm : (blocksR v (userFile v) C ≡ 0) × (blocksR v (objectFile v) C ≡ 0)
+      calm = calm-blocks P v w m C (claim-none P v hand G d hd fd) (claim-agree P v hand G d hd fd) (claim-quiet P v hand G d hd fd)
+
+module _ (choose : Vol → ℕ) (P : ℕ) (ch : Chooser P choose) (v : Vol) (S : Sound P v) (pos : 0 < P) (X k : ℕ) (N : Vacant P v X k) (have : 1 ≤ unreserved v) where
+  abbrev d : ℕ
+  d = choose v
+
+  abbrev v₁ : Vol
+  v₁ = claim P v d
+
+  G : Good P v (λ p. 0)
+  G = good P v S
+
+  pub extend-free : (d < P) × (bit P v d ≡ 0)
+  extend-free = chosen choose P ch v (omega (arith, have, system-room P v S pos))
+
+  hd : d < P
+  hd = extend-free .0
+
+  fd : bit P v d ≡ 0
+  fd = extend-free .1
+
+  G1 : Good P v₁ (λ p. 0 + hit d p)
+  G1 = claim-good P v (λ p. 0) G d hd fd
+
+  pub extend-pos : 0 < d
+  extend-pos = free-pos P v (λ p. 0) G d hd fd
+
+  abbrev v′ : Vol
+  v′ = extend choose P v X k
+
+  below : (j : ℕ) → j < 1022 → v′ 0 j ≡ v₁ 0 j
+  unfolding extend
+  below j h = pay-below (setSlot v₁ X k d) 1 j h ∙ setSlot-page v₁ X k d 0 j (omega (arith, N .real))
+
+  -- the master page's words but those of unreserved stay
+  pub extend-master : (j : ℕ) → j < 1022 → v′ 0 j ≡ v 0 j
+  extend-master j h = below j h ∙ claim-master P v (λ p. 0) G d hd fd j
+
+  read : (q j : ℕ) → 0 < q → v′ q j ≡ setSlot v₁ X k d q j
+  unfolding extend
+  read q j h = pay-page (setSlot v₁ X k d) 1 q j h
+
+  paid : two (v′ 0) 1022 + 1 ≡ two (v₁ 0) 1022
+  unfolding extend unreserved
+  paid =
+      let same : two (setSlot v₁ X k d 0) 1022 ≡ two (v₁ 0) 1022 = two-ext (setSlot v₁ X k d 0) (v₁ 0) 1022 (setSlot-page v₁ X k d 0 1022 (omega (arith, N .real))) (setSlot-page v₁ X k d 0 1023 (omega (arith, N .real))) in
+      let were : two (v₁ 0) 1022 ≡ two (v 0) 1022 = two-ext (v₁ 0) (v 0) 1022 (claim-master P v (λ p. 0) G d hd fd 1022) (claim-master P v (λ p. 0) G d hd fd 1023) in
+      omega (arith, have, pay-less (setSlot v₁ X k d) 1 (omega (arith, have)))
+
+  only : OnlyAt (Either (SlotWords X k) UnreservedWords) v₁ v′
+  unfolding extend setSlot
+  only = only-then (SlotWords X k) UnreservedWords v₁ (setSlot v₁ X k d) v′ (only-put2 v₁ X (2 * k) d) (only-pay (setSlot v₁ X k d) 1)
+
+  M : Master v₁ v′
+  unfolding Master
+  M j a b = below j b
+
+  N1 : Vacant P v₁ X k
+  N1 = claim-vacant P v (λ p. 0) G d hd fd X k N
+
+  held : 1 ≤ 0 + hit d d
+  held = omega (arith, hit-same d extend-pos)
+
+  pub extend-slot : slot v′ X k ≡ d
+  extend-slot = join-slot P v₁ (λ p. 0 + hit d p) G1 pos v′ X k d N1 hd extend-pos held (claim-zero P v (λ p. 0) G d hd fd) read M paid
+
+  -- the new page has no pointers
+  pub extend-bare : (j : ℕ) → slot v′ d j ≡ 0
+  extend-bare = slot-bare v′ d (join-bare P v₁ (λ p. 0 + hit d p) G1 pos v′ X k d N1 hd extend-pos held (claim-zero P v (λ p. 0) G d hd fd) read M paid)
+
+  -- other blocks keep their words
+  pub extend-keeps : (q : ℕ) → q ≢ X → 1 ≤ rest v (hit q) → (j : ℕ) → word v′ q j ≡ word v q j
+  extend-keeps q n h j = word-ext v₁ v′ q j (λ p. read q j p ∙ setSlot-page v₁ X k d q j n) ∙ claim-word P v (λ p. 0) G d hd fd q h j
+
+  joined : Taking P v₁ v′ (Either (SlotWords X k) UnreservedWords) 0 1
+  joined = join-taking P v₁ (λ p. 0 + hit d p) G1 pos v′ X k d N1 hd extend-pos held (claim-zero P v (λ p. 0) G d hd fd) read M paid (Either (SlotWords X k) UnreservedWords) only
+
+  pub extend-taken : Taken P v v′ d
+  extend-taken = (hd, fd, omega (arith, joined .bits d hd, claim-bit P v (λ p. 0) G d hd fd, bit-le P v′ d))
+
+  pub extend-placed : Placed P v v′ (Either (SlotWords X k) UnreservedWords) 1
+  extend-placed = record {
+    sound = sound P v′ (λ p. 0) (join-good P v₁ (λ p. 0 + hit d p) G1 pos v′ X k d N1 hd extend-pos held (claim-zero P v (λ p. 0) G d hd fd) read M paid (λ p. 0)
+        (λ p h. omega (arith, hit-sym p d))) (λ p h. refl);
+    taking = taking-then P v v₁ v′ NoWords (Either (SlotWords X k) UnreservedWords) (Either (SlotWords X k) UnreservedWords) 1 0 0 1 1 1 (claim-taking P v (λ p. 0) G d hd fd) joined
+        refl refl (λ p j h. inr (no-words (Either (SlotWords X k) UnreservedWords) p j h));
+  }

@@ -1,0 +1,168 @@
+-- The object file gets its subindex block: taken, given the index block so far, linked and paid. Assumes nothing.
+use mathlib.Core.Path.{_≡_, refl, sym, ap, ap₂, _∙_, subst}
+use mathlib.Core.Logic.{_≢_, inl, inr}
+use Prim.Native.Nat.{ℕ, _+_, _*_, _/_, _%_, _≤_, _<_}
+use native.Mathlib.Omega.{arith}
+use Rattle.book.specs.Bits.{bit, claim}
+use Rattle.book.specs.Create.{raised}
+use Rattle.book.specs.Entries.{userFile, objectFile, unreserved}
+use Rattle.book.specs.Holders.{hit}
+use Rattle.book.specs.Pointers.{slot, flags, page, pointer, setSlot}
+use Rattle.book.specs.Rules.{Sound}
+use Rattle.book.specs.Trees.{Root, tree, pageAt, blocksR}
+use Rattle.book.specs.Words.{Vol, two, word, put2}
+use Rattle.book.specs.Written.{word-ext, put2-hi, put2-lo, put2-page, put2-word}
+use Rattle.laws.specs.Bits.Claim.{free-pos, claim-good, claim-master, claim-zero, claim-bit}
+use Rattle.laws.specs.Bits.Taking.{TakenWords, NoWords, Taking, taking-then, claim-taking, hand-good, hand-taking, settled-taking}
+use Rattle.laws.specs.Count.Good.{Good, good, sound, root-1, root-2, bit-le}
+use Rattle.laws.specs.Count.Room.{system-room, chosen}
+use Rattle.laws.specs.Create.Join.{only-pay, pay-page, pay-below, pay-less, SlotWords}
+use Rattle.laws.specs.Create.Placed.{Placed}
+use Rattle.laws.specs.Create.Settled.{Settled, leaves, system-good}
+use Rattle.laws.specs.File.Finish.{flags-pointer, page-pointer}
+use Rattle.laws.specs.Frame.Edit.{weighR-nobody}
+use Rattle.laws.specs.Frame.Places.{Places, WordsOf, UnreservedWords, Either, OnlyAt, only-then, only-put2}
+use Rattle.laws.specs.Frame.Renewed.{flags-ext, page-ext}
+use Rattle.laws.specs.Frame.Roots.{blocksR-le, pageAt-frame, rootAt-ext}
+use Rattle.laws.specs.Grow.Grown.{setSlot-page, slot-here, slot-other}
+use Rattle.laws.specs.Grow.Indexed.{hit-sym}
+use Rattle.laws.specs.Grow.Step.{Chooser, slot-bare}
+use Rattle.laws.specs.Tree.Weigh.{two-ext, hit-same, some-pos}
+
+-- a pointer is written
+module _ (v : Vol) (q j x t : ℕ) (h : t < 1073741824) where
+  pub pointer-flags : flags (put2 v q j (pointer x t) q) j ≡ x
+  unfolding flags
+  pointer-flags = ap (λ (y : ℕ). y / 16384) (put2-hi v q j (pointer x t)) ∙ flags-pointer x t h
+
+  pub pointer-page : page (put2 v q j (pointer x t) q) j ≡ t
+  unfolding page
+  pointer-page = ap₂ (λ (y z : ℕ). y % 16384 * 65536 + z) (put2-hi v q j (pointer x t)) (put2-lo v q j (pointer x t)) ∙ page-pointer x t h
+
+pub no-blocks : (v : Vol) (r : Root) → blocksR v r (λ x. 0) ≡ 0
+no-blocks v r = omega (arith, blocksR-le v r (λ x. 0), weighR-nobody v (λ x. 0) (λ x. refl) r)
+
+module _ (choose : Vol → ℕ) (P : ℕ) (ch : Chooser P choose) (v : Vol) (S : Sound P v) (pos : 0 < P) (big : P ≤ 1073741824) (one : flags (v 0) 1016 ≡ 1) (have : 1 ≤ unreserved v) where
+  abbrev s : ℕ
+  s = choose v
+
+  abbrev v₁ : Vol
+  v₁ = claim P v s
+
+  abbrev t : ℕ
+  t = page (v 0) 1016
+
+  G : Good P v (λ p. 0)
+  G = good P v S
+
+  ok : (s < P) × (bit P v s ≡ 0)
+  ok = chosen choose P ch v (omega (arith, have, system-room P v S pos))
+
+  hs : s < P
+  hs = ok .0
+
+  fs : bit P v s ≡ 0
+  fs = ok .1
+
+  ps : 0 < s
+  ps = free-pos P v (λ p. 0) G s hs fs
+
+  G1 : Good P v₁ (λ p. 0 + hit s p)
+  G1 = claim-good P v (λ p. 0) G s hs fs
+
+  held : 1 ≤ 0 + hit s s
+  held = omega (arith, hit-same s ps)
+
+  -- the block has its first slot
+  abbrev w : Vol
+  w = setSlot v₁ s 0 t
+
+  G2 : Good P w (λ p. 0 + hit s p)
+  G2 = hand-good P v₁ (λ p. 0 + hit s p) G1 s hs ps held w (λ q j n. setSlot-page v₁ s 0 t q j n)
+
+  master : (k : ℕ) → w 0 k ≡ v 0 k
+  master k = setSlot-page v₁ s 0 t 0 k (omega (arith, ps)) ∙ claim-master P v (λ p. 0) G s hs fs k
+
+  -- the pointer has it
+  abbrev x : Vol
+  x = put2 w 0 1016 (pointer 2 s)
+
+  abbrev v′ : Vol
+  v′ = raised choose P v
+
+  words : (q k : ℕ) → word v′ q k ≡ word w q k
+  unfolding raised
+  words q k = word-ext w v′ q k (λ h. pay-page x 1 q k h ∙ put2-page w 0 1016 (pointer 2 s) q k (omega arith))
+
+  below : (k : ℕ) → k < 1022 → v′ 0 k ≡ x 0 k
+  unfolding raised
+  below k h = pay-below x 1 k h
+
+  pub raised-master : (k : ℕ) → k < 1022 → k ≢ 1016 → k ≢ 1017 → v′ 0 k ≡ v 0 k
+  raised-master k h a b = below k h ∙ put2-word w 0 1016 (pointer 2 s) 0 k a b ∙ master k
+
+  -- it is subindexed now
+  pub raised-flags : flags (v′ 0) 1016 ≡ 2
+  raised-flags = flags-ext (v′ 0) (x 0) 1016 (below 1016 (omega arith)) ∙ pointer-flags w 0 1016 2 s (omega (arith, hs))
+
+  top : page (v′ 0) 1016 ≡ s
+  top = page-ext (v′ 0) (x 0) 1016 (below 1016 (omega arith)) (below 1017 (omega arith)) ∙ pointer-page w 0 1016 2 s (omega (arith, hs))
+
+  one′ : flags (w 0) 1016 ≡ 1
+  one′ = flags-ext (w 0) (v 0) 1016 (master 1016) ∙ one
+
+  s0 : slot w s 0 ≡ page (w 0) 1016
+  s0 = slot-here v₁ s 0 t ps ∙ sym (page-ext (w 0) (v 0) 1016 (master 1016) (master 1017))
+
+  so : (j : ℕ) → j ≢ 0 → slot w s j ≡ 0
+  so j n = slot-other v₁ s 0 t ps j n ∙ slot-bare v₁ s (claim-zero P v (λ p. 0) G s hs fs) j
+
+  mast : (k : ℕ) → 1008 ≤ k → k < 1022 → k ≢ 1016 → k ≢ 1017 → v′ 0 k ≡ w 0 k
+  mast k a b c d = raised-master k b c d ∙ sym (master k)
+
+  paid : two (v′ 0) 1022 + 1 ≡ two (w 0) 1022
+  unfolding raised unreserved
+  paid =
+      let a : two (x 0) 1022 ≡ two (w 0) 1022 = two-ext (x 0) (w 0) 1022 (put2-word w 0 1016 (pointer 2 s) 0 1022 (omega arith) (omega arith)) (put2-word w 0 1016 (pointer 2 s) 0 1023 (omega arith) (omega arith)) in
+      let b : two (w 0) 1022 ≡ two (v 0) 1022 = two-ext (w 0) (v 0) 1022 (master 1022) (master 1023) in
+      omega (arith, have, pay-less x 1 (omega (arith, have)))
+
+  T : Settled P w v′ (λ x. 0) (λ g. g s)
+  T = Rattle.laws.specs.Create.Settled.raised P w (λ p. 0 + hit s p) G2 pos v′ s hs ps words one′ raised-flags top s0 so mast paid
+
+  users : (i : ℕ) → pageAt v′ (userFile v′) i ≡ pageAt w (userFile w) i
+  unfolding userFile
+  users i = ap (λ (r : Root). pageAt v′ r i) (rootAt-ext (v′ 0) (w 0) 1018 0 (mast 1018 (omega arith) (omega arith) (omega arith) (omega arith)) (mast 1019 (omega arith) (omega arith) (omega arith) (omega arith)))
+      ∙ pageAt-frame w v′ (λ x. 0) (T .agree) (userFile w) (no-blocks w (userFile w)) i
+
+  objs : (i : ℕ) → pageAt v′ (objectFile v′) i ≡ pageAt w (objectFile w) i
+  unfolding objectFile
+  objs i = ap (λ (r : Root). pageAt v′ r i) (root-2 (v′ 0) 1016 0 raised-flags ∙ ap (tree 2) top)
+      ∙ leaves P w (λ p. 0 + hit s p) G2 pos v′ s hs ps words one′ raised-flags top s0 so mast paid i
+      ∙ sym (ap (λ (r : Root). pageAt w r i) (root-1 (w 0) 1016 0 one′))
+
+  -- the words that change on page 0
+  abbrev F : Places
+  F = Either (WordsOf 0 1016 2) UnreservedWords
+
+  only : OnlyAt F w v′
+  unfolding raised
+  only = only-then (WordsOf 0 1016 2) UnreservedWords w x v′ (only-put2 w 0 1016 (pointer 2 s)) (only-pay x 1)
+
+  rest : Taking P v₁ v′ (Either (SlotWords s 0) F) 0 1
+  unfolding setSlot
+  rest = taking-then P v₁ w v′ (SlotWords s 0) F (Either (SlotWords s 0) F) 0 0 0 1 0 1
+      (hand-taking P v₁ (λ p. 0 + hit s p) G1 s hs ps held w (λ q j n. setSlot-page v₁ s 0 t q j n) (SlotWords s 0) (only-put2 v₁ s (2 * 0) t))
+      (subst (λ (n : ℕ). Taking P w v′ F 0 n) (some-pos s ps) (settled-taking P w (λ p. 0 + hit s p) G2 v′ (λ x. 0) (λ g. g s) T (λ i h. users i) (λ i h. objs i) F only))
+      refl refl (λ p k h. inr h)
+
+  pub raised-placed : Placed P v v′ (Either (WordsOf 0 1016 2) UnreservedWords) 1
+  raised-placed = record {
+    sound = sound P v′ (λ p. 0) (system-good P w (λ p. 0 + hit s p) G2 v′ (λ x. 0) (λ g. g s) T (λ p. 0) (λ p h. omega (arith, hit-sym p s))) (λ p h. refl);
+    taking = taking-then P v v₁ v′ NoWords (Either (SlotWords s 0) F) F 1 0 0 1 1 1 (claim-taking P v (λ p. 0) G s hs fs) rest refl refl wide;
+  }
+    where
+      wide : (p k : ℕ) → Either NoWords (Either (SlotWords s 0) F) p k → Either (TakenWords P v v′) F p k
+      wide p k (inl h) = absurd h
+      wide p k (inr (inl h)) = inl (s, (hs, fs, omega (arith, rest .bits s hs, claim-bit P v (λ p. 0) G s hs fs, bit-le P v′ s)), inl (h .0))
+      wide p k (inr (inr h)) = inr h

@@ -1,0 +1,88 @@
+-- A file is deleted: its entry is cleared, its owner's count falls, and the bits of all its pages are cleared. Assumes nothing.
+use mathlib.Core.Path.{_≡_, ap, ap₂, _∙_, subst}
+use mathlib.Core.Logic.{_≢_}
+use Prim.Native.Nat.{ℕ, _+_, _-_, _*_, _/_, _<_}
+use native.Mathlib.Omega.{arith}
+use Rattle.sums.specs.Search.{pick}
+use Rattle.sums.specs.Sum.{is, sum-zero}
+use Rattle.book.specs.Bits.{bit}
+use Rattle.book.specs.Entries.{user, object, used, given, usedPages, grant}
+use Rattle.book.specs.Files.{fileAt}
+use Rattle.book.specs.Holders.{hit, some, all}
+use Rattle.book.specs.Pointers.{flags, page}
+use Rattle.book.specs.Rules.{UserOk, Rule4, Rule5, Rule5By, Rule6, Rule10}
+use Rattle.book.specs.Trees.{Root, weighR}
+use Rattle.book.specs.Words.{Vol}
+use Rattle.laws.specs.Count.Good.{Good, file-unused}
+use Rattle.laws.specs.File.Named.{Legal-ext, SameName-ext}
+use Rattle.laws.specs.Frame.Edit.{Change, entries, edit-mine, edit-good}
+use Rattle.laws.specs.Frame.Renewed.{used-ext, used-same}
+use Rattle.laws.specs.Frame.Rest.{rest, all-calm, most-calm}
+use Rattle.laws.specs.Frame.Roots.{Roots}
+use Rattle.laws.specs.Tree.Weigh.{Agree, two-ext}
+
+-- only bits change: pages in hand are given back, or taken, in one go
+pub bits-good : (P : ℕ) (v v′ : Vol) (hand hand′ C : ℕ → ℕ) → Good P v hand → C 0 ≡ 0 → Agree C v v′ → rest v C ≡ 0 → ((k : ℕ) → v′ 0 k ≡ v 0 k)
+    → ((p : ℕ) → p < P → bit P v′ p + hand p ≡ bit P v p + hand′ p) → Good P v′ hand′
+unfolding Roots
+bits-good P v v′ hand hand′ C G c0 A q m e = record {
+  most = most-calm v v′ (λ k i j. m k) C c0 A q P (λ k i. m k) (G .most);
+  held = λ p h. omega (arith, e p h, G .held p h, all-calm v v′ (λ k i j. m k) C c0 A q P (hit p));
+}
+
+module _ (P : ℕ) (v : Vol) (hand : ℕ → ℕ) (G : Good P v hand) (pos : 0 < P) (a f : ℕ) (ha : a < 256) (hf : f < 256) (uf : 0 < used (object v (256 * a + f)))
+    (v′ : Vol) (E : Change P v hand G pos a f ha hf (λ x. 0) v′) (gone : used (object v′ (256 * a + f)) ≡ 0)
+    (kept : (k : ℕ) → k < 32 → k ≢ 16 → k ≢ 17 → user v′ a k ≡ user v a k) (master : (k : ℕ) → v′ 0 k ≡ v 0 k)
+    (less : usedPages (user v′) a + weighR v (fileAt v (256 * a + f)) some ≡ usedPages (user v) a) where
+  abbrev e : ℕ
+  e = 256 * a + f
+
+  owner-used : 0 < used (user v a)
+  unfolding Rule6
+  owner-used = G .most .r6 .0 a f ha hf uf .owner
+
+  user-used : used (user v′ a) ≡ used (user v a)
+  user-used = used-ext (user v′ a) (user v a) (kept 0 (omega arith) (omega arith) (omega arith))
+
+  given-kept : given (user v′) a ≡ given (user v) a
+  unfolding given
+  given-kept = two-ext (user v′ a) (user v a) 14 (kept 14 (omega arith) (omega arith) (omega arith)) (kept 15 (omega arith) (omega arith) (omega arith))
+
+  ok : UserOk (user v) a
+  unfolding Rule4
+  ok = G .most .r4 .0 a ha owner-used
+
+  none : (g : ℕ → ℕ) → weighR v′ (fileAt v′ e) g ≡ 0
+  unfolding weighR
+  none g = ap (λ (r : Root). weighR v′ r g) (file-unused v′ e gone) ∙ sum-zero (λ i. g (0 + i))
+
+  high : flags (v 0) 1016 ≡ 1 → 63 < a → used (user v a) ≡ 0
+  unfolding Rule5 Rule5By
+  high q i = subst (λ (x : ℕ). Rule5By P v x (page (v 0) 1016)) q (G .most .r5) .1 a i ha
+
+  -- all that the file held is now in hand
+  pub delete-good : Good P v′ (λ p. hand p + weighR v (fileAt v e) (hit p))
+  unfolding Rule4 Rule10 grant
+  delete-good = edit-good P v hand G pos a f ha hf (λ x. 0) v′ E (λ g. weighR v (fileAt v e) g) (λ g. 0) (λ p. hand p + weighR v (fileAt v e) (hit p)) record {
+    weight = λ g g0. omega (arith, none g);
+    hands = λ p h. omega arith;
+    userNew = record {
+      ok = λ h. record {
+        own = kept 18 (omega arith) (omega arith) (omega arith) ∙ ok .own;
+        name = Legal-ext (user v′ a) (user v a) 1 1 16 (λ i j. kept (1 + i / 2) (omega arith) (omega arith) (omega arith)) (ok .name);
+        within = omega (arith, less, given-kept, ok .within);
+      };
+      alone = λ u h m i j s. m (G .most .r4 .1 u a h ha (omega (arith, used-same P v v′ a f ha hf (entries P v hand G pos a f ha hf (λ x. 0) v′ E) u h m)) owner-used
+          (SameName-ext (user v u) (user v a) (user v′ u) (user v′ a) (λ k l. entries P v hand G pos a f ha hf (λ x. 0) v′ E .users u h m (1 + k) (omega arith))
+          (λ k l. kept (1 + k) (omega arith) (omega arith) (omega arith)) s));
+    };
+    fileNew = record {
+      ok = λ h. absurd (let r : ⊥ = omega (arith, gone) in r);
+      alone = λ h i m j l s. absurd (let r : ⊥ = omega (arith, gone) in r);
+      shape = λ h. absurd (let r : ⊥ = omega (arith, gone) in r);
+    };
+    owner = λ h i q. omega (arith, user-used, owner-used);
+    high = λ q i. user-used ∙ high q i;
+    balance = omega (arith, two-ext (v′ 0) (v 0) 1022 (master 1022) (master 1023), ap₂ (λ (x y : ℕ). pick x y 0) user-used given-kept);
+    count = λ h. omega (arith, less, none some, G .most .r10 .0 a ha owner-used, edit-mine P v hand G pos a f ha hf (λ x. 0) v′ E some);
+  }

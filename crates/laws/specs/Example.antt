@@ -1,0 +1,4 @@
+-- Volumes written down: each rule says something.
+pub mod Broken
+pub mod BrokenLate
+pub mod Sparse

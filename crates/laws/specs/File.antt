@@ -1,0 +1,11 @@
+-- Files: kinds, names, costs, the entry of a file and of its owner.
+pub mod Around
+pub mod Cost
+pub mod Finish
+pub mod Finished
+pub mod Kinds
+pub mod Longer
+pub mod Moved
+pub mod Named
+pub mod Packed
+pub mod There

@@ -1,0 +1,250 @@
+-- A freshly formatted volume is sound: for every number of pages, every name and every bit page. Assumes nothing.
+use mathlib.Core.Path.{_≡_, refl, sym, ap, _∙_, subst}
+use mathlib.Core.Logic.{_≢_, _⊎_, inl, inr}
+use mathlib.Core.List.{List}
+use Prim.Native.Nat.{ℕ, zero, suc, _+_, _-_, _/_, _%_, _≤_, _<_}
+use native.Mathlib.Nat.{not-suc-le-zero}
+use native.Mathlib.Decide.{ℕ-discrete, decLt}
+use native.Mathlib.Omega.{arith}
+use Rattle.sums.specs.Sum.{sum, is, is-same, is-other, sum-suc, sum-zero, sum-ext, sum-const}
+use Rattle.book.specs.Words.{Vol, two, put2, putWords, wipe}
+use Rattle.book.specs.Pointers.{flags, page, pointer, Zero}
+use Rattle.book.specs.Trees.{weighR, run}
+use Rattle.book.specs.Bits.{digit, bitPages, bitFile, bitPage, bit, mark}
+use Rattle.book.specs.Names.{NameText, packed}
+use Rattle.book.specs.Holders.{hit, some}
+use Rattle.book.specs.Image.{BitArg}
+use Rattle.book.specs.Rules.{Rule1, Sound}
+use Rattle.book.specs.Format.{wipeRun, markRun, directory, format}
+use Rattle.book.specs.Written.{word-pos, put2-hi, put2-lo, put2-two, put2-word, putWords-here, wipe-here, wipe-page}
+use Rattle.laws.specs.Bits.Claim.{bitPage-is, bitPage-pos}
+use Rattle.laws.specs.Bits.Mark.{mark-page, mark-master, mark-bit, mark-other}
+use Rattle.laws.specs.File.Packed.{packed-legal}
+use Rattle.laws.specs.Format.Formatted.{Formatted, format-sound}
+use Rattle.laws.specs.Frame.Places.{Places, WordsOf, RunOf, Either, OnlyAt, only-wider, only-then, only-put2, only-putWords}
+use Rattle.laws.specs.Tree.Weigh.{hit-same, hit-other, some-pos, two-ext}
+
+-- ---- pages wiped in a row
+
+pub wipeRun-out : (v : Vol) (s n q k : ℕ) → (q < s) ⊎ (s + n ≤ q) → wipeRun v s n q k ≡ v q k
+unfolding wipeRun
+wipeRun-out v s zero q k h = refl
+wipeRun-out v s (suc n) q k (inl h) = wipe-page (wipeRun v s n) (s + n) q k (omega arith) ∙ wipeRun-out v s n q k (inl h)
+wipeRun-out v s (suc n) q k (inr h) = wipe-page (wipeRun v s n) (s + n) q k (omega arith) ∙ wipeRun-out v s n q k (inr (omega arith))
+
+pub wipeRun-in : (v : Vol) (s n i k : ℕ) → i < n → wipeRun v s n (s + i) k ≡ 0
+unfolding wipeRun
+wipeRun-in v s zero i k h = absurd (not-suc-le-zero h)
+wipeRun-in v s (suc n) i k h = elim (ℕ-discrete i n) [
+  | yes e ↦ ap (λ (x : ℕ). wipe (wipeRun v s n) (s + n) (s + x) k) e ∙ wipe-here (wipeRun v s n) (s + n) k
+  | no ne ↦ wipe-page (wipeRun v s n) (s + n) (s + i) k (omega arith) ∙ wipeRun-in v s n i k (omega arith)
+]
+
+markRun-none : (P : ℕ) (v : Vol) (s p k : ℕ) → markRun P v s 0 p k ≡ v p k
+unfolding markRun
+markRun-none P v s p k = refl
+
+markRun-more : (P : ℕ) (v : Vol) (s m p k : ℕ) → markRun P v s (suc m) p k ≡ mark P (markRun P v s m) (s + m) 1 p k
+unfolding markRun
+markRun-more P v s m p k = refl
+
+-- the bit page of a page below P is one of the bit file's
+bits-few : (P d : ℕ) → d < P → d / 16384 < bitPages P
+unfolding bitPages
+bits-few P d h = omega arith
+
+digit-none : (j : ℕ) → digit j 0 ≡ 0
+unfolding digit
+digit-none zero = refl
+digit-none (suc j) = digit-none j
+
+-- ---- a run weighs nothing at a page outside it
+
+run-miss : (s n p : ℕ) → (p < s) ⊎ (s + n ≤ p) → sum n (λ i. hit p (s + i)) ≡ 0
+run-miss s zero p h = sum-zero (λ i. hit p (s + i))
+run-miss s (suc n) p (inl h) = omega (arith, sum-suc n (λ i. hit p (s + i)), run-miss s n p (inl h), hit-other p (s + n) (omega arith))
+run-miss s (suc n) p (inr h) = omega (arith, sum-suc n (λ i. hit p (s + i)), run-miss s n p (inr (omega arith)), hit-other p (s + n) (omega arith))
+
+-- ---- the new volume
+
+module _ (P : ℕ) (v : Vol) (name : List ℕ) (b : ℕ) (T : NameText name) (A : BitArg P b) where
+  abbrev n : ℕ
+  n = bitPages P
+
+  abbrev w₀ : Vol
+  w₀ = directory P v name b
+
+  dir-name : (k : ℕ) → 1008 ≤ k → k < 1016 → w₀ 0 k ≡ packed name (k - 1008)
+  unfolding directory
+  dir-name k h l =
+      put2-word _ 0 1022 (P - 1 - n) 0 k (omega arith) (omega arith) ∙ put2-word _ 0 1020 (pointer 0 b) 0 k (omega arith) (omega arith)
+      ∙ put2-word _ 0 1018 0 0 k (omega arith) (omega arith) ∙ put2-word _ 0 1016 0 0 k (omega arith) (omega arith)
+      ∙ putWords-here v 0 1008 8 (packed name) k h (omega arith)
+
+  dir-objects : (w₀ 0 1016 ≡ 0) × (w₀ 0 1017 ≡ 0)
+  unfolding directory
+  dir-objects = (off 1016 (omega arith) ∙ put2-hi _ 0 1016 0, off 1017 (omega arith) ∙ put2-lo _ 0 1016 0)
+    where
+      off : (k : ℕ) → k < 1018 → w₀ 0 k ≡ put2 (putWords v 0 1008 8 (packed name)) 0 1016 0 0 k
+      off k h = put2-word _ 0 1022 (P - 1 - n) 0 k (omega arith) (omega arith) ∙ put2-word _ 0 1020 (pointer 0 b) 0 k (omega arith) (omega arith)
+          ∙ put2-word _ 0 1018 0 0 k (omega arith) (omega arith)
+
+  dir-users : (w₀ 0 1018 ≡ 0) × (w₀ 0 1019 ≡ 0)
+  unfolding directory
+  dir-users = (off 1018 (omega arith) ∙ put2-hi _ 0 1018 0, off 1019 (omega arith) ∙ put2-lo _ 0 1018 0)
+    where
+      off : (k : ℕ) → k < 1020 → w₀ 0 k ≡ put2 (put2 (putWords v 0 1008 8 (packed name)) 0 1016 0) 0 1018 0 0 k
+      off k h = put2-word _ 0 1022 (P - 1 - n) 0 k (omega arith) (omega arith) ∙ put2-word _ 0 1020 (pointer 0 b) 0 k (omega arith) (omega arith)
+
+  dir-bits : (w₀ 0 1020 ≡ b / 65536) × (w₀ 0 1021 ≡ b % 65536)
+  unfolding directory pointer
+  dir-bits = (
+    put2-word _ 0 1022 (P - 1 - n) 0 1020 (omega arith) (omega arith) ∙ put2-hi _ 0 1020 (pointer 0 b) ∙ omega arith,
+    put2-word _ 0 1022 (P - 1 - n) 0 1021 (omega arith) (omega arith) ∙ put2-lo _ 0 1020 (pointer 0 b) ∙ omega arith,
+  )
+
+  dir-rest : two (w₀ 0) 1022 ≡ P - 1 - n
+  unfolding directory
+  dir-rest = put2-two _ 0 1022 (P - 1 - n)
+
+  module _ (small : P < 1073741824) where
+    -- what the master page alone decides
+    module _ (w : Vol) (same : (k : ℕ) → w 0 k ≡ w₀ 0 k) where
+      bits-page : page (w 0) 1020 ≡ b
+      unfolding page
+      bits-page = omega (arith, same 1020, same 1021, dir-bits .0, dir-bits .1, A .1)
+
+      rule-1 : Rule1 P w
+      unfolding flags
+      rule-1 = record {
+        name = packed-legal 1 16 name T (w 0) 1008 (λ i h. same (1008 + i / 2) ∙ dir-name (1008 + i / 2) (omega arith) (omega arith)
+            ∙ ap (packed name) (let e : 1008 + i / 2 - 1008 ≡ i / 2 = omega arith in e));
+        unflagged = omega (arith, same 1020, dir-bits .0, A .1);
+        start = omega (arith, bits-page, A .0);
+        fits = omega (arith, bits-page, A .1);
+      }
+
+    -- the bit file is wiped
+    abbrev w₁ : Vol
+    w₁ = wipeRun w₀ b n
+
+    same₁ : (k : ℕ) → w₁ 0 k ≡ w₀ 0 k
+    same₁ k = wipeRun-out w₀ b n 0 k (inl (A .0))
+
+    bits₁ : (p : ℕ) → p < P → bit P w₁ p ≡ 0
+    unfolding bit bitPages
+    bits₁ p h =
+        let r : Rule1 P w₁ = rule-1 w₁ same₁ in
+        ap (digit (p % 16)) (word-pos w₁ (bitPage P w₁ p) (p % 16384 / 16) (bitPage-pos P w₁ r p h)
+        ∙ ap (λ (q : ℕ). w₁ q (p % 16384 / 16)) (bitPage-is P w₁ r p h ∙ ap (λ (x : ℕ). x + p / 16384) (bits-page w₁ same₁))
+        ∙ wipeRun-in w₀ b n (p / 16384) (p % 16384 / 16) (omega arith)) ∙ digit-none (p % 16)
+
+    -- the master page is reserved
+    abbrev w₂ : Vol
+    w₂ = mark P w₁ 0 1
+
+    module _ (pos : 0 < P) where
+      same₂ : (k : ℕ) → w₂ 0 k ≡ w₀ 0 k
+      same₂ k = mark-master P w₁ (rule-1 w₁ same₁) 0 1 pos (omega arith) k ∙ same₁ k
+
+      bits₂ : (p : ℕ) → p < P → bit P w₂ p ≡ is p 0
+      bits₂ p h = elim (ℕ-discrete p 0) [
+        | yes e ↦ ap (bit P w₂) e ∙ mark-bit P w₁ (rule-1 w₁ same₁) 0 1 pos (omega arith) ∙ sym (ap (λ (x : ℕ). is x 0) e ∙ is-same 0)
+        | no ne ↦ mark-other P w₁ (rule-1 w₁ same₁) 0 1 pos (omega arith) p h ne ∙ bits₁ p h ∙ sym (is-other p 0 ne)
+      ]
+
+      -- then the bit file itself
+      same₃ : (m : ℕ) → m ≤ n → (k : ℕ) → markRun P w₂ b m 0 k ≡ w₀ 0 k
+      unfolding markRun
+      same₃ zero h k = same₂ k
+      same₃ (suc m) h k = mark-master P (markRun P w₂ b m) (rule-1 (markRun P w₂ b m) (same₃ m (omega arith))) (b + m) 1 (omega (arith, A .1)) (omega arith) k ∙ same₃ m (omega arith) k
+
+      bits₃ : (m : ℕ) → m ≤ n → (p : ℕ) → p < P → bit P (markRun P w₂ b m) p ≡ is p 0 + sum m (λ i. hit p (b + i))
+      unfolding markRun
+      bits₃ zero h p l = omega (arith, bits₂ p l, sum-zero (λ i. hit p (b + i)))
+      bits₃ (suc m) h p l =
+          let r : Rule1 P (markRun P w₂ b m) = rule-1 (markRun P w₂ b m) (same₃ m (omega arith)) in
+          let s : sum (suc m) (λ i. hit p (b + i)) ≡ sum m (λ i. hit p (b + i)) + hit p (b + m) = sum-suc m (λ i. hit p (b + i)) in
+          elim (ℕ-discrete p (b + m)) [
+            | yes e ↦
+                let q : bit P (mark P (markRun P w₂ b m) (b + m) 1) p ≡ 1 = ap (bit P (mark P (markRun P w₂ b m) (b + m) 1)) e ∙ mark-bit P (markRun P w₂ b m) r (b + m) 1 (omega (arith, A .1)) (omega arith) in
+                omega (arith, q, s, run-miss b m p (inr (omega arith)), is-other p 0 (omega (arith, A .0)), subst (λ (x : ℕ). hit p x ≡ 1) e (hit-same p (omega (arith, A .0))))
+            | no ne ↦ omega (arith, mark-other P (markRun P w₂ b m) r (b + m) 1 (omega (arith, A .1)) (omega arith) p l ne, bits₃ m (omega arith) p l, s, hit-other p (b + m) (λ q. ne (sym q)))
+          ]
+
+      formatted : Formatted P (format P v name b)
+      unfolding format weighR bitFile Zero
+      formatted = record {
+        first = rule-1 w same;
+        noUsers = (same 1018 ∙ dir-users .0, same 1019 ∙ dir-users .1);
+        noObjs = (same 1016 ∙ dir-objects .0, same 1017 ∙ dir-objects .1);
+        bits = λ p h. bits₃ n (omega arith) p h ∙ ap (λ (x : ℕ). is p 0 + sum n (λ i. hit p (x + i))) (sym (bits-page w same));
+        rest = omega (
+          arith,
+          two-ext (w 0) (w₀ 0) 1022 (same 1022) (same 1023),
+          dir-rest,
+          A .0,
+          A .1,
+          ap (λ (x : ℕ). sum n (λ i. some (x + i))) (bits-page w same),
+          sum-ext n (λ i. some (b + i)) (λ i. 1) (λ i h. some-pos (b + i) (omega (arith, A .0))),
+          sum-const n 1,
+        );
+      }
+        where
+          w : Vol
+          w = markRun P w₂ b n
+
+          same : (k : ℕ) → w 0 k ≡ w₀ 0 k
+          same = same₃ n (omega arith)
+
+      pub formatted-sound : Sound P (format P v name b)
+      formatted-sound = format-sound P (format P v name b) pos formatted
+
+      -- ---- every other word stays
+
+      -- the words written: the directory entry and the bit file
+      pub format-only : OnlyAt (Either (WordsOf 0 1008 16) (RunOf b n)) v (format P v name b)
+      unfolding format directory
+      format-only p k a = run n (omega arith) ∙ marked 0 pos w₁ same₁ ∙ wiped ∙ master
+        where
+          off : (p < b) ⊎ (b + n ≤ p)
+          off = elim (decLt p b) [
+            | yes h ↦ inl h
+            | no h ↦ elim (decLt p (b + n)) [
+              | yes i ↦ absurd (a (inr (omega arith, i)))
+              | no i ↦ inr (omega arith)
+            ]
+          ]
+
+          master : w₀ p k ≡ v p k
+          master = only-wider _ (WordsOf 0 1008 16) v w₀ (λ q j h. wide q j h)
+              (only-then _ _ v _ _ (only-then _ _ v _ _ (only-then _ _ v _ _ (only-then _ _ v _ _ (only-putWords v 0 1008 8 (packed name)) (only-put2 _ 0 1016 0)) (only-put2 _ 0 1018 0)) (only-put2 _ 0 1020 (pointer 0 b))) (only-put2 _ 0 1022 (P - 1 - n)))
+              p k (λ h. a (inl h))
+            where
+              wide : (q j : ℕ) → Either (Either (Either (Either (WordsOf 0 1008 8) (WordsOf 0 1016 2)) (WordsOf 0 1018 2)) (WordsOf 0 1020 2)) (WordsOf 0 1022 2) q j → WordsOf 0 1008 16 q j
+              wide q j (inl (inl (inl (inl h)))) = (h .0, omega (arith, h .1), omega (arith, h .2))
+              wide q j (inl (inl (inl (inr h)))) = (h .0, omega (arith, h .1), omega (arith, h .2))
+              wide q j (inl (inl (inr h))) = (h .0, omega (arith, h .1), omega (arith, h .2))
+              wide q j (inl (inr h)) = (h .0, omega (arith, h .1), omega (arith, h .2))
+              wide q j (inr h) = (h .0, omega (arith, h .1), omega (arith, h .2))
+
+          wiped : w₁ p k ≡ w₀ p k
+          wiped = wipeRun-out w₀ b n p k off
+
+          -- a bit is in the bit file
+          inside : (d : ℕ) → d < P → (w : Vol) → ((k : ℕ) → w 0 k ≡ w₀ 0 k) → p ≢ bitPage P w d
+          inside d h w same e = out off (omega (arith, e, bitPage-is P w (rule-1 w same) d h, bits-page w same)) (omega (arith, e, bitPage-is P w (rule-1 w same) d h, bits-page w same, few d h))
+            where
+              few : (d : ℕ) → d < P → d / 16384 < n
+              few d h = bits-few P d h
+
+              out : (p < b) ⊎ (b + n ≤ p) → b ≤ p → p < b + n → ⊥
+              out (inl x) y z = omega arith
+              out (inr x) y z = omega arith
+
+          marked : (d : ℕ) → d < P → (w : Vol) → ((k : ℕ) → w 0 k ≡ w₀ 0 k) → mark P w d 1 p k ≡ w p k
+          marked d h w same = mark-page P w (rule-1 w same) d 1 h (omega arith) p k (inside d h w same)
+
+          run : (m : ℕ) → m ≤ n → markRun P w₂ b m p k ≡ w₂ p k
+          run zero h = markRun-none P w₂ b p k
+          run (suc m) h = markRun-more P w₂ b m p k ∙ marked (b + m) (omega (arith, A .1)) (markRun P w₂ b m) (same₃ m (omega arith)) ∙ run m (omega arith)
