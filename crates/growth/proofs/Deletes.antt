@@ -18,14 +18,16 @@ use Rattle.book.specs.Files.{fileAt, Shape}
 use Rattle.book.specs.Holders.{hit, some, mine}
 use Rattle.book.specs.Image.{pages, Whole}
 use Rattle.book.specs.Rules.{Rule1}
-use Rattle.laws.specs.Bits.Claim.{bitPage-is, bitPage-rest, pair-zero}
-use Rattle.laws.specs.Count.Good.{BelowR, Good, good}
+use Rattle.laws.specs.Bits.Claim.{bitPage-is, bitPage-rest}
+use Rattle.laws.specs.Count.Good.{Good, good}
 use Rattle.laws.specs.Count.Reach.{below-shape}
 use Rattle.laws.specs.Frame.Edit.{obj-page, user-page}
-use Rattle.laws.specs.Frame.Renewed.{Master, page-ext, rule1}
-use Rattle.laws.specs.Frame.Rest.{rest, file-le, blocksR-add}
-use Rattle.laws.specs.Frame.Roots.{weighR-frame, blocksR-frame, blocksR-le}
-use Rattle.laws.specs.Tree.Weigh.{Agree, Below-frame}
+use Rattle.laws.specs.Frame.Renewed.{Master, rule1}
+use Rattle.laws.specs.Frame.Rest.{rest, file-le}
+use Rattle.laws.specs.Frame.Roots.{blocksR-add, weighR-frame, blocksR-frame, blocksR-le}
+use Rattle.laws.specs.Tree.Pointer.{page-ext}
+use Rattle.laws.specs.Tree.Slot.{pair-zero, Agree}
+use Rattle.laws.specs.Tree.Weigh.{BelowR, Below-frame}
 use Rattle.growth.specs.declared.entries.Head.{Head}
 use Rattle.growth.specs.Head.{FileHead, heldBy}
 use Rattle.growth.specs.Freeing.{Freeing, RootApart}

@@ -17,12 +17,12 @@ use Rattle.book.specs.Image.{pages}
 use Rattle.book.specs.Calls.{Grows}
 use Rattle.book.specs.Grow.{indexOf}
 use Rattle.book.specs.Rules.{Rule7}
-use Rattle.laws.specs.Count.Charged.{charged-lt, charged-owner, charged-file}
 use Rattle.laws.specs.Count.Good.{good}
 use Rattle.laws.specs.Count.Pages.{file-cost, run-cost}
-use Rattle.laws.specs.Count.Reach.{file-used}
+use Rattle.laws.specs.Count.Room.{charged-lt, charged-owner, charged-file}
 use Rattle.laws.specs.File.Finish.{isO, isU}
 use Rattle.laws.specs.File.Kinds.{grows-kind, kind-low, kind-high}
+use Rattle.laws.specs.Tree.Pointer.{file-used}
 use Rattle.growth.specs.declared.entries.Head.{Head}
 use Rattle.growth.specs.Head.{FileHead, heldBy}
 use Rattle.growth.proofs.Held.{held-le, held-more}

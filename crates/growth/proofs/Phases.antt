@@ -20,11 +20,11 @@ use Rattle.laws.specs.Bits.Claim.{claim-good, claim-agree, claim-roots, claim-n
 use Rattle.laws.specs.Bits.Marked.{claim-still}
 use Rattle.laws.specs.Count.Good.{Good, good}
 use Rattle.laws.specs.File.Kinds.{grows-kind, kind-low, kind-high}
-use Rattle.laws.specs.Frame.Beside.{Still, still-trans}
 use Rattle.laws.specs.Frame.Rest.{q-file}
+use Rattle.laws.specs.Frame.Still.{Still, still-trans}
 use Rattle.laws.specs.Grow.Space.{Finds, space-data, space-index, space-subindex}
 use Rattle.laws.specs.Tree.Levels.{need-mid, need-block, need-raise}
-use Rattle.laws.specs.Tree.Weigh.{Agree, slot-same}
+use Rattle.laws.specs.Tree.Slot.{Agree, slot-same}
 use Rattle.bits.specs.File.{BitsAt}
 use Rattle.bits.proofs.Places.{bits-claim}
 use Rattle.growth.specs.declared.entries.Head.{Head}

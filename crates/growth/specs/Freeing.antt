@@ -8,7 +8,7 @@ use Rattle.book.specs.Trees.{Below, blocks, rootBy, blocksR}
 use Rattle.book.specs.Holders.{hit}
 use Rattle.book.specs.Image.{pages, Whole}
 use Rattle.book.specs.Rules.{Rule1}
-use Rattle.laws.specs.Count.Good.{BelowR}
+use Rattle.laws.specs.Tree.Weigh.{BelowR}
 
 -- pages of the image can be freed: b is its bit page
 pub record Freeing (img : List ℕ) (b : ℕ) : Type 0 where

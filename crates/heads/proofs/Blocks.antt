@@ -12,7 +12,7 @@ use Rattle.book.specs.Entries.{user}
 use Rattle.book.specs.Rules.{Rule2, Rule5, Rule5By}
 use Rattle.book.specs.Decides.{Decides}
 use Rattle.page.proofs.Deciding.{decides-iff}
-use Rattle.laws.specs.Count.Good.{zero-flags}
+use Rattle.laws.specs.Tree.Pointer.{zero-flags}
 use Rattle.heads.specs.Slots.{Slots}
 use Rattle.heads.specs.Span.{Span}
 use Rattle.heads.specs.Fine.{Unused}

@@ -13,8 +13,8 @@ use Rattle.book.specs.Image.{pages}
 use Rattle.book.specs.Rules.{Rule2, Rule3, Rule5}
 use Rattle.book.specs.Decides.{Decides}
 use Rattle.page.proofs.Deciding.{decides-iff}
-use Rattle.laws.specs.Count.Good.{zero-page}
 use Rattle.laws.specs.Count.Reach.{below-users, below-objects}
+use Rattle.laws.specs.Tree.Pointer.{zero-page}
 use Rattle.tree.specs.Reach.{Reach}
 use Rattle.tree.proofs.Reach.{reach-same, root-read}
 

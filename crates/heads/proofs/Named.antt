@@ -8,7 +8,7 @@ use Rattle.book.specs.Names.{Legal, Same}
 use Rattle.book.specs.Entries.{entryWord}
 use Rattle.book.specs.Decides.{Decides}
 use Rattle.page.proofs.Deciding.{decides-iff}
-use Rattle.laws.specs.File.Moved.{Legal-move, Same-move}
+use Rattle.laws.specs.File.Named.{Legal-move, Same-move}
 use Rattle.tree.specs.Reach.{entryIn}
 use Rattle.tree.proofs.Entries.{there-word}
 

@@ -5,6 +5,5 @@ pub mod Freed
 pub mod Highest
 pub mod Mark
 pub mod Marked
-pub mod RunTaking
 pub mod Runs
 pub mod Taking

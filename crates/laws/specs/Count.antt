@@ -1,14 +1,10 @@
 -- Pages counted: who holds a page, how many are free, charged and visited.
 pub mod Charge
-pub mod Charged
 pub mod Good
-pub mod Granted
 pub mod Holder
 pub mod Owners
 pub mod Pages
 pub mod Reach
 pub mod Room
 pub mod Sums
-pub mod Tally
-pub mod Visits
 pub mod Who

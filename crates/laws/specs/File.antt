@@ -4,8 +4,5 @@ pub mod Cost
 pub mod Finish
 pub mod Finished
 pub mod Kinds
-pub mod Longer
-pub mod Moved
 pub mod Named
 pub mod Packed
-pub mod There

@@ -2,6 +2,8 @@
 pub mod Indexes
 pub mod Levels
 pub mod Node
+pub mod Pointer
 pub mod Positions
 pub mod Roles
+pub mod Slot
 pub mod Weigh

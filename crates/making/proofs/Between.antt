@@ -16,11 +16,11 @@ use Rattle.book.specs.Entries.{userPage, objectPage, entryPage, unreserved}
 use Rattle.book.specs.Rules.{Rule2, Sound}
 use Rattle.book.specs.Create.{extend, started, raised, raises, withUserPage, withSubindex, userPlace, objectIndex, fileNeed, withIndex, withObjectPage, filePlace}
 use Rattle.laws.specs.Bits.Choose.{lowest-chooser}
-use Rattle.laws.specs.Create.Join.{SlotWords, Vacant}
+use Rattle.laws.specs.Create.Join.{SlotWords}
 use Rattle.laws.specs.Create.Placed.{Placed, extend-pos, extend-master, extend-slot, extend-bare, extend-placed}
-use Rattle.laws.specs.Create.Vacant.{Reached, reached-kept, index-one, index-two, object-slot, object-none, user-vacant, top-vacant}
+use Rattle.laws.specs.Create.Vacant.{Vacant, Reached, reached-kept, index-one, index-two, object-slot, object-none, user-vacant, top-vacant}
 use Rattle.laws.specs.Frame.Places.{UnreservedWords, Either}
-use Rattle.laws.specs.Frame.Renewed.{flags-ext, page-ext}
+use Rattle.laws.specs.Tree.Pointer.{flags-ext, page-ext}
 use Rattle.making.proofs.Ready.{same-pages, ready-next}
 
 -- ---- users

@@ -9,7 +9,7 @@ use Rattle.book.specs.Decides.{Decides}
 use Rattle.book.specs.Pointers.{slot}
 use Rattle.book.specs.Trees.{Fill, Below}
 use Rattle.book.specs.Words.{Vol, vol}
-use Rattle.laws.specs.Grow.Grown.{fill-zero, below-zero}
+use Rattle.laws.specs.Tree.Weigh.{fill-zero, below-zero}
 use Rattle.page.proofs.Deciding.{decides-iff}
 use Rattle.tree.specs.Blocks.{pointerIn, Linked, Unlinked}
 use Rattle.tree.proofs.Blocks.{partOf, part-slot}

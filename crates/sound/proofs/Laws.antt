@@ -14,8 +14,7 @@ use Rattle.book.specs.Entries.{user, object}
 use Rattle.book.specs.Holders.{visits}
 use Rattle.book.specs.Rows.{Lowest}
 use Rattle.book.specs.Rules.{Rule1, Rule2, Rule3, Rule4, Rule5, Rule6, Rule7, Rule8, Rule9, Rule10, Sound, rules}
-use Rattle.laws.specs.Count.Good.{Within}
-use Rattle.laws.specs.Count.Reach.{rules-within}
+use Rattle.laws.specs.Count.Reach.{Within, rules-within}
 use Rattle.bits.specs.File.{BitsAt}
 use Rattle.bits.proofs.Places.{bits-at}
 use Rattle.walk.specs.Marks.{marked}

@@ -5,7 +5,7 @@ use native.Mathlib.Omega.{arith}
 use Rattle.book.specs.Words.{vol}
 use Rattle.book.specs.Entries.{user, used, given, unreserved}
 use Rattle.book.specs.Image.{mostPages, pages, Ready}
-use Rattle.laws.specs.Count.Granted.{given-room}
+use Rattle.laws.specs.Count.Room.{given-room}
 
 -- unreserved and a user's given pages together
 pub ready-room : (img : List ℕ) (d : Ready img) (u : ℕ) → u < 256 → 0 < used (user (vol img) u) → unreserved (vol img) + given (user (vol img)) u ≤ mostPages

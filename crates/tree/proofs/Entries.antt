@@ -8,9 +8,8 @@ use Rattle.book.specs.Pointers.{flags, page}
 use Rattle.book.specs.Trees.{run, rootBy}
 use Rattle.book.specs.Entries.{entryWord, entry, user, object, userPage, objectPage, used}
 use Rattle.book.specs.Files.{fileAt}
-use Rattle.laws.specs.Count.Good.{file-unused}
-use Rattle.laws.specs.Count.Reach.{file-used}
-use Rattle.laws.specs.Tree.Weigh.{word-zero}
+use Rattle.laws.specs.Tree.Pointer.{file-unused, file-used}
+use Rattle.laws.specs.Tree.Slot.{word-zero}
 use Rattle.tree.specs.Reach.{entryIn}
 use Rattle.tree.proofs.Reach.{root-read}
 

@@ -5,7 +5,7 @@ use Rattle.book.specs.Words.{Words, Vol, vol, word}
 use Rattle.book.specs.Trees.{Root}
 use Rattle.book.specs.Entries.{entryWord}
 use Rattle.book.specs.Image.{pages}
-use Rattle.laws.specs.Count.Good.{BelowR}
+use Rattle.laws.specs.Tree.Weigh.{BelowR}
 
 -- there are pages, and all pages of r are among them
 pub record Reach (img : List ℕ) (r : Root) : Type 0 where

@@ -13,7 +13,8 @@ use Rattle.book.specs.Entries.{userFile, objectFile}
 use Rattle.book.specs.Files.{fileAt}
 use Rattle.book.specs.Holders.{hit, some, mine, system, all, holders}
 use Rattle.book.specs.Image.{pages}
-use Rattle.laws.specs.Count.Good.{BelowR, sys-count}
+use Rattle.laws.specs.Count.Good.{sys-count}
+use Rattle.laws.specs.Tree.Weigh.{BelowR}
 use Rattle.tree.specs.Reach.{Reach}
 use Rattle.tree.proofs.Reach.{root-read}
 use Rattle.walk.specs.declared.Walk.{Walk}

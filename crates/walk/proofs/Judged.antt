@@ -9,8 +9,9 @@ use Rattle.book.specs.Words.{Vol}
 use Rattle.book.specs.Bits.{bit}
 use Rattle.book.specs.Holders.{holders, visits}
 use Rattle.book.specs.Rules.{Rule8, Rule9}
-use Rattle.laws.specs.Count.Good.{Within, bit-le}
-use Rattle.laws.specs.Count.Visits.{visits-all}
+use Rattle.laws.specs.Count.Good.{bit-le}
+use Rattle.laws.specs.Count.Pages.{visits-all}
+use Rattle.laws.specs.Count.Reach.{Within}
 use Rattle.walk.specs.declared.Walk.{Walk}
 use Rattle.walk.specs.declared.Walk.the-variants.{On, Met}
 use Rattle.walk.specs.Marks.{marked}

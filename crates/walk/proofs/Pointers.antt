@@ -13,7 +13,8 @@ use Rattle.book.specs.Pointers.{slot}
 use Rattle.book.specs.Trees.{weigh, Below}
 use Rattle.book.specs.Holders.{hit, some}
 use Rattle.book.specs.Image.{pages}
-use Rattle.laws.specs.Tree.Weigh.{weigh-none, weigh-count, hit-zero, hit-same, some-zero, some-pos}
+use Rattle.laws.specs.Tree.Slot.{hit-zero, hit-same, some-zero, some-pos}
+use Rattle.laws.specs.Tree.Weigh.{weigh-none, weigh-count}
 use Rattle.walk.specs.declared.Walk.{Walk}
 use Rattle.walk.specs.declared.Walk.the-variants.{On, Met}
 use Rattle.walk.specs.Marks.{marked, Newly}

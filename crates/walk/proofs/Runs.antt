@@ -9,8 +9,9 @@ use Rattle.book.specs.Words.{Vol}
 use Rattle.book.specs.Trees.{Root, rootBy, weigh, weighR, Below}
 use Rattle.book.specs.Holders.{hit, some}
 use Rattle.book.specs.Image.{pages}
-use Rattle.laws.specs.Count.Good.{BelowR, root-count}
-use Rattle.laws.specs.Tree.Weigh.{sum-hit}
+use Rattle.laws.specs.Count.Good.{root-count}
+use Rattle.laws.specs.Tree.Slot.{sum-hit}
+use Rattle.laws.specs.Tree.Weigh.{BelowR}
 use Rattle.walk.specs.declared.Walk.{Walk}
 use Rattle.walk.specs.declared.Walk.the-variants.{On}
 use Rattle.walk.specs.Walked.{Weigher, Walking, WalkedOn, Walked}

@@ -9,7 +9,7 @@ use native.Mathlib.Omega.{arith}
 use Rattle.sums.specs.Sum.{sum, sum-ext, sum-add, sum-swap, sum-suc, sum-zero}
 use Rattle.book.specs.Holders.{hit, some}
 use Rattle.book.specs.Image.{pages}
-use Rattle.laws.specs.Tree.Weigh.{hit-zero, some-zero}
+use Rattle.laws.specs.Tree.Slot.{hit-zero, some-zero}
 use Rattle.walk.specs.declared.Walk.{Walk}
 use Rattle.walk.specs.declared.Walk.the-variants.{On, Met}
 use Rattle.walk.specs.Marks.{marked}

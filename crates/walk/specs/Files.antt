@@ -5,7 +5,7 @@ use Rattle.book.specs.Words.{vol}
 use Rattle.book.specs.Entries.{object, pageCount}
 use Rattle.book.specs.Files.{fileAt}
 use Rattle.book.specs.Image.{pages}
-use Rattle.laws.specs.Count.Good.{BelowR}
+use Rattle.laws.specs.Tree.Weigh.{BelowR}
 use Rattle.walk.specs.Short.{ShortR}
 
 -- the pages of every file are among those of the image, and its positions end at its page count

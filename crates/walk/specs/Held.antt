@@ -6,7 +6,7 @@ use lib.ListN.{length}
 use Rattle.book.specs.Words.{Vol, vol}
 use Rattle.book.specs.Holders.{holders, all, some}
 use Rattle.book.specs.Image.{Whole, pages}
-use Rattle.laws.specs.Count.Good.{Within}
+use Rattle.laws.specs.Count.Reach.{Within}
 use Rattle.walk.specs.declared.Walk.{Walk}
 use Rattle.walk.specs.declared.Walk.the-variants.{On, Met}
 use Rattle.walk.specs.Marks.{marked}

@@ -7,7 +7,7 @@ ghost use Rattle.sums.specs.Sum.{sum};
 ghost use Rattle.book.specs.Words.{vol};
 ghost use Rattle.book.specs.Trees.{weighR, rootBy};
 ghost use Rattle.book.specs.Image.{pages};
-ghost use Rattle.laws.specs.Count.Good.{BelowR};
+ghost use Rattle.laws.specs.Tree.Weigh.{BelowR};
 ghost use Rattle.walk.specs.Walked.{Walking, Walked};
 ghost use Rattle.walk.specs.Short.{ShortR};
 

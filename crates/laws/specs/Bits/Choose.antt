@@ -5,8 +5,12 @@ use native.Mathlib.Omega.{arith}
 use Rattle.sums.specs.Search.{lowest, lowest-lt, lowest-is}
 use Rattle.book.specs.Bits.{bit, lowestFree}
 use Rattle.book.specs.Words.{Vol}
-use Rattle.laws.specs.Count.Good.{free-page, bit-le}
-use Rattle.laws.specs.Grow.Step.{Chooser}
+use Rattle.laws.specs.Count.Good.{free-page, bit-le, free}
+
+-- ---- a choice of pages: free while one is
+
+unfoldable pub Chooser : ℕ → (Vol → ℕ) → Type 0
+Chooser P choose = (v : Vol) → 0 < free P v → (choose v < P) × (bit P v (choose v) ≡ 0)
 
 -- while a page is free, the lowest free page is one
 pub lowest-chooser : (P : ℕ) → Chooser P (lowestFree P)
@@ -21,3 +25,8 @@ lowest-chooser P v h =
 pub lowest-least : (P : ℕ) (v : Vol) (p : ℕ) → p < lowestFree P v → bit P v p ≡ 1
 unfolding lowestFree
 lowest-least P v p h = omega (arith, bit-le P v p, lowest-is (λ p. 1 - bit P v p) P .passed p h)
+
+-- a choice finds one
+pub chosen : (choose : Vol → ℕ) (P : ℕ) → Chooser P choose → (v : Vol) → 0 < free P v → (choose v < P) × (bit P v (choose v) ≡ 0)
+unfolding Chooser
+chosen choose P ch = ch

@@ -11,13 +11,13 @@ use Rattle.book.specs.Files.{fileAt}
 use Rattle.book.specs.Holders.{hit, all}
 use Rattle.book.specs.Pointers.{page}
 use Rattle.book.specs.Rules.{Rule1}
-use Rattle.book.specs.Trees.{Root, tree, weighR, pageAt}
+use Rattle.book.specs.Trees.{Root, weighR, pageAt}
 use Rattle.book.specs.Words.{Vol, word, wipe}
 use Rattle.book.specs.Written.{digit-same, digit-other, word-pos, word-ext, put-here, put-page, put-word, wipe-here, wipe-page}
 use Rattle.laws.specs.Count.Good.{Good, bit-le, free}
 use Rattle.laws.specs.Frame.Rest.{rest, all-rest, rest-add, all-calm, most-calm, user-calm, obj-calm, page-calm}
 use Rattle.laws.specs.Frame.Roots.{pageAt-le, Roots, bits-root, upto-in}
-use Rattle.laws.specs.Tree.Weigh.{Agree, hit-zero, hit-same, hit-other}
+use Rattle.laws.specs.Tree.Slot.{Agree, hit-zero, hit-same, hit-other, pair-zero}
 
 -- ---- the bit file's pages
 
@@ -55,11 +55,6 @@ module _ (P : ℕ) (v : Vol) (hand : ℕ → ℕ) (G : Good P v hand) where
 
   pub free-none : (d : ℕ) → d < P → bit P v d ≡ 0 → (all P v (hit d) ≡ 0) × (hand d ≡ 0)
   free-none d h e = (omega (arith, G .held d h, e), omega (arith, G .held d h, e))
-
--- C is 0 only where neither page is
-pub pair-zero : (a b q : ℕ) → 0 < q → hit a q + hit b q ≡ 0 → (q ≢ a) × (q ≢ b)
-pair-zero a b q h e =
-    ((λ i. omega (arith, e, subst (λ (x : ℕ). hit x q ≡ 1) i (hit-same q h))), (λ i. omega (arith, e, subst (λ (x : ℕ). hit x q ≡ 1) i (hit-same q h))))
 
 module _ (P : ℕ) (v : Vol) (hand : ℕ → ℕ) (G : Good P v hand) (d : ℕ) (hd : d < P) (fd : bit P v d ≡ 0) where
   abbrev B : ℕ → ℕ

@@ -14,8 +14,9 @@ use Rattle.book.specs.Written.{word-pos, put-here, put-page, put-word}
 use Rattle.laws.specs.Bits.Claim.{bitPage-is, bitPage-pos}
 use Rattle.laws.specs.Bits.Mark.{mark-page, mark-master, mark-bit, mark-other}
 use Rattle.laws.specs.Count.Good.{bit-le}
-use Rattle.laws.specs.Frame.Renewed.{Master, page-ext, rule1}
-use Rattle.laws.specs.Tree.Weigh.{hit-same, hit-other}
+use Rattle.laws.specs.Frame.Renewed.{Master, rule1}
+use Rattle.laws.specs.Tree.Pointer.{page-ext}
+use Rattle.laws.specs.Tree.Slot.{hit-same, hit-other}
 
 -- ---- the bits of a word
 

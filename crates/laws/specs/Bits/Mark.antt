@@ -16,7 +16,7 @@ use Rattle.laws.specs.Bits.Claim.{bitPage-is, bitPage-pos, bitPage-rest}
 use Rattle.laws.specs.Count.Good.{Good, bit-le}
 use Rattle.laws.specs.Frame.Rest.{all-calm, most-calm}
 use Rattle.laws.specs.Frame.Roots.{Roots, bits-root}
-use Rattle.laws.specs.Tree.Weigh.{Agree, hit-zero, hit-same, hit-other}
+use Rattle.laws.specs.Tree.Slot.{Agree, hit-zero, hit-same, hit-other}
 
 module _ (P : ℕ) (v : Vol) (r : Rule1 P v) (d x : ℕ) (hd : d < P) (hx : x < 2) where
   abbrev B : ℕ → ℕ

@@ -13,10 +13,10 @@ use Rattle.book.specs.Written.{word-pos, put-here, put-page, put-word}
 use Rattle.laws.specs.Bits.Claim.{claim-agree, claim-quiet, claim-none, claim-master, bitPage-rest, bitPage-pos}
 use Rattle.laws.specs.Bits.Mark.{mark-agree, mark-master, mark-roots, mark-bit, mark-other}
 use Rattle.laws.specs.Count.Good.{Good, Most}
-use Rattle.laws.specs.Frame.Beside.{Still, still-refl, still-trans, still-calm, bitPage-same, rest-same}
 use Rattle.laws.specs.Frame.Places.{Places, WordsOf, Apart, OnlyAt, only-put}
 use Rattle.laws.specs.Frame.Rest.{rest, most-calm}
-use Rattle.laws.specs.Tree.Weigh.{hit-zero}
+use Rattle.laws.specs.Frame.Still.{Still, still-refl, still-trans, still-calm, bitPage-same, rest-same}
+use Rattle.laws.specs.Tree.Slot.{hit-zero}
 
 pub claim-still : (P : ℕ) (v : Vol) (hand : ℕ → ℕ) (G : Good P v hand) (d : ℕ) → d < P → bit P v d ≡ 0 → Still P v (claim P v d)
 claim-still P v hand G d hd fd =

@@ -4,11 +4,12 @@ use mathlib.Core.Logic.{_≢_, _⊎_, inl, inr}
 use Prim.Native.Nat.{ℕ, zero, suc, _+_, _≤_, _<_}
 use native.Mathlib.Omega.{arith}
 use Rattle.sums.specs.Sum.{sum, sum-suc, sum-zero}
-use Rattle.book.specs.Bits.{bit, claimRun}
+use Rattle.book.specs.Bits.{bit, claimRun, claim}
 use Rattle.book.specs.Entries.{user, object}
 use Rattle.book.specs.Holders.{hit}
 use Rattle.book.specs.Words.{Vol}
 use Rattle.laws.specs.Bits.Claim.{claim-good, claim-bit-other, claim-user, claim-obj}
+use Rattle.laws.specs.Bits.Taking.{NoWords, no-words, Taking, taking-none, taking-then, claim-taking}
 use Rattle.laws.specs.Count.Good.{Good}
 
 pub record Taken (P : ℕ) (v : Vol) (hand : ℕ → ℕ) (s n : ℕ) : Type 0 where
@@ -42,3 +43,14 @@ taken P v hand G s (suc n) h z =
     less : (p : ℕ) → (p < s) ⊎ (s + suc n ≤ p) → (p < s) ⊎ (s + n ≤ p)
     less p (inl a) = inl a
     less p (inr a) = inr (omega arith)
+
+module _ (P : ℕ) (v : Vol) (hand : ℕ → ℕ) (G : Good P v hand) (s : ℕ) where
+  pub run-taking : (n : ℕ) → s + n ≤ P → ((i : ℕ) → i < n → bit P v (s + i) ≡ 0) → Taking P v (claimRun P v s n) NoWords n 0
+  unfolding claimRun
+  run-taking zero h z = taking-none P v
+  run-taking (suc n) h z =
+      let t : Taken P v hand s n = taken P v hand G s n (omega arith) (λ i q. z i (omega arith)) in
+      let w : Vol = claimRun P v s n in
+      let fd : bit P w (s + n) ≡ 0 = t .others (s + n) (omega arith) (inr (omega arith)) ∙ z n (omega arith) in
+      taking-then P v w (claim P w (s + n)) NoWords NoWords NoWords n 0 1 0 (suc n) 0 (run-taking n (omega arith) (λ i q. z i (omega arith)))
+      (claim-taking P w (λ p. hand p + sum n (λ i. hit (s + i) p)) (t .good) (s + n) (omega arith) fd) (omega arith) refl (λ p k q. inr (no-words NoWords p k q))

@@ -4,8 +4,8 @@ use mathlib.Core.Logic.{_≢_, _⊎_, inl, inr}
 use Prim.Native.Nat.{ℕ, _+_, _-_, _/_, _≤_, _<_}
 use native.Mathlib.Decide.{ℕ-discrete}
 use native.Mathlib.Omega.{arith}
-use Rattle.sums.specs.Sum.{sum-ext}
-use Rattle.book.specs.Bits.{bit, bitWord, bitPlace, bitPage, bitFile, digit, mark, claim}
+use Rattle.sums.specs.Sum.{sum-ext, sum-add, sum-const}
+use Rattle.book.specs.Bits.{bit, bitWord, bitPlace, bitPage, bitFile, digit, mark, claim, reserved}
 use Rattle.book.specs.Entries.{userFile, objectFile, user, object, unreserved}
 use Rattle.book.specs.Files.{fileAt}
 use Rattle.book.specs.Holders.{hit, some}
@@ -15,13 +15,11 @@ use Rattle.book.specs.Written.{word-ext}
 use Rattle.laws.specs.Bits.Claim.{bitPage-rest, claim-agree, claim-quiet, claim-none, claim-bit, claim-bit-other, claim-free, claim-master}
 use Rattle.laws.specs.Count.Good.{Good, free, bit-le}
 use Rattle.laws.specs.Create.Settled.{Settled, file-same, bits-kept}
-use Rattle.laws.specs.Delete.Entry.{bits-good}
-use Rattle.laws.specs.Frame.Beside.{Still, still-calm, bitPage-same, places-unreserved}
 use Rattle.laws.specs.Frame.Places.{Places, PageOf, WordsOf, Either, OnlyAt, only-wider, only-then, only-put, only-wipe}
-use Rattle.laws.specs.Frame.Rest.{rest, all-rest}
+use Rattle.laws.specs.Frame.Rest.{bits-good, rest, all-rest}
 use Rattle.laws.specs.Frame.Roots.{Roots, pageAt-frame, weighR-frame, blocksR-le, users-root, objs-root}
-use Rattle.laws.specs.Frame.Still.{blocks-nobody}
-use Rattle.laws.specs.Tree.Weigh.{Agree, hit-zero, hit-same, hit-other}
+use Rattle.laws.specs.Frame.Still.{Still, still-calm, bitPage-same, places-unreserved, blocks-nobody}
+use Rattle.laws.specs.Tree.Slot.{Agree, hit-zero, hit-same, hit-other}
 
 -- ---- pages taken
 
@@ -203,3 +201,16 @@ settled-taking P v hand G v′ C new T ua oa F o = record {
   paid = T .pay;
   words = only-wider F (Either (TakenWords P v v′) F) v v′ (λ p k h. inr h) o;
 }
+
+pub free-reserved : (P : ℕ) (v : Vol) → free P v + reserved P v ≡ P
+unfolding free reserved
+free-reserved P v = omega (
+  arith,
+  sum-add P (λ p. 1 - bit P v p) (bit P v),
+  sum-ext P (λ p. (1 - bit P v p) + bit P v p) (λ p. 1) (λ p h. omega (arith, bit-le P v p)),
+  sum-const P 1,
+)
+
+-- n pages taken: n more reserved
+pub taking-reserved : (P : ℕ) (v w : Vol) (F : Places) (n m : ℕ) → Taking P v w F n m → reserved P w ≡ reserved P v + n
+taking-reserved P v w F n m T = omega (arith, T .left, free-reserved P v, free-reserved P w)

@@ -27,7 +27,7 @@ use Rattle.laws.specs.Delete.User.{users-delete-user, objects-delete-use
 use Rattle.laws.specs.Frame.Beside.{Beside}
 use Rattle.laws.specs.Grow.Call.{beside-grow}
 use Rattle.laws.specs.Shrink.Call.{beside-shrink}
-use Rattle.laws.specs.Tree.Weigh.{two-ext}
+use Rattle.laws.specs.Tree.Slot.{two-ext}
 use Rattle.laws.specs.User.Give.{users-give, objects-give, addresses-give, users-take, objects-take, addresses-take}
 
 -- user u's entry, his files' entries and their pages are as they were

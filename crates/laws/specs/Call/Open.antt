@@ -19,16 +19,15 @@ use Rattle.book.specs.Steps.{openStep}
 use Rattle.book.specs.Trees.{Root, weighR, pageAt}
 use Rattle.book.specs.Words.{Vol, vol, word}
 use Rattle.book.specs.Written.{word-ext}
-use Rattle.laws.specs.Call.Called.{Stepped, Called, called}
+use Rattle.laws.specs.Call.After.{Stepped, Called, called}
 use Rattle.laws.specs.Count.Good.{Good, good, most, bit-le, sound-within}
-use Rattle.laws.specs.File.Finish.{used-page}
 use Rattle.laws.specs.Frame.Edit.{Outside, obj-page, position, entry-other}
 use Rattle.laws.specs.Frame.Places.{Places, FieldOf, OnlyAt, only-put}
 use Rattle.laws.specs.Frame.Quiet.{Quiet, Stays, quiet-address, quiet-sound}
 use Rattle.laws.specs.Frame.Rest.{rest, all-rest}
-use Rattle.laws.specs.Frame.Roots.{Roots, objs-root, pageAt-frame, blocksR-le}
+use Rattle.laws.specs.Frame.Roots.{used-page, Roots, objs-root, pageAt-frame, blocksR-le}
 use Rattle.laws.specs.Frame.Still.{agree-at, users-still, blocks-nobody}
-use Rattle.laws.specs.Tree.Weigh.{Agree, hit-zero, hit-other}
+use Rattle.laws.specs.Tree.Slot.{Agree, hit-zero, hit-other}
 
 -- word 19 of object entry e
 abbrev pub OpensWord : Vol → ℕ → Places

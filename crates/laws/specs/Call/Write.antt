@@ -19,16 +19,16 @@ use Rattle.book.specs.Steps.{writeStep}
 use Rattle.book.specs.Trees.{weighR, blocksR, pageAt}
 use Rattle.book.specs.Words.{Vol, vol}
 use Rattle.book.specs.Written.{putWords-page}
-use Rattle.laws.specs.Call.Called.{Stepped, Called, called}
+use Rattle.laws.specs.Call.After.{Stepped, Called, called}
 use Rattle.laws.specs.Count.Good.{good, most, bit-le, sound-within}
-use Rattle.laws.specs.File.There.{position-page}
+use Rattle.laws.specs.File.Kinds.{position-page}
 use Rattle.laws.specs.Frame.Edit.{file-le₂}
 use Rattle.laws.specs.Frame.Places.{Places, PageOf, OnlyAt}
 use Rattle.laws.specs.Frame.Quiet.{Quiet, Stays, quiet-address, quiet-sound}
 use Rattle.laws.specs.Frame.Rest.{rest, all-rest, file-le}
 use Rattle.laws.specs.Frame.Roots.{Roots, pageAt-le, pageAt-below, blocksR-le}
 use Rattle.laws.specs.Frame.Still.{agree-at, users-still, objects-still}
-use Rattle.laws.specs.Tree.Weigh.{Agree, hit-same, hit-zero}
+use Rattle.laws.specs.Tree.Slot.{Agree, hit-same, hit-zero}
 
 -- the page at position n of object entry e's file
 abbrev pub DataPage : Vol → ℕ → ℕ → Places

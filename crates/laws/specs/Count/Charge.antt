@@ -13,11 +13,10 @@ use Rattle.book.specs.Pointers.{flags}
 use Rattle.book.specs.Rules.{Rule7}
 use Rattle.book.specs.Trees.{Root, rootAt, rootBy, weighR}
 use Rattle.book.specs.Words.{Words, Vol}
-use Rattle.laws.specs.Count.Good.{file-unused}
 use Rattle.laws.specs.Count.Pages.{run-count}
-use Rattle.laws.specs.Count.Reach.{file-used}
 use Rattle.laws.specs.Count.Sums.{sum-rows}
 use Rattle.laws.specs.File.Cost.{fill-1, fill-2}
+use Rattle.laws.specs.Tree.Pointer.{file-unused, file-used}
 
 -- the pages of a file of n pages, by the flags of its pointer: a run has no blocks
 unfoldable pub charge : ℕ → ℕ → ℕ

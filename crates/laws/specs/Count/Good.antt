@@ -1,39 +1,29 @@
 -- Counting: the free pages of a sound volume. Assumes nothing.
-use mathlib.Core.Path.{_≡_, refl, sym, ap, ap₂, _∙_, subst}
-use mathlib.Core.Logic.{_≢_, _⊎_, inl, inr}
-use Prim.Native.Nat.{ℕ, zero, suc, _+_, _-_, _*_, _%_, _≤_, _<_, zero-le}
+use mathlib.Core.Path.{_≡_, refl, ap, ap₂, _∙_}
+use mathlib.Core.Logic.{_≢_, inl, inr}
+use Prim.Native.Nat.{ℕ, zero, _+_, _-_, _*_, _%_, _≤_, _<_}
 use native.Mathlib.Nat.{eq-zero-or-pos}
 use native.Mathlib.Omega.{arith}
-use Rattle.sums.specs.Search.{pick, pick-yes, pick-no}
+use Rattle.sums.specs.Search.{pick-yes}
 use Rattle.sums.specs.Sum.{sum, is, sum-ext, sum-none, sum-add, sum-swap, sum-is, sum-le-at, sum-find, sum-const, is-sym}
 use Rattle.book.specs.Bits.{bitFile, bit}
 use Rattle.book.specs.Entries.{userFile, objectFile, user, object, used, given, usedPages, grant, unreserved}
-use Rattle.book.specs.Files.{fileAt, Shape, FileShape}
+use Rattle.book.specs.Files.{fileAt}
 use Rattle.book.specs.Holders.{hit, some, mine, system, all, holders, systemPages}
-use Rattle.book.specs.Pointers.{flags, page, Zero, Inside}
-use Rattle.book.specs.Rules.{Rule1, Rule2, Rule3, Rule4, Rule5, Rule5By, Rule6, Rule7, Rule8, Rule9, Rule10, Sound}
-use Rattle.book.specs.Trees.{Root, tree, run, weighR, Below, rootAt, rootBy}
+use Rattle.book.specs.Rules.{Rule1, Rule2, Rule3, Rule4, Rule5, Rule6, Rule7, Rule8, Rule9, Rule10, Sound}
+use Rattle.book.specs.Trees.{Root, tree, run, weighR}
 use Rattle.book.specs.Words.{Vol, two}
 use Rattle.book.specs.Written.{digit-le}
-use Rattle.laws.specs.Tree.Weigh.{weigh-count, sum-hit}
-
--- the pages of r are below P
-unfoldable pub BelowR : Vol → ℕ → Root → Type 0
-BelowR v P (tree l t) = Below v P l t
-BelowR v P (run s n) = s + n ≤ P
+use Rattle.laws.specs.Count.Reach.{Within, rules-within}
+use Rattle.laws.specs.Tree.Pointer.{file-unused}
+use Rattle.laws.specs.Tree.Slot.{sum-hit}
+use Rattle.laws.specs.Tree.Weigh.{weigh-count, BelowR}
 
 pub root-count : (v : Vol) (P : ℕ) (r : Root) → BelowR v P r → sum P (λ p. weighR v r (hit p)) ≡ weighR v r some
 unfolding BelowR weighR
 root-count v P (tree l t) b = weigh-count v P l t b
 root-count v P (run s n) b =
     sum-swap P n (λ p i. hit p (s + i)) ∙ sum-ext n (λ i. sum P (λ p. hit p (s + i))) (λ i. some (s + i)) (λ i h. sum-hit P (s + i) (omega arith))
-
--- every tree of the volume is below P
-pub record Within (P : ℕ) (v : Vol) : Type 0 where
-  pub bits : BelowR v P (bitFile P v)
-  pub users : BelowR v P (userFile v)
-  pub objs : BelowR v P (objectFile v)
-  pub files : (u f : ℕ) → u < 256 → f < 256 → BelowR v P (fileAt v (256 * u + f))
 
 module _ (P : ℕ) (v : Vol) (W : Within P v) where
   pub mine-count : (u : ℕ) → u < 256 → sum P (λ p. mine v u (hit p)) ≡ mine v u some
@@ -70,36 +60,6 @@ pub holders-held : (P : ℕ) (v : Vol) (p b c : ℕ) → b ≡ is p 0 + all P v 
 unfolding holders
 holders-held P v p b c e = e
 
--- ---- what the rules say of the trees
-
-pub root-0 : (w : ℕ → ℕ) (k n : ℕ) → flags w k ≡ 0 → rootAt w k n ≡ run (page w k) n
-unfolding rootAt rootBy
-root-0 w k n h = ap (λ (x : ℕ). rootBy x (page w k) n) h
-
-pub root-1 : (w : ℕ → ℕ) (k n : ℕ) → flags w k ≡ 1 → rootAt w k n ≡ tree 1 (page w k)
-unfolding rootAt rootBy
-root-1 w k n h = ap (λ (x : ℕ). rootBy x (page w k) n) h
-
-pub root-2 : (w : ℕ → ℕ) (k n : ℕ) → flags w k ≡ 2 → rootAt w k n ≡ tree 2 (page w k)
-unfolding rootAt rootBy
-root-2 w k n h = ap (λ (x : ℕ). rootBy x (page w k) n) h
-
-pub zero-flags : (w : ℕ → ℕ) (k : ℕ) → Zero w k → flags w k ≡ 0
-unfolding Zero flags
-zero-flags w k z = omega (arith, z .0)
-
-pub zero-page : (w : ℕ → ℕ) (k : ℕ) → Zero w k → page w k ≡ 0
-unfolding Zero page
-zero-page w k z = omega (arith, z .0, z .1)
-
-below-run : (v : Vol) (P : ℕ) (r : Root) (s n : ℕ) → r ≡ run s n → s + n ≤ P → BelowR v P r
-unfolding BelowR
-below-run v P r s n e h = subst (λ (x : Root). BelowR v P x) (sym e) h
-
-below-tree : (v : Vol) (P : ℕ) (r : Root) (l t : ℕ) → r ≡ tree l t → Below v P l t → BelowR v P r
-unfolding BelowR
-below-tree v P r l t e h = subst (λ (x : Root). BelowR v P x) (sym e) h
-
 pub bit-le : (P : ℕ) (v : Vol) (p : ℕ) → bit P v p ≤ 1
 unfolding bit
 bit-le P v p = digit-le (p % 16) _
@@ -120,43 +80,8 @@ pub record Good (P : ℕ) (v : Vol) (hand : ℕ → ℕ) : Type 0 where
   pub most : Most P v
   pub held : (p : ℕ) → p < P → bit P v p ≡ is p 0 + all P v (hit p) + hand p
 
-module _ (P : ℕ) (v : Vol) (s : Most P v) where
-  w-bits : BelowR v P (bitFile P v)
-  unfolding bitFile
-  w-bits = below-run v P _ _ _ refl (s .r1 .fits)
-
-  w-users : Rule2 P v → BelowR v P (userFile v)
-  unfolding Rule2 Rule3 userFile Inside Below
-  w-users (inl z) = below-run v P _ _ _ (root-0 (v 0) 1018 0 (zero-flags (v 0) 1018 (z .0))) (omega (arith, zero-page (v 0) 1018 (z .0)))
-  w-users (inr i) = below-tree v P _ 1 _ (root-1 (v 0) 1018 0 (i .0 .0)) (i .0 .2, λ k h. s .r3 k h .0)
-
-  w-objs : Rule2 P v → BelowR v P (objectFile v)
-  unfolding Rule2 Rule5 Rule5By objectFile Inside
-  w-objs (inl z) = below-run v P _ _ _ (root-0 (v 0) 1016 0 (zero-flags (v 0) 1016 (z .1))) (omega (arith, zero-page (v 0) 1016 (z .1)))
-  w-objs (inr i) = go (i .1)
-    where
-      go : (Inside P (v 0) 1016 1 ⊎ Inside P (v 0) 1016 2) → BelowR v P (rootAt (v 0) 1016 0)
-      go (inl a) = below-tree v P _ 1 _ (root-1 (v 0) 1016 0 (a .0)) ((subst (λ (x : ℕ). Rule5By P v x (page (v 0) 1016)) (a .0) (s .r5)) .0)
-      go (inr a) = below-tree v P _ 2 _ (root-2 (v 0) 1016 0 (a .0)) ((subst (λ (x : ℕ). Rule5By P v x (page (v 0) 1016)) (a .0) (s .r5)) .0)
-
-  shape-below : (w : ℕ → ℕ) (x : ℕ) → flags w 30 ≡ x → Shape P v x (page w 30) (two w 26) → BelowR v P (rootAt w 30 (two w 26))
-  unfolding Shape
-  shape-below w zero e (inl a) = below-run v P _ _ _ (root-0 w 30 (two w 26) e) (omega (arith, a))
-  shape-below w zero e (inr a) = below-run v P _ _ _ (root-0 w 30 (two w 26) e) (a .2)
-  shape-below w (suc zero) e a = below-tree v P _ 1 _ (root-1 w 30 (two w 26) e) (a .3)
-  shape-below w (suc (suc zero)) e a = below-tree v P _ 2 _ (root-2 w 30 (two w 26) e) (a .3)
-  shape-below w (suc (suc (suc x))) e a = absurd a
-
-  w-file : (e : ℕ) → e < 65536 → BelowR v P (fileAt v e)
-  unfolding fileAt pick Rule7 FileShape
-  w-file e h = go (used (object v e)) refl
-    where
-      go : (x : ℕ) → used (object v e) ≡ x → BelowR v P (pick x (rootAt (object v e) 30 (two (object v e) 26)) (run 0 0))
-      go zero q = below-run v P _ 0 0 refl zero-le
-      go (suc x) q = shape-below (object v e) _ refl (s .r7 e h (omega arith) .0)
-
-  pub sound-within : Within P v
-  sound-within = record { bits = w-bits; users = w-users (s .r2); objs = w-objs (s .r2); files = λ u f h i. w-file (256 * u + f) (omega arith) }
+pub sound-within : (P : ℕ) (v : Vol) → Most P v → Within P v
+sound-within P v s = rules-within P v (s .r1) (s .r2) (s .r3) (s .r5) (s .r7)
 
 pub most : (P : ℕ) (v : Vol) → Sound P v → Most P v
 most P v s = record { r1 = s .r1; r2 = s .r2; r3 = s .r3; r4 = s .r4; r5 = s .r5; r6 = s .r6; r7 = s .r7; r10 = s .r10 }
@@ -199,10 +124,6 @@ free P v = sum P (λ p. 1 - bit P v p)
 pub grant-used : (v : Vol) (u : ℕ) → 0 < used (user v u) → grant (user v) u ≡ given (user v) u
 unfolding grant
 grant-used v u h = pick-yes (used (user v u)) (given (user v) u) 0 h
-
-pub file-unused : (v : Vol) (e : ℕ) → used (object v e) ≡ 0 → fileAt v e ≡ run 0 0
-unfolding fileAt
-file-unused v e h = pick-no (used (object v e)) (rootAt (object v e) 30 (two (object v e) 26)) (run 0 0) h
 
 module _ (P : ℕ) (v : Vol) (hand : ℕ → ℕ) (G : Good P v hand) where
   pub free-count : 0 < P → free P v + (1 + all P v some) + sum P hand ≡ P

@@ -18,12 +18,12 @@ use Rattle.book.specs.Pointers.{page, Inside, userPointer}
 use Rattle.book.specs.Rules.{Rule2}
 use Rattle.book.specs.Trees.{Root, tree, run, weighR, indexAt, subindexOf}
 use Rattle.book.specs.Words.{Vol}
-use Rattle.laws.specs.Count.Good.{root-0, root-1, zero-flags}
 use Rattle.laws.specs.Count.Owners.{owners, rootOf, root-file, owners-sum, owner-shallow}
 use Rattle.laws.specs.Count.Sums.{Twice, apart, within, sum-find₂}
-use Rattle.laws.specs.Frame.Edit.{weighR-nobody}
+use Rattle.laws.specs.Frame.Roots.{weighR-nobody}
+use Rattle.laws.specs.Tree.Pointer.{root-0, root-1, zero-flags}
 use Rattle.laws.specs.Tree.Roles.{role-pos, role-one, role-find, role-find₂, upto-pos}
-use Rattle.laws.specs.Tree.Weigh.{hit-zero, hit-other}
+use Rattle.laws.specs.Tree.Slot.{hit-zero, hit-other}
 
 -- ---- a holder is an owner and a role
 

@@ -1,7 +1,7 @@
 -- Pages counted: what a file holds, what is reserved, visited and free. Assumes nothing.
 use mathlib.Core.Path.{_≡_, refl, sym, ap, _∙_}
 use mathlib.Core.Logic.{inl, inr}
-use Prim.Native.Nat.{ℕ, zero, suc, _+_, _<_}
+use Prim.Native.Nat.{ℕ, zero, suc, _+_, _<_, _≤_}
 use native.Mathlib.Omega.{arith}
 use Rattle.sums.specs.Sum.{sum, sum-zero, sum-ext, sum-none, sum-const}
 use Rattle.book.specs.Bits.{bit, reserved}
@@ -9,14 +9,27 @@ use Rattle.book.specs.Entries.{object, used, pageCount}
 use Rattle.book.specs.Files.{fileAt, Shape, FileShape, cost, isRun}
 use Rattle.book.specs.Holders.{some, all, holders, visits}
 use Rattle.book.specs.Pointers.{flags, page}
-use Rattle.book.specs.Rules.{Rule7, Sound}
+use Rattle.book.specs.Rules.{Rule7, Sound, Rule8}
 use Rattle.book.specs.Trees.{Root, run, weighR, rootAt, rootBy}
 use Rattle.book.specs.Words.{Vol}
 use Rattle.laws.specs.Count.Good.{free, free-count, good, most, bit-holders, holders-count, sound-within}
-use Rattle.laws.specs.Count.Visits.{visits-holders}
+use Rattle.laws.specs.Count.Reach.{Within}
 use Rattle.laws.specs.File.Cost.{fill-1, fill-2}
-use Rattle.laws.specs.File.Finish.{file-used}
-use Rattle.laws.specs.Tree.Weigh.{some-pos}
+use Rattle.laws.specs.Tree.Pointer.{file-used}
+use Rattle.laws.specs.Tree.Slot.{some-pos}
+
+some-small : (x : ℕ) → x ≤ 1 → some x ≡ x
+unfolding some
+some-small zero h = refl
+some-small (suc x) h = omega arith
+
+-- each held page is visited once, whatever the bits say
+pub visits-holders : (P : ℕ) (v : Vol) → Rule8 P v → visits P v ≡ sum P (holders P v)
+unfolding visits Rule8
+visits-holders P v one = sum-ext P (λ p. some (holders P v p)) (holders P v) (λ p h. some-small (holders P v p) (one p h))
+
+pub visits-all : (P : ℕ) (v : Vol) → 0 < P → Rule8 P v → Within P v → visits P v ≡ 1 + all P v some
+visits-all P v pos one W = visits-holders P v one ∙ holders-count P v W pos
 
 -- ---- a file
 

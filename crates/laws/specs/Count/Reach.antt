@@ -1,18 +1,25 @@
 -- What the rules say of each tree by itself: all its pages are below P. Assumes nothing.
 use mathlib.Core.Path.{_≡_, refl, sym, subst}
 use mathlib.Core.Logic.{_⊎_, inl, inr}
-use Prim.Native.Nat.{ℕ, zero, suc, _+_, _*_, _≤_, _<_, zero-le}
+use Prim.Native.Nat.{ℕ, zero, suc, _+_, _*_, _≤_, _<_, zero-le, _-_}
 use native.Mathlib.Nat.{eq-zero-or-pos}
 use native.Mathlib.Omega.{arith}
-use Rattle.sums.specs.Search.{pick-yes}
 use Rattle.book.specs.Bits.{bitFile}
-use Rattle.book.specs.Entries.{userFile, objectFile, object, used}
+use Rattle.book.specs.Entries.{userFile, objectFile, object, used, user}
 use Rattle.book.specs.Files.{fileAt, Shape, FileShape}
-use Rattle.book.specs.Pointers.{flags, page, Inside}
+use Rattle.book.specs.Pointers.{flags, page, Inside, objectPointer, indexed}
 use Rattle.book.specs.Rules.{Rule1, Rule2, Rule3, Rule5, Rule5By, Rule7}
 use Rattle.book.specs.Trees.{Root, tree, run, Below, rootAt, rootBy}
-use Rattle.book.specs.Words.{Vol, two}
-use Rattle.laws.specs.Count.Good.{BelowR, Within, root-0, root-1, root-2, zero-flags, zero-page, file-unused}
+use Rattle.book.specs.Words.{Vol}
+use Rattle.laws.specs.Tree.Pointer.{root-0, root-1, root-2, zero-flags, zero-page, file-unused, file-used}
+use Rattle.laws.specs.Tree.Weigh.{BelowR}
+
+-- every tree of the volume is below P
+pub record Within (P : ℕ) (v : Vol) : Type 0 where
+  pub bits : BelowR v P (bitFile P v)
+  pub users : BelowR v P (userFile v)
+  pub objs : BelowR v P (objectFile v)
+  pub files : (u f : ℕ) → u < 256 → f < 256 → BelowR v P (fileAt v (256 * u + f))
 
 module _ (v : Vol) (P : ℕ) (r : Root) where
   below-run : (s n : ℕ) → r ≡ run s n → s + n ≤ P → BelowR v P r
@@ -22,11 +29,6 @@ module _ (v : Vol) (P : ℕ) (r : Root) where
   below-tree : (l t : ℕ) → r ≡ tree l t → Below v P l t → BelowR v P r
   unfolding BelowR
   below-tree l t e h = subst (λ (x : Root). BelowR v P x) (sym e) h
-
--- the pages of a used entry's file, and of an unused one's
-pub file-used : (v : Vol) (e : ℕ) → 0 < used (object v e) → fileAt v e ≡ rootAt (object v e) 30 (two (object v e) 26)
-unfolding fileAt
-file-used v e h = pick-yes (used (object v e)) (rootAt (object v e) 30 (two (object v e) 26)) (run 0 0) h
 
 module _ (P : ℕ) (v : Vol) where
   pub below-bits : Rule1 P v → BelowR v P (bitFile P v)
@@ -73,3 +75,7 @@ module _ (P : ℕ) (v : Vol) where
   -- all of them together
   pub rules-within : Rule1 P v → Rule2 P v → Rule3 P v → Rule5 P v → Rule7 P v → Within P v
   rules-within a b c d e = record { bits = below-bits a; users = below-users b c; objs = below-objects b d; files = λ u f h i. below-files e (256 * u + f) (omega arith) }
+
+pub high-unused : (P : ℕ) (v : Vol) → Rule5 P v → flags (v 0) objectPointer ≡ indexed → (u : ℕ) → 63 < u → u < 256 → used (user v u) ≡ 0
+unfolding Rule5 Rule5By
+high-unused P v r q u i h = subst (λ (x : ℕ). Rule5By P v x (page (v 0) objectPointer)) q r .1 u i h

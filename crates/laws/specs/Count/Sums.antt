@@ -1,12 +1,12 @@
 -- Sums that are two or more, and sums cut up: what counting holders needs. Assumes nothing.
 use mathlib.Core.Path.{_≡_}
 use mathlib.Core.Logic.{_≢_}
-use Prim.Native.Nat.{ℕ, zero, suc, _+_, _*_, _≤_, _<_}
+use Prim.Native.Nat.{ℕ, zero, suc, _+_, _*_, _≤_, _<_, _-_}
 use native.Mathlib.Nat.{le-refl, not-suc-le-zero}
 use native.Mathlib.Numerals.{unary-clauses}
 use native.Mathlib.Decide.{decLt}
 use native.Mathlib.Omega.{arith}
-use Rattle.sums.specs.Sum.{sum, sum-find}
+use Rattle.sums.specs.Sum.{sum, sum-find, sum-le-at}
 
 -- a sum of two or more: two summands that are not 0, or one of two or more
 pub data Twice (n : ℕ) (f : ℕ → ℕ) : Type 0 where
@@ -38,3 +38,10 @@ pub sum-rows : (m n : ℕ) (f : ℕ → ℕ) → sum n (λ i. sum m (λ j. f (m 
 unfolding sum
 sum-rows m zero f = simp unary-clauses
 sum-rows m (suc n) f = simp unary-clauses (omega (arith, sum-rows m n f, sum-cat m (m * n) f))
+
+-- equal sums of terms in order have equal terms
+pub sum-tight : (n : ℕ) (f g : ℕ → ℕ) → ((i : ℕ) → i < n → f i ≤ g i) → sum n g ≤ sum n f → (i : ℕ) → i < n → g i ≤ f i
+sum-tight n f g le eq i h = elim (decLt (f i) (g i)) [
+  | yes l ↦ omega (arith, sum-le-at n f g i 1 h le (omega arith))
+  | no l ↦ omega arith
+]

@@ -15,16 +15,17 @@ use Rattle.book.specs.Names.{NameText, TypeText, Named, Typed}
 use Rattle.book.specs.Rules.{Sound}
 use Rattle.book.specs.Trees.{run, pageAt}
 use Rattle.book.specs.Words.{Vol, Words, two}
+use Rattle.laws.specs.Bits.Choose.{Chooser}
 use Rattle.laws.specs.Bits.Taking.{TakenWords, NoWords, Taking, taking-then}
 use Rattle.laws.specs.Count.Good.{Good, good, sound, free}
 use Rattle.laws.specs.Create.FilePlace.{FilePlaceWords, FilePlaced, file-placed}
 use Rattle.laws.specs.Create.NewFile.{new-file-unused, Entered, new-file}
 use Rattle.laws.specs.Create.Vacant.{used-reached}
 use Rattle.laws.specs.Create.WriteFile.{write-change, write-master, write-entry, write-owner, write-used, write-beside, write-bits}
-use Rattle.laws.specs.File.Finish.{used-page}
-use Rattle.laws.specs.Frame.Beside.{Beside, places-unreserved}
+use Rattle.laws.specs.Frame.Beside.{Beside}
 use Rattle.laws.specs.Frame.Places.{Places, Either, OnlyAt, only-then, only-wider}
-use Rattle.laws.specs.Grow.Step.{Chooser}
+use Rattle.laws.specs.Frame.Roots.{used-page}
+use Rattle.laws.specs.Frame.Still.{places-unreserved}
 
 -- what a new file asks for: its owner, legal words of its own, an entry, and unreserved pages for its place
 pub record FileWanted (P : ℕ) (v : Vol) (u : ℕ) (name type : List ℕ) : Type 0 where

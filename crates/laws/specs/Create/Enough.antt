@@ -19,8 +19,7 @@ use Rattle.book.specs.Rules.{Sound}
 use Rattle.book.specs.Words.{Vol, vol}
 use Rattle.laws.specs.Bits.Choose.{lowest-chooser}
 use Rattle.laws.specs.Bits.Highest.{FreeRun, run-found, run-none, run-exact}
-use Rattle.laws.specs.Call.Done.{clear-done}
-use Rattle.laws.specs.Call.Numbered.{Asks, number-exact}
+use Rattle.laws.specs.Call.Done.{clear-done, Asks, number-exact}
 use Rattle.laws.specs.Count.Good.{free}
 use Rattle.laws.specs.Count.Room.{system-room}
 use Rattle.laws.specs.Create.Created.{file-place}

@@ -13,18 +13,16 @@ use Rattle.book.specs.Holders.{hit}
 use Rattle.book.specs.Rules.{Rule4, Sound}
 use Rattle.book.specs.Words.{Vol, Words, two}
 use Rattle.book.specs.Written.{put2-two}
+use Rattle.laws.specs.Bits.Choose.{Chooser}
 use Rattle.laws.specs.Bits.Highest.{FreeRun, run-found}
-use Rattle.laws.specs.Bits.RunTaking.{run-taking}
-use Rattle.laws.specs.Bits.Runs.{taken}
+use Rattle.laws.specs.Bits.Runs.{run-taking, taken}
 use Rattle.laws.specs.Bits.Taking.{NoWords, Taking, taking-none}
 use Rattle.laws.specs.Count.Good.{Good, good}
 use Rattle.laws.specs.Create.Created.{FileWanted, Created, file-place, owner-page, file-created}
 use Rattle.laws.specs.Create.WriteFile.{write-apart, write-beside, write-used, owner-now, owner-was}
+use Rattle.laws.specs.Frame.Fields.{entry-page}
 use Rattle.laws.specs.Frame.Places.{EntryOf, FieldOf, Either, OnlyAt, only-then, only-putWords, only-put2}
-use Rattle.laws.specs.Frame.PutEntry.{entry-page}
-use Rattle.laws.specs.Grow.Indexed.{hit-sym}
-use Rattle.laws.specs.Grow.Step.{Chooser}
-use Rattle.laws.specs.Tree.Weigh.{two-ext}
+use Rattle.laws.specs.Tree.Slot.{hit-sym, two-ext}
 
 module _ (choose : Vol → ℕ) (P : ℕ) (ch : Chooser P choose) (v : Vol) (S : Sound P v) (pos : 0 < P) (u : ℕ) (name type : List ℕ) (created : ℕ) (A : FileWanted P v u name type) where
   abbrev f : ℕ

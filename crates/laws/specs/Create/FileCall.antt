@@ -16,8 +16,7 @@ use Rattle.book.specs.Rules.{Sound}
 use Rattle.book.specs.Words.{Vol, vol}
 use Rattle.laws.specs.Bits.Choose.{lowest-chooser}
 use Rattle.laws.specs.Bits.Taking.{TakenWords}
-use Rattle.laws.specs.Call.After.{after-call}
-use Rattle.laws.specs.Call.Call.{kept-call}
+use Rattle.laws.specs.Call.After.{after-call, kept-call}
 use Rattle.laws.specs.Call.Done.{done}
 use Rattle.laws.specs.Create.Created.{FileWanted, FileBeside, file-beside-same, Created}
 use Rattle.laws.specs.Create.File.{indexed-created, indexed-users, contiguous-created}

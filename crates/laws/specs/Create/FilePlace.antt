@@ -11,15 +11,15 @@ use Rattle.book.specs.Holders.{hit}
 use Rattle.book.specs.Pointers.{slot, flags, page}
 use Rattle.book.specs.Rules.{Sound}
 use Rattle.book.specs.Words.{Vol}
+use Rattle.laws.specs.Bits.Choose.{Chooser}
 use Rattle.laws.specs.Bits.Taking.{TakenWords, NoWords}
 use Rattle.laws.specs.Count.Good.{bit-le}
-use Rattle.laws.specs.Create.Join.{SlotWords, Vacant}
+use Rattle.laws.specs.Create.Join.{SlotWords}
 use Rattle.laws.specs.Create.Placed.{Placed, placed-none, placed-then, extend-pos, extend-master, extend-slot, extend-bare, extend-keeps, extend-taken, extend-placed, placed-wider}
-use Rattle.laws.specs.Create.Vacant.{Reached, reached-kept, once, index-one, index-two, top-held, under, object-slot, object-none, index-vacant, top-vacant}
+use Rattle.laws.specs.Create.Vacant.{Vacant, Reached, reached-kept, once, index-one, index-two, top-held, under, object-slot, object-none, index-vacant, top-vacant}
 use Rattle.laws.specs.Frame.Places.{Places, UnreservedWords, Either}
-use Rattle.laws.specs.Frame.Renewed.{flags-ext, page-ext}
-use Rattle.laws.specs.Grow.Step.{Chooser}
-use Rattle.laws.specs.Tree.Weigh.{hit-same, slot-same}
+use Rattle.laws.specs.Tree.Pointer.{flags-ext, page-ext}
+use Rattle.laws.specs.Tree.Slot.{hit-same, slot-same}
 
 -- words that change only under a condition
 abbrev pub When : Type 0 → Places → Places

@@ -13,13 +13,13 @@ use Rattle.book.specs.Pointers.{slot, flags, page, Zero, Inside}
 use Rattle.book.specs.Rules.{Rule2, Rule3, Rule5, Rule5By}
 use Rattle.book.specs.Trees.{Root, tree, run, leaf, weighR, pageAt, Below}
 use Rattle.book.specs.Words.{Vol, two, word}
-use Rattle.laws.specs.Count.Good.{Good, root-0, root-1, zero-flags}
+use Rattle.laws.specs.Count.Good.{Good}
 use Rattle.laws.specs.Create.Settled.{Settled}
 use Rattle.laws.specs.File.Named.{Legal-ext}
-use Rattle.laws.specs.Frame.Edit.{weighR-nobody}
-use Rattle.laws.specs.Frame.Renewed.{flags-ext, page-ext}
-use Rattle.laws.specs.Frame.Roots.{upto-in, upto-out, blocksR-le, weighR-frame}
-use Rattle.laws.specs.Tree.Weigh.{Agree, word-zero, slot-same, some-pos, weigh-empty}
+use Rattle.laws.specs.Frame.Roots.{weighR-nobody, upto-in, upto-out, blocksR-le, weighR-frame}
+use Rattle.laws.specs.Tree.Pointer.{root-0, root-1, zero-flags, flags-ext, page-ext}
+use Rattle.laws.specs.Tree.Slot.{Agree, word-zero, slot-same, some-pos}
+use Rattle.laws.specs.Tree.Weigh.{weigh-empty}
 
 -- a tree of one level over an empty block has no page
 bare-page : (v : Vol) (t : ℕ) → ((j : ℕ) → slot v t j ≡ 0) → (n : ℕ) → pageAt v (tree 1 t) n ≡ 0

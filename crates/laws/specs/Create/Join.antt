@@ -7,20 +7,20 @@ use native.Mathlib.Omega.{arith}
 use Rattle.book.specs.Create.{pay}
 use Rattle.book.specs.Entries.{userFile, objectFile, unreserved}
 use Rattle.book.specs.Holders.{hit}
-use Rattle.book.specs.Pointers.{slot, flags, page, setSlot}
-use Rattle.book.specs.Trees.{Root, tree, run, leaf, pageAt, blocksR}
+use Rattle.book.specs.Pointers.{slot, setSlot}
+use Rattle.book.specs.Trees.{Root, tree, run, leaf, pageAt}
 use Rattle.book.specs.Words.{Vol, two, word}
 use Rattle.book.specs.Written.{word-ext, put2-page, put2-word, put2-two}
 use Rattle.laws.specs.Bits.Taking.{Taking, settled-taking}
 use Rattle.laws.specs.Count.Good.{Good, bit-le}
-use Rattle.laws.specs.Create.Settled.{Settled, leaf-none, linked, system-good}
+use Rattle.laws.specs.Create.Settled.{Settled, linked, system-good}
+use Rattle.laws.specs.Create.Vacant.{Vacant}
 use Rattle.laws.specs.Frame.Places.{Places, WordsOf, UnreservedWords, OnlyAt, only-put2}
 use Rattle.laws.specs.Frame.Renewed.{Master, master-roots}
 use Rattle.laws.specs.Frame.Rest.{rest, all-rest}
 use Rattle.laws.specs.Frame.Roots.{upto-in, upto-out, users-root, objs-root, blocksR-le}
-use Rattle.laws.specs.Grow.Grown.{slot-here, slot-other, setSlot-page}
-use Rattle.laws.specs.Grow.Step.{slot-bare}
-use Rattle.laws.specs.Tree.Weigh.{Link, some-pos, slot-same}
+use Rattle.laws.specs.Tree.Slot.{slot-here, slot-other, setSlot-page, slot-bare, some-pos, slot-same}
+use Rattle.laws.specs.Tree.Weigh.{leaf-none, Link}
 
 -- ---- what payment leaves, and what it writes
 
@@ -70,18 +70,6 @@ module _ (v v′ : Vol) (X k d : ℕ) (L : Link v v′ X k d) where
     | no i ↦ absurd (let r : ⊥ = omega (arith, h, upto-out n (512 ^ l) (leaf v l t n) (omega arith)) in r)
   ]
   pageAt-there (run s m) n h = refl
-
--- ---- page d joins block X at slot k
-
--- a block of the user or the object file with an empty slot k that may be used
-pub record Vacant (P : ℕ) (v : Vol) (X k : ℕ) : Type 0 where
-  pub below : X < P
-  pub real : 0 < X
-  pub block : 1 ≤ blocksR v (userFile v) (hit X) + blocksR v (objectFile v) (hit X)
-  pub room : k < 512
-  pub was : slot v X k ≡ 0
-  pub eight : page (v 0) 1018 ≡ X → k < 8
-  pub four : flags (v 0) 1016 ≡ 2 → page (v 0) 1016 ≡ X → k < 4
 
 module _ (P : ℕ) (v : Vol) (hand : ℕ → ℕ) (G : Good P v hand) (pos : 0 < P) (v′ : Vol) (X k d : ℕ) (N : Vacant P v X k)
     (hd : d < P) (pd : 0 < d) (held : 1 ≤ hand d) (bare : (j : ℕ) → word v d j ≡ 0)

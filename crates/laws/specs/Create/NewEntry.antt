@@ -10,7 +10,7 @@ use Rattle.book.specs.Names.{packed}
 use Rattle.book.specs.Pointers.{flags, page}
 use Rattle.book.specs.Words.{Words, two, setWord, setTwo, setWords, zeros}
 use Rattle.book.specs.Written.{setWord-here, setWord-other, setTwo-hi, setTwo-lo, setTwo-two, setTwo-other, setWords-in, setWords-low, setWords-high}
-use Rattle.laws.specs.Tree.Weigh.{two-ext}
+use Rattle.laws.specs.Tree.Slot.{two-ext}
 
 -- ---- a user's
 

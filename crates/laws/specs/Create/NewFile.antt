@@ -16,16 +16,16 @@ use Rattle.book.specs.Pointers.{flags, page}
 use Rattle.book.specs.Rules.{UserOk, Rule4, Rule10}
 use Rattle.book.specs.Trees.{Root, run, weighR}
 use Rattle.book.specs.Words.{Vol, two}
-use Rattle.laws.specs.Count.Good.{Good, file-unused, root-0}
+use Rattle.laws.specs.Count.Good.{Good}
 use Rattle.laws.specs.Count.Pages.{run-count}
+use Rattle.laws.specs.Count.Reach.{high-unused}
 use Rattle.laws.specs.Create.NewEntry.{new-used, file-name, file-type, file-whose, file-number, file-pages, file-bytes, file-flags, file-page}
-use Rattle.laws.specs.File.Finish.{file-used}
 use Rattle.laws.specs.File.Named.{Legal-ext, SameName-ext}
 use Rattle.laws.specs.File.Packed.{packed-legal}
-use Rattle.laws.specs.File.There.{high-unused}
 use Rattle.laws.specs.Frame.Edit.{Change, entries, objs-words, edit-mine, edit-good}
-use Rattle.laws.specs.Frame.Renewed.{FileNew, used-ext, used-same, flags-ext, page-ext}
-use Rattle.laws.specs.Tree.Weigh.{two-ext}
+use Rattle.laws.specs.Frame.Renewed.{FileNew, used-same}
+use Rattle.laws.specs.Tree.Pointer.{file-unused, root-0, file-used, used-ext, flags-ext, page-ext}
+use Rattle.laws.specs.Tree.Slot.{two-ext}
 
 -- the lowest unused file of user u
 pub new-file-unused : (v : Vol) (u : ℕ) → newFile v u < 256 → used (object v (fileEntry u (newFile v u))) ≡ 0

@@ -1,30 +1,31 @@
 -- A new system page in an empty slot of a block: taken, linked and paid, it leaves a sound volume sound. Assumes nothing.
 use mathlib.Core.Path.{_≡_, refl, sym, ap, _∙_, subst}
 use mathlib.Core.Logic.{_≢_, inr}
-use Prim.Native.Nat.{ℕ, _+_, _*_, _≤_, _<_}
+use Prim.Native.Nat.{ℕ, _+_, _*_, _≤_, _<_, _-_}
 use native.Mathlib.Omega.{arith}
+use Rattle.sums.specs.Sum.{sum}
 use Rattle.book.specs.Bits.{bit, bitPage, claim}
 use Rattle.book.specs.Create.{extend}
-use Rattle.book.specs.Entries.{userFile, objectFile, unreserved}
-use Rattle.book.specs.Holders.{hit, all}
+use Rattle.book.specs.Entries.{userFile, objectFile, unreserved, Table, grant}
+use Rattle.book.specs.Holders.{hit, all, systemPages}
 use Rattle.book.specs.Pointers.{slot, setSlot}
-use Rattle.book.specs.Rules.{Sound}
+use Rattle.book.specs.Rules.{Sound, Rule10}
 use Rattle.book.specs.Trees.{Root, blocksR}
 use Rattle.book.specs.Words.{Vol, two, word}
 use Rattle.book.specs.Written.{word-ext}
+use Rattle.laws.specs.Bits.Choose.{chosen, Chooser}
 use Rattle.laws.specs.Bits.Claim.{bitPage-rest, free-none, free-pos, claim-agree, claim-roots, claim-quiet, claim-none, claim-good, claim-master, claim-zero, claim-bit}
 use Rattle.laws.specs.Bits.Taking.{Taken, TakenWords, NoWords, no-words, Taking, taking-none, taking-then, taking-wider, claim-taking, calm-blocks}
-use Rattle.laws.specs.Count.Good.{Good, good, sound, bit-le}
-use Rattle.laws.specs.Count.Room.{system-room, chosen}
-use Rattle.laws.specs.Create.Join.{only-pay, pay-page, pay-below, pay-less, SlotWords, Vacant, join-bare, join-good, join-slot, join-taking}
+use Rattle.laws.specs.Count.Good.{Good, good, bit-le, sound}
+use Rattle.laws.specs.Count.Room.{system-room}
+use Rattle.laws.specs.Create.Join.{only-pay, pay-page, pay-below, pay-less, SlotWords, join-bare, join-good, join-slot, join-taking}
+use Rattle.laws.specs.Create.Vacant.{Vacant}
 use Rattle.laws.specs.Frame.Places.{Places, UnreservedWords, Either, OnlyAt, only-then, only-put2}
-use Rattle.laws.specs.Frame.Renewed.{Master, flags-ext, page-ext}
+use Rattle.laws.specs.Frame.Renewed.{Master}
 use Rattle.laws.specs.Frame.Rest.{rest, all-rest}
 use Rattle.laws.specs.Frame.Roots.{Roots, blocksR-le, blocksR-frame, users-root, objs-root}
-use Rattle.laws.specs.Grow.Grown.{setSlot-page}
-use Rattle.laws.specs.Grow.Indexed.{hit-sym}
-use Rattle.laws.specs.Grow.Step.{Chooser, slot-bare}
-use Rattle.laws.specs.Tree.Weigh.{Agree, two-ext, hit-same, hit-other, slot-same}
+use Rattle.laws.specs.Tree.Pointer.{flags-ext, page-ext}
+use Rattle.laws.specs.Tree.Slot.{setSlot-page, hit-sym, slot-bare, Agree, two-ext, hit-same, hit-other, slot-same}
 
 -- from v to w, n system pages were taken and paid: w is sound, and all entries and files stay
 pub record Placed (P : ℕ) (v w : Vol) (F : Places) (n : ℕ) : Type 0 where
@@ -169,3 +170,8 @@ module _ (choose : Vol → ℕ) (P : ℕ) (ch : Chooser P choose) (v : Vol) (S :
     taking = taking-then P v v₁ v′ NoWords (Either (SlotWords X k) UnreservedWords) (Either (SlotWords X k) UnreservedWords) 1 0 0 1 1 1 (claim-taking P v (λ p. 0) G d hd fd) joined
         refl refl (λ p j h. inr (no-words (Either (SlotWords X k) UnreservedWords) p j h));
   }
+
+-- n pages placed: n more system pages
+pub placed-system : (P : ℕ) (v w : Vol) (F : Places) (n : ℕ) → Sound P v → Placed P v w F n → systemPages P w ≡ systemPages P v + n
+unfolding Rule10
+placed-system P v w F n S T = omega (arith, S .r10 .1, T .sound .r10 .1, T .taking .paid, ap (λ (U : Table). sum 256 (grant U)) (T .taking .users))

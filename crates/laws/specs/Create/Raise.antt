@@ -1,7 +1,7 @@
 -- The object file gets its subindex block: taken, given the index block so far, linked and paid. Assumes nothing.
-use mathlib.Core.Path.{_≡_, refl, sym, ap, ap₂, _∙_, subst}
+use mathlib.Core.Path.{_≡_, refl, sym, ap, _∙_, subst}
 use mathlib.Core.Logic.{_≢_, inl, inr}
-use Prim.Native.Nat.{ℕ, _+_, _*_, _/_, _%_, _≤_, _<_}
+use Prim.Native.Nat.{ℕ, _+_, _*_, _≤_, _<_}
 use native.Mathlib.Omega.{arith}
 use Rattle.book.specs.Bits.{bit, claim}
 use Rattle.book.specs.Create.{raised}
@@ -9,38 +9,21 @@ use Rattle.book.specs.Entries.{userFile, objectFile, unreserved}
 use Rattle.book.specs.Holders.{hit}
 use Rattle.book.specs.Pointers.{slot, flags, page, pointer, setSlot}
 use Rattle.book.specs.Rules.{Sound}
-use Rattle.book.specs.Trees.{Root, tree, pageAt, blocksR}
+use Rattle.book.specs.Trees.{Root, tree, pageAt}
 use Rattle.book.specs.Words.{Vol, two, word, put2}
-use Rattle.book.specs.Written.{word-ext, put2-hi, put2-lo, put2-page, put2-word}
+use Rattle.book.specs.Written.{word-ext, put2-page, put2-word}
+use Rattle.laws.specs.Bits.Choose.{chosen, Chooser}
 use Rattle.laws.specs.Bits.Claim.{free-pos, claim-good, claim-master, claim-zero, claim-bit}
 use Rattle.laws.specs.Bits.Taking.{TakenWords, NoWords, Taking, taking-then, claim-taking, hand-good, hand-taking, settled-taking}
-use Rattle.laws.specs.Count.Good.{Good, good, sound, root-1, root-2, bit-le}
-use Rattle.laws.specs.Count.Room.{system-room, chosen}
+use Rattle.laws.specs.Count.Good.{Good, good, sound, bit-le}
+use Rattle.laws.specs.Count.Room.{system-room}
 use Rattle.laws.specs.Create.Join.{only-pay, pay-page, pay-below, pay-less, SlotWords}
 use Rattle.laws.specs.Create.Placed.{Placed}
 use Rattle.laws.specs.Create.Settled.{Settled, leaves, system-good}
-use Rattle.laws.specs.File.Finish.{flags-pointer, page-pointer}
-use Rattle.laws.specs.Frame.Edit.{weighR-nobody}
 use Rattle.laws.specs.Frame.Places.{Places, WordsOf, UnreservedWords, Either, OnlyAt, only-then, only-put2}
-use Rattle.laws.specs.Frame.Renewed.{flags-ext, page-ext}
-use Rattle.laws.specs.Frame.Roots.{blocksR-le, pageAt-frame, rootAt-ext}
-use Rattle.laws.specs.Grow.Grown.{setSlot-page, slot-here, slot-other}
-use Rattle.laws.specs.Grow.Indexed.{hit-sym}
-use Rattle.laws.specs.Grow.Step.{Chooser, slot-bare}
-use Rattle.laws.specs.Tree.Weigh.{two-ext, hit-same, some-pos}
-
--- a pointer is written
-module _ (v : Vol) (q j x t : ℕ) (h : t < 1073741824) where
-  pub pointer-flags : flags (put2 v q j (pointer x t) q) j ≡ x
-  unfolding flags
-  pointer-flags = ap (λ (y : ℕ). y / 16384) (put2-hi v q j (pointer x t)) ∙ flags-pointer x t h
-
-  pub pointer-page : page (put2 v q j (pointer x t) q) j ≡ t
-  unfolding page
-  pointer-page = ap₂ (λ (y z : ℕ). y % 16384 * 65536 + z) (put2-hi v q j (pointer x t)) (put2-lo v q j (pointer x t)) ∙ page-pointer x t h
-
-pub no-blocks : (v : Vol) (r : Root) → blocksR v r (λ x. 0) ≡ 0
-no-blocks v r = omega (arith, blocksR-le v r (λ x. 0), weighR-nobody v (λ x. 0) (λ x. refl) r)
+use Rattle.laws.specs.Frame.Roots.{pageAt-frame, no-blocks}
+use Rattle.laws.specs.Tree.Pointer.{root-1, root-2, flags-ext, page-ext, rootAt-ext, pointer-flags, pointer-page}
+use Rattle.laws.specs.Tree.Slot.{setSlot-page, slot-here, slot-other, hit-sym, slot-bare, two-ext, hit-same, some-pos}
 
 module _ (choose : Vol → ℕ) (P : ℕ) (ch : Chooser P choose) (v : Vol) (S : Sound P v) (pos : 0 < P) (big : P ≤ 1073741824) (one : flags (v 0) 1016 ≡ 1) (have : 1 ≤ unreserved v) where
   abbrev s : ℕ

@@ -6,7 +6,7 @@ use native.Mathlib.Nat.{mod-lt, eq-zero-or-pos}
 use native.Mathlib.Decide.{ℕ-discrete, decLt}
 use native.Mathlib.Omega.{arith}
 use Rattle.sums.specs.Search.{pick}
-use Rattle.sums.specs.Sum.{sum, is, sum-ext, sum-none, sum-only, sum-le-at}
+use Rattle.sums.specs.Sum.{sum, sum-ext, sum-none, sum-only}
 use Rattle.book.specs.Bits.{bitFile, bitPage, bitPages, bit, digit}
 use Rattle.book.specs.Entries.{Table, entry, userFile, objectFile, user, object, used, usedPages, grant, unreserved}
 use Rattle.book.specs.Files.{fileAt}
@@ -15,26 +15,15 @@ use Rattle.book.specs.Pointers.{slot, flags, page, Inside}
 use Rattle.book.specs.Rules.{Rule1, Rule2, Rule3, Rule4, Rule5, Rule5By, Rule6, Rule7, Rule10}
 use Rattle.book.specs.Trees.{Root, tree, run, weigh, blocks, leaf, weighR, blocksR, pageAt, upto, rootAt, Below}
 use Rattle.book.specs.Words.{Vol, two, word}
-use Rattle.laws.specs.Count.Good.{Good, bit-le, root-1, root-2, zero-flags}
+use Rattle.laws.specs.Count.Good.{Good, bit-le}
+use Rattle.laws.specs.Count.Sums.{sum-tight}
 use Rattle.laws.specs.File.Named.{Legal-ext}
-use Rattle.laws.specs.Frame.Edit.{weigh-nobody, weighR-nobody}
-use Rattle.laws.specs.Frame.Renewed.{Master, master-roots, flags-at, page-at, flags-ext, page-ext, rule1, rule2, shape-same}
+use Rattle.laws.specs.Frame.Renewed.{Master, master-roots, flags-at, page-at, rule1, rule2, shape-same}
 use Rattle.laws.specs.Frame.Rest.{rest, all-rest, file-le}
-use Rattle.laws.specs.Frame.Roots.{upto-in, upto-out, pageAt-le, pageAt-frame, weighR-frame, entry-frame, Roots, bits-root, users-root, objs-root, blocksR-le, rootAt-ext}
-use Rattle.laws.specs.Grow.Grown.{below-zero}
-use Rattle.laws.specs.Tree.Weigh.{Agree, Link, some-zero, some-pos, hit-zero, hit-same, word-zero, slot-zero, slot-same, weigh-link, weigh-none, Below-frame, blocks-le, pow-pos, slot-lt}
-
--- equal sums of terms in order have equal terms
-pub sum-tight : (n : ℕ) (f g : ℕ → ℕ) → ((i : ℕ) → i < n → f i ≤ g i) → sum n g ≤ sum n f → (i : ℕ) → i < n → g i ≤ f i
-sum-tight n f g le eq i h = elim (decLt (f i) (g i)) [
-  | yes l ↦ omega (arith, sum-le-at n f g i 1 h le (omega arith))
-  | no l ↦ omega arith
-]
-
-pub leaf-none : (v : Vol) (l n : ℕ) → leaf v l 0 n ≡ 0
-unfolding leaf
-leaf-none v zero n = refl
-leaf-none v (suc l) n = ap (λ (x : ℕ). leaf v l x (n % 512 ^ l)) (slot-zero v (n / 512 ^ l)) ∙ leaf-none v l (n % 512 ^ l)
+use Rattle.laws.specs.Frame.Roots.{weighR-nobody, upto-in, upto-out, pageAt-le, pageAt-frame, weighR-frame, entry-frame, Roots, bits-root, users-root, objs-root, blocksR-le}
+use Rattle.laws.specs.Tree.Pointer.{root-1, root-2, zero-flags, flags-ext, page-ext, rootAt-ext}
+use Rattle.laws.specs.Tree.Slot.{Agree, some-zero, some-pos, hit-zero, hit-same, word-zero, slot-zero, slot-same}
+use Rattle.laws.specs.Tree.Weigh.{weigh-nobody, below-zero, Link, weigh-link, weigh-none, Below-frame, blocks-le, pow-pos, slot-lt, leaf-none}
 
 -- under a page of zeros there are only zeros
 leaf-bare : (v : Vol) (d : ℕ) → ((j : ℕ) → word v d j ≡ 0) → ((j : ℕ) → slot v d j ≡ 0) → (l n j : ℕ) → word v (leaf v l d n) j ≡ 0

@@ -1,7 +1,7 @@
 -- The first user ever: user index, user page and object index, taken in this order, linked and paid. Assumes nothing.
 use mathlib.Core.Path.{_≡_, refl, sym, ap, ap₂, _∙_, subst}
 use mathlib.Core.Logic.{_⊎_, inl, inr}
-use Prim.Native.Nat.{ℕ, suc, _+_, _*_, _≤_, _<_, zero-le}
+use Prim.Native.Nat.{ℕ, suc, _+_, _*_, _≤_, _<_}
 use native.Mathlib.Omega.{arith}
 use Rattle.book.specs.Bits.{bit, claim}
 use Rattle.book.specs.Create.{pay, started}
@@ -9,35 +9,24 @@ use Rattle.book.specs.Entries.{userFile, objectFile, unreserved}
 use Rattle.book.specs.Holders.{hit}
 use Rattle.book.specs.Pointers.{slot, flags, page, pointer, setSlot, Zero}
 use Rattle.book.specs.Rules.{Sound}
-use Rattle.book.specs.Trees.{Root, tree, rootAt, pageAt, blocksR, blocks}
-use Rattle.book.specs.Words.{Vol, two, word, put, put2}
+use Rattle.book.specs.Trees.{Root, tree, pageAt, blocksR, blocks}
+use Rattle.book.specs.Words.{Vol, two, word, put2}
 use Rattle.book.specs.Written.{word-ext, put2-page, put2-word}
+use Rattle.laws.specs.Bits.Choose.{chosen, Chooser}
 use Rattle.laws.specs.Bits.Claim.{free-pos, claim-good, claim-master, claim-zero, claim-keeps, claim-bit}
 use Rattle.laws.specs.Bits.Taking.{TakenWords, NoWords, no-words, Taking, taking-then, claim-taking, settled-taking}
-use Rattle.laws.specs.Count.Good.{Good, good, sound, free, root-0, root-1, zero-flags, bit-le}
-use Rattle.laws.specs.Count.Room.{system-room, chosen}
+use Rattle.laws.specs.Count.Good.{Good, good, sound, free, bit-le}
+use Rattle.laws.specs.Count.Room.{system-room}
 use Rattle.laws.specs.Create.First.{first-user}
-use Rattle.laws.specs.Create.Join.{only-pay, pay-page, pay-below, pay-less, SlotWords, Vacant, join-good, join-slot, join-taking}
+use Rattle.laws.specs.Create.Join.{only-pay, pay-page, pay-below, pay-less, SlotWords, join-good, join-slot, join-taking}
 use Rattle.laws.specs.Create.Placed.{Placed}
-use Rattle.laws.specs.Create.Raise.{pointer-flags, pointer-page}
 use Rattle.laws.specs.Create.Settled.{Settled, system-good}
+use Rattle.laws.specs.Create.Vacant.{Vacant}
 use Rattle.laws.specs.Frame.Places.{Places, WordsOf, UnreservedWords, Either, OnlyAt, only-then, only-wider, only-put2}
-use Rattle.laws.specs.Frame.Renewed.{Master, flags-ext, page-ext}
-use Rattle.laws.specs.Frame.Roots.{upto-out}
-use Rattle.laws.specs.Grow.Grown.{setSlot-page}
-use Rattle.laws.specs.Grow.Indexed.{hit-sym}
-use Rattle.laws.specs.Grow.Step.{Chooser, slot-bare}
-use Rattle.laws.specs.Tree.Weigh.{two-ext, hit-same, some-pos, slot-same}
-
--- a write reads its own word of the volume alone
-pub put2-same : (v w : Vol) (q j x p k : ℕ) → v p k ≡ w p k → put2 v q j x p k ≡ put2 w q j x p k
-unfolding put2 put
-put2-same v w q j x p k e = rw e
-
--- a pointer of zeros has no page
-pub zero-none : (v : Vol) (w : ℕ → ℕ) (k : ℕ) → Zero w k → (i : ℕ) → pageAt v (rootAt w k 0) i ≡ 0
-unfolding pageAt
-zero-none v w k z i = ap (λ (r : Root). pageAt v r i) (root-0 w k 0 (zero-flags w k z)) ∙ upto-out i 0 _ zero-le
+use Rattle.laws.specs.Frame.Renewed.{Master}
+use Rattle.laws.specs.Frame.Roots.{zero-none}
+use Rattle.laws.specs.Tree.Pointer.{root-1, pointer-flags, pointer-page, flags-ext, page-ext}
+use Rattle.laws.specs.Tree.Slot.{setSlot-page, hit-sym, slot-bare, two-ext, hit-same, some-pos, slot-same, put2-same}
 
 module _ (choose : Vol → ℕ) (P : ℕ) (ch : Chooser P choose) (v : Vol) (S : Sound P v) (pos : 0 < P) (big : P ≤ 1073741824)
     (zu : Zero (v 0) 1018) (zo : Zero (v 0) 1016) (have : 3 ≤ unreserved v) where

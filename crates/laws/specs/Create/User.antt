@@ -18,21 +18,20 @@ use Rattle.book.specs.Pointers.{page, Inside}
 use Rattle.book.specs.Rules.{Rule2, Sound}
 use Rattle.book.specs.Trees.{pageAt}
 use Rattle.book.specs.Words.{Vol, two, word}
+use Rattle.laws.specs.Bits.Choose.{Chooser}
 use Rattle.laws.specs.Bits.Taking.{TakenWords}
 use Rattle.laws.specs.Count.Good.{Good, good, sound, free, mine-unused, most}
 use Rattle.laws.specs.Create.NewEntry.{user-used, user-name, user-own, user-zero}
-use Rattle.laws.specs.Create.Start.{zero-none}
 use Rattle.laws.specs.Create.UserPlace.{UserPlaceWords, UserPlaced, user-placed}
 use Rattle.laws.specs.File.Packed.{packed-legal}
-use Rattle.laws.specs.Frame.Beside.{SamePlaces, places-frame, places-unreserved}
 use Rattle.laws.specs.Frame.Edit.{Outside, user-page}
+use Rattle.laws.specs.Frame.Fields.{entry-page, entry-agree, entry-outside, entry-here}
 use Rattle.laws.specs.Frame.Places.{Places, EntryOf, Either, OnlyAt, only-then, only-wider, only-putWords}
-use Rattle.laws.specs.Frame.PutEntry.{entry-page, entry-agree, entry-outside, entry-here}
-use Rattle.laws.specs.Frame.Renewed.{UserNew, used-ext}
-use Rattle.laws.specs.Frame.Roots.{Roots, blocksR-le}
-use Rattle.laws.specs.Frame.Still.{objects-still, address-still, kept-words, blocks-nobody}
-use Rattle.laws.specs.Grow.Step.{Chooser}
-use Rattle.laws.specs.Tree.Weigh.{Agree, two-ext, hit-zero, word-zero}
+use Rattle.laws.specs.Frame.Renewed.{UserNew}
+use Rattle.laws.specs.Frame.Roots.{zero-none, Roots, blocksR-le}
+use Rattle.laws.specs.Frame.Still.{SamePlaces, places-frame, places-unreserved, objects-still, address-still, kept-words, blocks-nobody}
+use Rattle.laws.specs.Tree.Pointer.{used-ext}
+use Rattle.laws.specs.Tree.Slot.{Agree, two-ext, hit-zero, word-zero}
 use Rattle.laws.specs.User.Only.{user-there, users-else, bits-else, user-good}
 
 -- ---- the lowest unused index

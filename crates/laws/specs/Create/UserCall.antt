@@ -18,8 +18,7 @@ use Rattle.book.specs.Rules.{Sound}
 use Rattle.book.specs.Trees.{pageAt}
 use Rattle.book.specs.Words.{Vol, vol}
 use Rattle.laws.specs.Bits.Choose.{lowest-chooser}
-use Rattle.laws.specs.Call.After.{after-call}
-use Rattle.laws.specs.Call.Call.{kept-call}
+use Rattle.laws.specs.Call.After.{after-call, kept-call}
 use Rattle.laws.specs.Call.Done.{done}
 use Rattle.laws.specs.Create.User.{UserCreateWords, UserCreated, create-user}
 use Rattle.laws.specs.Frame.Places.{OnlyAt}

@@ -13,16 +13,16 @@ use Rattle.book.specs.Pointers.{slot, flags, page, Zero, Inside}
 use Rattle.book.specs.Rules.{Rule2, Sound}
 use Rattle.book.specs.Trees.{rootAt}
 use Rattle.book.specs.Words.{Vol}
+use Rattle.laws.specs.Bits.Choose.{Chooser}
 use Rattle.laws.specs.Bits.Taking.{TakenWords, NoWords}
 use Rattle.laws.specs.Create.FilePlace.{When}
-use Rattle.laws.specs.Create.Join.{SlotWords, Vacant}
+use Rattle.laws.specs.Create.Join.{SlotWords}
 use Rattle.laws.specs.Create.Placed.{Placed, placed-none, placed-then, placed-wider, extend-pos, extend-master, extend-slot, extend-placed}
 use Rattle.laws.specs.Create.Raise.{raised-flags, raised-placed}
 use Rattle.laws.specs.Create.Start.{started-flags, started-slot, started-placed}
-use Rattle.laws.specs.Create.Vacant.{user-vacant}
+use Rattle.laws.specs.Create.Vacant.{Vacant, user-vacant}
 use Rattle.laws.specs.Frame.Places.{Places, WordsOf, UnreservedWords, Either}
-use Rattle.laws.specs.Frame.Renewed.{flags-ext, page-ext}
-use Rattle.laws.specs.Grow.Step.{Chooser}
+use Rattle.laws.specs.Tree.Pointer.{flags-ext, page-ext}
 use Rattle.laws.specs.Tree.Positions.{root-one}
 
 pub raises-one : (v : Vol) (u : ℕ) → flags (v 0) 1016 ≡ 1 → raises v u ≡ atLeast 64 u

@@ -1,7 +1,7 @@
 -- Where an entry's page hangs: its block and slot, and that an empty slot may be used. Assumes nothing.
 use mathlib.Core.Path.{_≡_, sym, ap, ap₂, _∙_, subst}
 use mathlib.Core.Logic.{_≢_, _⊎_, inl, inr}
-use Prim.Native.Nat.{ℕ, suc, _+_, _/_, _%_, _≤_, _<_}
+use Prim.Native.Nat.{ℕ, suc, _+_, _/_, _%_, _≤_, _<_, _-_}
 use native.Mathlib.Omega.{arith}
 use Rattle.sums.specs.Sum.{sum-at}
 use Rattle.book.specs.Create.{objectIndex}
@@ -12,17 +12,26 @@ use Rattle.book.specs.Pointers.{slot, flags, page, Zero, Inside}
 use Rattle.book.specs.Rules.{Rule2, Rule5, Rule5By, Sound}
 use Rattle.book.specs.Trees.{Root, tree, rootAt, pageAt, blocks, blocksR, Below}
 use Rattle.book.specs.Words.{Vol}
-use Rattle.laws.specs.Count.Good.{good, bit-le, root-1, root-2}
-use Rattle.laws.specs.Create.Join.{Vacant}
-use Rattle.laws.specs.Create.Start.{zero-none}
-use Rattle.laws.specs.File.Finish.{used-page}
-use Rattle.laws.specs.File.There.{high-unused}
-use Rattle.laws.specs.Frame.Calm.{users-top}
-use Rattle.laws.specs.Frame.Renewed.{flags-ext, page-ext}
+use Rattle.laws.specs.Count.Good.{good, bit-le}
+use Rattle.laws.specs.Count.Reach.{high-unused}
+use Rattle.laws.specs.Frame.Renewed.{users-top}
 use Rattle.laws.specs.Frame.Rest.{rest, all-rest}
-use Rattle.laws.specs.Frame.Roots.{blocksR-le}
+use Rattle.laws.specs.Frame.Roots.{zero-none, used-page, blocksR-le}
+use Rattle.laws.specs.Tree.Pointer.{root-1, root-2, flags-ext, page-ext}
 use Rattle.laws.specs.Tree.Positions.{root-one, root-two}
-use Rattle.laws.specs.Tree.Weigh.{hit-zero, hit-same, slot-zero}
+use Rattle.laws.specs.Tree.Slot.{hit-zero, hit-same, slot-zero}
+
+-- ---- page d joins block X at slot k
+
+-- a block of the user or the object file with an empty slot k that may be used
+pub record Vacant (P : ℕ) (v : Vol) (X k : ℕ) : Type 0 where
+  pub below : X < P
+  pub real : 0 < X
+  pub block : 1 ≤ blocksR v (userFile v) (hit X) + blocksR v (objectFile v) (hit X)
+  pub room : k < 512
+  pub was : slot v X k ≡ 0
+  pub eight : page (v 0) 1018 ≡ X → k < 8
+  pub four : flags (v 0) 1016 ≡ 2 → page (v 0) 1016 ≡ X → k < 4
 
 -- ---- blocks
 

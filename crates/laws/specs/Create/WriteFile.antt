@@ -11,13 +11,12 @@ use Rattle.book.specs.Trees.{pageAt}
 use Rattle.book.specs.Words.{Vol, Words, two, word}
 use Rattle.book.specs.Written.{word-pos, word-ext}
 use Rattle.laws.specs.Count.Good.{Good}
-use Rattle.laws.specs.Frame.Beside.{Beside}
-use Rattle.laws.specs.Frame.Edit.{Outside, Change, user-page, user-at, obj-at, bits-same, weighR-nobody}
-use Rattle.laws.specs.Frame.Edited.{edit-beside}
-use Rattle.laws.specs.Frame.PutEntry.{entry-page, entry-outside, entry-here}
-use Rattle.laws.specs.Frame.Roots.{pageAt-le}
+use Rattle.laws.specs.Frame.Beside.{Beside, edit-beside}
+use Rattle.laws.specs.Frame.Edit.{Outside, Change, user-page, user-at, obj-at, bits-same}
+use Rattle.laws.specs.Frame.Fields.{entry-page, entry-outside, entry-here}
+use Rattle.laws.specs.Frame.Roots.{weighR-nobody, pageAt-le}
 use Rattle.laws.specs.Shrink.Shrunk.{all-zero}
-use Rattle.laws.specs.Tree.Weigh.{Agree, hit-zero, hit-same}
+use Rattle.laws.specs.Tree.Slot.{Agree, hit-zero, hit-same}
 
 -- two words alike at two places
 two-at : (a b : Words) (j k : ℕ) → a j ≡ b k → a (suc j) ≡ b (suc k) → two a j ≡ two b k

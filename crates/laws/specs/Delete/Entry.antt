@@ -4,31 +4,20 @@ use mathlib.Core.Logic.{_≢_}
 use Prim.Native.Nat.{ℕ, _+_, _-_, _*_, _/_, _<_}
 use native.Mathlib.Omega.{arith}
 use Rattle.sums.specs.Search.{pick}
-use Rattle.sums.specs.Sum.{is, sum-zero}
-use Rattle.book.specs.Bits.{bit}
+use Rattle.sums.specs.Sum.{sum-zero}
 use Rattle.book.specs.Entries.{user, object, used, given, usedPages, grant}
 use Rattle.book.specs.Files.{fileAt}
-use Rattle.book.specs.Holders.{hit, some, all}
+use Rattle.book.specs.Holders.{hit, some}
 use Rattle.book.specs.Pointers.{flags, page}
 use Rattle.book.specs.Rules.{UserOk, Rule4, Rule5, Rule5By, Rule6, Rule10}
 use Rattle.book.specs.Trees.{Root, weighR}
 use Rattle.book.specs.Words.{Vol}
-use Rattle.laws.specs.Count.Good.{Good, file-unused}
+use Rattle.laws.specs.Count.Good.{Good}
 use Rattle.laws.specs.File.Named.{Legal-ext, SameName-ext}
 use Rattle.laws.specs.Frame.Edit.{Change, entries, edit-mine, edit-good}
-use Rattle.laws.specs.Frame.Renewed.{used-ext, used-same}
-use Rattle.laws.specs.Frame.Rest.{rest, all-calm, most-calm}
-use Rattle.laws.specs.Frame.Roots.{Roots}
-use Rattle.laws.specs.Tree.Weigh.{Agree, two-ext}
-
--- only bits change: pages in hand are given back, or taken, in one go
-pub bits-good : (P : ℕ) (v v′ : Vol) (hand hand′ C : ℕ → ℕ) → Good P v hand → C 0 ≡ 0 → Agree C v v′ → rest v C ≡ 0 → ((k : ℕ) → v′ 0 k ≡ v 0 k)
-    → ((p : ℕ) → p < P → bit P v′ p + hand p ≡ bit P v p + hand′ p) → Good P v′ hand′
-unfolding Roots
-bits-good P v v′ hand hand′ C G c0 A q m e = record {
-  most = most-calm v v′ (λ k i j. m k) C c0 A q P (λ k i. m k) (G .most);
-  held = λ p h. omega (arith, e p h, G .held p h, all-calm v v′ (λ k i j. m k) C c0 A q P (hit p));
-}
+use Rattle.laws.specs.Frame.Renewed.{used-same}
+use Rattle.laws.specs.Tree.Pointer.{file-unused, used-ext}
+use Rattle.laws.specs.Tree.Slot.{two-ext}
 
 module _ (P : ℕ) (v : Vol) (hand : ℕ → ℕ) (G : Good P v hand) (pos : 0 < P) (a f : ℕ) (ha : a < 256) (hf : f < 256) (uf : 0 < used (object v (256 * a + f)))
     (v′ : Vol) (E : Change P v hand G pos a f ha hf (λ x. 0) v′) (gone : used (object v′ (256 * a + f)) ≡ 0)

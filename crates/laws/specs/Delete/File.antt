@@ -17,14 +17,14 @@ use Rattle.book.specs.Written.{word-pos, word-ext, put2-page, put2-word, put2-h
 use Rattle.laws.specs.Bits.Marked.{Changed, Marked, marked, marked-good, alone}
 use Rattle.laws.specs.Count.Good.{Good, good, sound, bit-le}
 use Rattle.laws.specs.Delete.Entry.{delete-good}
-use Rattle.laws.specs.File.Around.{only-trans}
 use Rattle.laws.specs.File.Finish.{isO, isU, UO, owner-used}
-use Rattle.laws.specs.Frame.Beside.{Beside, still-beside, beside-trans, bitPage-same}
-use Rattle.laws.specs.Frame.Edit.{Outside, Change, user-at, obj-at, weighR-nobody}
-use Rattle.laws.specs.Frame.Edited.{edit-beside}
-use Rattle.laws.specs.Frame.Places.{Places, WordsOf, EntryOf, FieldOf, Either, OnlyAt, only-wider, only-putWords, only-put2}
+use Rattle.laws.specs.Frame.Beside.{Beside, still-beside, beside-trans, edit-beside}
+use Rattle.laws.specs.Frame.Edit.{Outside, Change, user-at, obj-at}
+use Rattle.laws.specs.Frame.Places.{only-trans, Places, WordsOf, EntryOf, FieldOf, Either, OnlyAt, only-wider, only-putWords, only-put2}
+use Rattle.laws.specs.Frame.Roots.{weighR-nobody}
+use Rattle.laws.specs.Frame.Still.{bitPage-same}
 use Rattle.laws.specs.Shrink.Shrunk.{all-zero}
-use Rattle.laws.specs.Tree.Weigh.{Agree, hit-same}
+use Rattle.laws.specs.Tree.Slot.{Agree, hit-same}
 
 -- the words of the bits of the file's pages, its entry, its owner's used pages
 abbrev pub DeletePlaces : ℕ → Vol → ℕ → ℕ → Places

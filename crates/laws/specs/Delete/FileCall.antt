@@ -19,14 +19,13 @@ use Rattle.book.specs.Rows.{Clear, Above}
 use Rattle.book.specs.Rules.{Sound}
 use Rattle.book.specs.Trees.{Root, weighR}
 use Rattle.book.specs.Words.{Vol, vol}
-use Rattle.laws.specs.Call.After.{after-call}
-use Rattle.laws.specs.Call.Call.{kept-call}
+use Rattle.laws.specs.Call.After.{after-call, kept-call}
 use Rattle.laws.specs.Call.Done.{done}
-use Rattle.laws.specs.Count.Good.{Good, good, sound, bit-le, file-unused, free}
+use Rattle.laws.specs.Count.Good.{Good, good, sound, bit-le, free}
 use Rattle.laws.specs.Delete.File.{DeletePlaces, Deleted, deleted, used-zero}
-use Rattle.laws.specs.Frame.Beside.{Beside, beside-refl, beside-bits}
-use Rattle.laws.specs.Frame.FreeCount.{beside-free}
+use Rattle.laws.specs.Frame.Beside.{Beside, beside-refl, beside-bits, beside-free}
 use Rattle.laws.specs.Frame.Places.{OnlyAt}
+use Rattle.laws.specs.Tree.Pointer.{file-unused}
 
 module _ (img : List ℕ) (u f : ℕ) where
   abbrev P : ℕ

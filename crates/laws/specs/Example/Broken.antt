@@ -16,10 +16,10 @@ use Rattle.book.specs.Entries.{entry, user, object, userFile, objectFile, used,
 use Rattle.book.specs.Names.{Letter, Text, NameText, byteAt, Legal, packed}
 use Rattle.book.specs.Rows.{Lowest}
 use Rattle.book.specs.Rules.{Rule1, Rule2, Rule3, Rule4, Rule5, Rule5By, Rule6, rules}
-use Rattle.laws.specs.Count.Good.{root-1}
 use Rattle.laws.specs.Example.Sparse.{Cell, cell, volume, Off, volume-off, entry-first, entry-bare}
 use Rattle.laws.specs.File.Packed.{packed-legal}
 use Rattle.laws.specs.Format.Formatted.{rule4-none}
+use Rattle.laws.specs.Tree.Pointer.{root-1}
 
 -- ---- a yard disk of 16 pages, bit page 8, name YARD
 

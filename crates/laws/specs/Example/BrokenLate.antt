@@ -24,7 +24,7 @@ use Rattle.laws.specs.Example.Broken.{Head, Master, broken7, broken8, br
 use Rattle.laws.specs.Example.Sparse.{volume, Off, volume-off, entry-past}
 use Rattle.laws.specs.File.Packed.{packed-legal}
 use Rattle.laws.specs.Format.Formatted.{rule3-none, rule4-none, rule5-none, rule6-none, rule7-none, user-none, object-none, all-none, all-system}
-use Rattle.laws.specs.Tree.Weigh.{hit-same, some-pos}
+use Rattle.laws.specs.Tree.Slot.{hit-same, some-pos}
 
 -- ---- rule 7: user 0 and his file 0 are the only used entries
 

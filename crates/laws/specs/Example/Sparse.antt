@@ -11,7 +11,7 @@ use Rattle.book.specs.Trees.{tree, leaf, pageAt}
 use Rattle.book.specs.Entries.{entry}
 use Rattle.book.specs.Written.{put-page, put-word}
 use Rattle.laws.specs.Frame.Roots.{upto-in, upto-out}
-use Rattle.laws.specs.Tree.Weigh.{word-zero}
+use Rattle.laws.specs.Tree.Slot.{word-zero}
 
 -- word k of page p is x
 pub record Cell : Type 0 where

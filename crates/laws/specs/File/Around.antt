@@ -1,18 +1,18 @@
 -- The words that a file's last position has: slots, bits, counts; and what growing and shrinking may change. Assumes nothing.
-use mathlib.Core.Path.{_≡_, sym, _∙_, subst}
+use mathlib.Core.Path.{_≡_, sym, _∙_, subst, ap}
 use mathlib.Core.Logic.{_⊎_, inl, inr}
-use Prim.Native.Nat.{ℕ, _+_, _*_, _/_, _%_, _<_}
+use Prim.Native.Nat.{ℕ, _+_, _*_, _/_, _%_, _<_, suc}
 use native.Mathlib.Omega.{arith}
 use Rattle.book.specs.Bits.{bitPage, bitWord, mark, claim}
-use Rattle.book.specs.Entries.{objectPage, userPage}
-use Rattle.book.specs.Files.{fileAt}
+use Rattle.book.specs.Entries.{objectPage, userPage, Table, user, object, usedPages}
+use Rattle.book.specs.Files.{fileAt, need}
 use Rattle.book.specs.Grow.{finish}
 use Rattle.book.specs.Holders.{hit}
 use Rattle.book.specs.Pointers.{setSlot}
-use Rattle.book.specs.Trees.{Root, indexAt, subindexOf}
-use Rattle.book.specs.Words.{Vol, put2}
-use Rattle.laws.specs.Frame.Beside.{SamePlaces, bitPage-same}
-use Rattle.laws.specs.Frame.Places.{Places, PageOf, WordsOf, FieldOf, Either, OnlyAt, only-wider, only-put, only-put2, only-wipe}
+use Rattle.book.specs.Trees.{Root, indexAt, subindexOf, weighR, pageAt}
+use Rattle.book.specs.Words.{Vol, put2, two}
+use Rattle.laws.specs.Frame.Places.{Places, PageOf, WordsOf, FieldOf, Either, OnlyAt, only-wider, only-put, only-put2, only-wipe, only-trans}
+use Rattle.laws.specs.Frame.Still.{SamePlaces, bitPage-same, Still}
 use Rattle.laws.specs.Tree.Levels.{last}
 
 -- page x is one of those that position n needs
@@ -37,11 +37,6 @@ Around P v a e n = Either (BitsOf P v (fileAt v e) n) (Either (SlotOf v (fileAt 
 
 abbrev pub AroundNew : ℕ → Vol → ℕ → ℕ → ℕ → Places
 AroundNew P v a e n = Either (λ p k. Needs v (fileAt v e) n p) (Around P v a e n)
-
--- ---- laws
-
-pub only-trans : (A : Places) (u v w : Vol) → OnlyAt A u v → OnlyAt A v w → OnlyAt A u w
-only-trans A u v w a b p k h = b p k h ∙ a p k h
 
 pub only-slot : (A : Places) (v : Vol) (b k d : ℕ) → ((p j : ℕ) → WordsOf b (2 * k) 2 p j → A p j) → OnlyAt A v (setSlot v b k d)
 unfolding setSlot
@@ -80,3 +75,23 @@ only-finish A v U O a e n ptr x o u =
 pub only-take : (P : ℕ) (v w z : Vol) (a e n d : ℕ) → SamePlaces w z → Needs z (fileAt z e) n d → OnlyAt (AroundNew P z a e n) v w → OnlyAt (AroundNew P z a e n) v (claim P w d)
 only-take P v w z a e n d L h o = only-trans (AroundNew P z a e n) v w (claim P w d) o
     (only-claim (AroundNew P z a e n) P w d (λ p j i. inr (inl (d, h, (i .0 ∙ sym (bitPage-same P w z L d), i .1, i .2)))) (λ j. inl h))
+
+-- the file at e of user a has n pages in v; in v′ it has position n too, with the pages that this one needs, and is else the same
+pub record Longer (v v′ : Vol) (a e n : ℕ) : Type 0 where
+  pub count : two (object v e) 26 ≡ n
+  pub count′ : two (object v′ e) 26 ≡ suc n
+  pub entry : (k : ℕ) → k < 26 → object v′ e k ≡ object v e k
+  pub spent : usedPages (user v′) a ≡ usedPages (user v) a + need n
+  pub old : (m : ℕ) → m < n → pageAt v′ (fileAt v′ e) m ≡ pageAt v (fileAt v e) m
+  pub weight : (g : ℕ → ℕ) → g 0 ≡ 0 → weighR v′ (fileAt v′ e) g ≡ weighR v (fileAt v e) g + last v′ (fileAt v′ e) n g
+
+-- the shorter side may be read before or after changes that leave all trees
+pub longer-still : (P : ℕ) (v w v′ : Vol) (a e n : ℕ) → e < 65536 → Still P v w → Longer w v′ a e n → Longer v v′ a e n
+longer-still P v w v′ a e n h S L = record {
+  count = sym (ap (λ (O : Table). two (O e) 26) (S .objects)) ∙ L .count;
+  count′ = L .count′;
+  entry = λ k i. L .entry k i ∙ ap (λ (O : Table). O e k) (S .objects);
+  spent = L .spent ∙ ap (λ (U : Table). usedPages U a + need n) (S .users);
+  old = λ m i. L .old m i ∙ S .address e h m;
+  weight = λ g g0. omega (arith, L .weight g g0, S .holding e h g);
+}

@@ -11,7 +11,7 @@ use Rattle.book.specs.Holders.{some}
 use Rattle.book.specs.Pointers.{slot}
 use Rattle.book.specs.Trees.{weigh, Fill}
 use Rattle.book.specs.Words.{Vol}
-use Rattle.laws.specs.Tree.Weigh.{some-pos, some-zero}
+use Rattle.laws.specs.Tree.Slot.{some-pos, some-zero}
 
 pub cost-suc : (n : ℕ) → cost (suc n) ≡ cost n + need n
 unfolding cost need

@@ -1,27 +1,26 @@
 -- After the blocks of a file have changed, its entry and its owner's are written. Assumes nothing.
 use mathlib.Core.Path.{_≡_, sym, ap, ap₂, _∙_, subst, subst₂}
 use mathlib.Core.Logic.{_≢_, _⊎_, inl, inr}
-use Prim.Native.Nat.{ℕ, zero, suc, _+_, _-_, _*_, _/_, _%_, _≤_, _<_}
-use native.Mathlib.Nat.{not-suc-le-zero}
+use Prim.Native.Nat.{ℕ, suc, _+_, _-_, _*_, _/_, _%_, _≤_, _<_}
 use native.Mathlib.Omega.{arith}
-use Rattle.sums.specs.Search.{pick, pick-yes}
+use Rattle.sums.specs.Search.{pick}
 use Rattle.book.specs.Entries.{entry, userFile, objectFile, user, object, used, given, usedPages, grant}
 use Rattle.book.specs.Files.{fileAt, Shape, FileShape}
 use Rattle.book.specs.Grow.{finish}
 use Rattle.book.specs.Holders.{hit, some, all}
 use Rattle.book.specs.Pointers.{flags, page, pointer}
 use Rattle.book.specs.Rules.{UserOk, FileOk, Rule4, Rule5, Rule5By, Rule6, Rule10}
-use Rattle.book.specs.Trees.{Root, tree, run, weighR, blocksR, pageAt, rootAt, rootBy}
+use Rattle.book.specs.Trees.{Root, weighR, blocksR, pageAt, rootAt, rootBy}
 use Rattle.book.specs.Words.{Vol, two, word, put2}
 use Rattle.book.specs.Written.{word-pos, word-ext, put2-hi, put2-lo, put2-page, put2-word}
 use Rattle.laws.specs.Count.Good.{Good, bit-le, sound-within}
 use Rattle.laws.specs.File.Named.{Legal-ext, SameName-ext, SameFile-ext}
-use Rattle.laws.specs.Frame.Calm.{Shape-frame}
 use Rattle.laws.specs.Frame.Edit.{Outside, Change, obj-page, user-page, user-at, obj-at, entries, edit-good, edit-mine, Fine}
-use Rattle.laws.specs.Frame.Renewed.{Entries, used-ext, used-same, obj-used-same}
-use Rattle.laws.specs.Frame.Rest.{rest, all-rest, file-le, weighR-add}
-use Rattle.laws.specs.Frame.Roots.{pageAt-le, pageAt-below, pageAt-frame, weighR-frame, blocksR-le}
-use Rattle.laws.specs.Tree.Weigh.{Agree, some-zero, two-ext, hit-zero, hit-same}
+use Rattle.laws.specs.Frame.Renewed.{Shape-frame, Entries, used-same, obj-used-same}
+use Rattle.laws.specs.Frame.Rest.{rest, all-rest, file-le}
+use Rattle.laws.specs.Frame.Roots.{weighR-add, pageAt-le, pageAt-below, pageAt-frame, weighR-frame, blocksR-le, used-page}
+use Rattle.laws.specs.Tree.Pointer.{used-ext, flags-pointer, page-pointer, file-used}
+use Rattle.laws.specs.Tree.Slot.{Agree, some-zero, two-ext, hit-zero, hit-same}
 
 module _ (v : Vol) (U O a e n ptr x : ℕ) (apart : U ≢ O) where
   abbrev w : ℕ
@@ -78,26 +77,6 @@ module _ (v : Vol) (U O a e n ptr x : ℕ) (apart : U ≢ O) where
   pub fin-17 : v′ U (z + 17) ≡ x % 65536
   unfolding finish
   fin-17 = ap (finish v U O a e n ptr x U) (let s : z + 17 ≡ suc (z + 16) = omega arith in s) ∙ put2-lo _ U (z + 16) x
-
-pub flags-pointer : (x t : ℕ) → t < 1073741824 → pointer x t / 65536 / 16384 ≡ x
-unfolding pointer
-flags-pointer x t h = omega arith
-
-pub page-pointer : (x t : ℕ) → t < 1073741824 → pointer x t / 65536 % 16384 * 65536 + pointer x t % 65536 ≡ t
-unfolding pointer
-page-pointer x t h = omega arith
-
-pub used-page : (v : Vol) (r : Root) (n : ℕ) → 0 < used (entry v r n) → 0 < pageAt v r (n / 32)
-unfolding used entry word
-used-page v r n h = go (pageAt v r (n / 32)) h
-  where
-    go : (p : ℕ) → 0 < word v p (32 * (n % 32) + 0) / 32768 → 0 < p
-    go zero i = absurd (not-suc-le-zero i)
-    go (suc p) i = omega arith
-
-pub file-used : (v : Vol) (e : ℕ) → 0 < used (object v e) → fileAt v e ≡ rootAt (object v e) 30 (two (object v e) 26)
-unfolding fileAt
-file-used v e h = pick-yes (used (object v e)) (rootAt (object v e) 30 (two (object v e) 26)) (run 0 0) h
 
 module _ (P : ℕ) (v : Vol) (hand : ℕ → ℕ) (G : Good P v hand) (pos : 0 < P) (big : P ≤ 1073741824) (a f : ℕ) (ha : a < 256) (hf : f < 256)
     (uf : 0 < used (object v (256 * a + f))) where

@@ -11,8 +11,7 @@ use Rattle.book.specs.Words.{Vol, two}
 use Rattle.laws.specs.Count.Good.{Good}
 use Rattle.laws.specs.File.Around.{CountsOf, only-finish}
 use Rattle.laws.specs.File.Finish.{Blocks, Regrown, finish-good, finish-page, change, master, weight, new-root, new-pages, new-spent, obj-kept, user-kept, agreeB, quiet}
-use Rattle.laws.specs.Frame.Beside.{Beside}
-use Rattle.laws.specs.Frame.Edited.{edit-beside}
+use Rattle.laws.specs.Frame.Beside.{Beside, edit-beside}
 use Rattle.laws.specs.Frame.Places.{OnlyAt}
 use Rattle.laws.specs.Tree.Levels.{indexAt-frame}
 

@@ -13,9 +13,10 @@ use Rattle.book.specs.Pointers.{slot, page, Zero}
 use Rattle.book.specs.Rules.{Rule1, Rule2, Rule3, Rule4, Rule5, Rule5By, Rule6, Rule7, Rule8, Rule9, Rule10, Sound}
 use Rattle.book.specs.Trees.{Root, run, weighR, pageAt}
 use Rattle.book.specs.Words.{Vol, two, word}
-use Rattle.laws.specs.Count.Good.{root-0, zero-flags, zero-page, bit-le, file-unused}
+use Rattle.laws.specs.Count.Good.{bit-le}
 use Rattle.laws.specs.Frame.Roots.{upto-out}
-use Rattle.laws.specs.Tree.Weigh.{word-zero, slot-zero}
+use Rattle.laws.specs.Tree.Pointer.{root-0, zero-flags, zero-page, file-unused}
+use Rattle.laws.specs.Tree.Slot.{word-zero, slot-zero}
 
 -- ---- no used entry
 

@@ -22,7 +22,7 @@ use Rattle.laws.specs.Bits.Mark.{mark-page, mark-master, mark-bit, mark-
 use Rattle.laws.specs.File.Packed.{packed-legal}
 use Rattle.laws.specs.Format.Formatted.{Formatted, format-sound}
 use Rattle.laws.specs.Frame.Places.{Places, WordsOf, RunOf, Either, OnlyAt, only-wider, only-then, only-put2, only-putWords}
-use Rattle.laws.specs.Tree.Weigh.{hit-same, hit-other, some-pos, two-ext}
+use Rattle.laws.specs.Tree.Slot.{hit-same, hit-other, some-pos, two-ext}
 
 -- ---- pages wiped in a row
 

@@ -1,34 +1,22 @@
 -- What a step leaves: all that entries and trees say (Still), or all but one file and its owner's used count (Beside). Assumes nothing.
-use mathlib.Core.Path.{_≡_, refl, sym, ap, _∙_}
+use mathlib.Core.Path.{_≡_, refl, ap, _∙_, subst}
 use mathlib.Core.Logic.{_≢_}
-use Prim.Native.Nat.{ℕ, _+_, _/_, _<_}
+use Prim.Native.Nat.{ℕ, _+_, _/_, _<_, _*_, _%_}
 use native.Mathlib.Omega.{arith}
-use Rattle.book.specs.Bits.{bitFile, bitPage, bit}
-use Rattle.book.specs.Entries.{Table, userFile, objectFile, user, object, userPage, objectPage, used, given, unreserved}
+use Rattle.sums.specs.Sum.{sum-change, sum-none}
+use Rattle.book.specs.Bits.{bit}
+use Rattle.book.specs.Entries.{Table, user, object, used, given, usedPages}
 use Rattle.book.specs.Files.{fileAt}
-use Rattle.book.specs.Holders.{hit, all}
-use Rattle.book.specs.Trees.{Root, weighR, blocksR, pageAt}
+use Rattle.book.specs.Holders.{hit, all, some, mine}
+use Rattle.book.specs.Rules.{Rule6, Rule10}
+use Rattle.book.specs.Trees.{Root, weighR, pageAt}
 use Rattle.book.specs.Words.{Vol}
-use Rattle.laws.specs.Count.Good.{Good}
-use Rattle.laws.specs.Frame.Renewed.{used-ext}
-use Rattle.laws.specs.Frame.Rest.{rest, all-rest, q-entry, user-calm, obj-calm, file-calm, page-calm, all-calm}
-use Rattle.laws.specs.Frame.Roots.{Roots, users-root, objs-root, bits-root, pageAt-frame, weighR-frame, blocksR-le}
-use Rattle.laws.specs.Tree.Weigh.{Agree, two-ext}
-
--- where the entries lie
-pub record SamePlaces (v v′ : Vol) : Type 0 where
-  pub master : (k : ℕ) → v′ 0 k ≡ v 0 k
-  pub ofUser : (u : ℕ) → userPage v′ u ≡ userPage v u
-  pub ofObject : (x : ℕ) → objectPage v′ x ≡ objectPage v x
-
--- no entry and no tree changed
-pub record Still (P : ℕ) (v v′ : Vol) : Type 0 where
-  pub places : SamePlaces v v′
-  pub users : user v′ ≡ user v
-  pub objects : object v′ ≡ object v
-  pub address : (x : ℕ) → x < 65536 → (m : ℕ) → pageAt v′ (fileAt v′ x) m ≡ pageAt v (fileAt v x) m
-  pub holding : (x : ℕ) → x < 65536 → (g : ℕ → ℕ) → weighR v′ (fileAt v′ x) g ≡ weighR v (fileAt v x) g
-  pub held : (g : ℕ → ℕ) → all P v′ g ≡ all P v g
+use Rattle.laws.specs.Count.Good.{Good, free, free-count}
+use Rattle.laws.specs.Frame.Edit.{Change, c-users, c-objs, c-file, file-root, w-file, zeroB, users-words, objs-words, edit-all}
+use Rattle.laws.specs.Frame.Roots.{pageAt-frame}
+use Rattle.laws.specs.Frame.Still.{SamePlaces, Still, places-refl, places-trans, places-frame}
+use Rattle.laws.specs.Tree.Pointer.{used-ext}
+use Rattle.laws.specs.Tree.Slot.{two-ext}
 
 -- nothing changed but what the file at e is, and the used count of user a
 pub record Beside (P : ℕ) (v v′ : Vol) (a e : ℕ) : Type 0 where
@@ -39,45 +27,6 @@ pub record Beside (P : ℕ) (v v′ : Vol) (a e : ℕ) : Type 0 where
   pub address : (x : ℕ) → x < 65536 → x ≢ e → (m : ℕ) → pageAt v′ (fileAt v′ x) m ≡ pageAt v (fileAt v x) m
   pub holding : (x : ℕ) → x < 65536 → x ≢ e → (g : ℕ → ℕ) → weighR v′ (fileAt v′ x) g ≡ weighR v (fileAt v x) g
   pub held : (g : ℕ → ℕ) → all P v′ g + weighR v (fileAt v e) g ≡ all P v g + weighR v′ (fileAt v′ e) g
-
-pub places-refl : (v : Vol) → SamePlaces v v
-places-refl v = record { master = λ k. refl; ofUser = λ u. refl; ofObject = λ x. refl }
-
-pub places-sym : (v w : Vol) → SamePlaces v w → SamePlaces w v
-places-sym v w L = record { master = λ k. sym (L .master k); ofUser = λ u. sym (L .ofUser u); ofObject = λ x. sym (L .ofObject x) }
-
-pub places-trans : (v w z : Vol) → SamePlaces v w → SamePlaces w z → SamePlaces v z
-places-trans v w z L M = record { master = λ k. M .master k ∙ L .master k; ofUser = λ u. M .ofUser u ∙ L .ofUser u; ofObject = λ x. M .ofObject x ∙ L .ofObject x }
-
-pub still-refl : (P : ℕ) (v : Vol) → Still P v v
-still-refl P v = record {
-  places = places-refl v;
-  users = refl;
-  objects = refl;
-  address = λ x h m. refl;
-  holding = λ x h g. refl;
-  held = λ g. refl;
-}
-
-pub still-sym : (P : ℕ) (v w : Vol) → Still P v w → Still P w v
-still-sym P v w S = record {
-  places = places-sym v w (S .places);
-  users = sym (S .users);
-  objects = sym (S .objects);
-  address = λ x h m. sym (S .address x h m);
-  holding = λ x h g. sym (S .holding x h g);
-  held = λ g. sym (S .held g);
-}
-
-pub still-trans : (P : ℕ) (v w z : Vol) → Still P v w → Still P w z → Still P v z
-still-trans P v w z S T = record {
-  places = places-trans v w z (S .places) (T .places);
-  users = T .users ∙ S .users;
-  objects = T .objects ∙ S .objects;
-  address = λ x h m. T .address x h m ∙ S .address x h m;
-  holding = λ x h g. T .holding x h g ∙ S .holding x h g;
-  held = λ g. T .held g ∙ S .held g;
-}
 
 pub still-beside : (P : ℕ) (v w : Vol) (a e : ℕ) → e < 65536 → Still P v w → Beside P v w a e
 still-beside P v w a e he S = record {
@@ -112,60 +61,10 @@ beside-trans P v w z a e S T = record {
   held = λ g. omega (arith, S .held g, T .held g);
 }
 
--- ---- pages that none of the user, object and file trees holds
-
-pub places-frame : (v v′ : Vol) (C : ℕ → ℕ) → Agree C v v′ → ((k : ℕ) → v′ 0 k ≡ v 0 k) → blocksR v (userFile v) C ≡ 0 → blocksR v (objectFile v) C ≡ 0 → SamePlaces v v′
-unfolding userPage objectPage Roots
-places-frame v v′ C A m bu bo = record {
-  master = m;
-  ofUser = λ u. ap (λ (r : Root). pageAt v′ r (u / 32)) (users-root v v′ (λ k i j. m k)) ∙ pageAt-frame v v′ C A (userFile v) bu (u / 32);
-  ofObject = λ x. ap (λ (r : Root). pageAt v′ r (x / 32)) (objs-root v v′ (λ k i j. m k)) ∙ pageAt-frame v v′ C A (objectFile v) bo (x / 32);
-}
-
-pub still-calm : (P : ℕ) (v v′ : Vol) (C : ℕ → ℕ) → C 0 ≡ 0 → Agree C v v′ → rest v C ≡ 0 → ((k : ℕ) → v′ 0 k ≡ v 0 k) → Still P v v′
-unfolding Roots rest
-still-calm P v v′ C c0 A q m = record {
-  places = places-frame v v′ C A m (omega (arith, q, blocksR-le v (userFile v) C)) (omega (arith, q, blocksR-le v (objectFile v) C));
-  users = user-calm v v′ R C c0 A q;
-  objects = obj-calm v v′ R C c0 A q;
-  address = λ x h n. page-calm v v′ R C c0 A q x h n;
-  holding = λ x h g. ap (λ (r : Root). weighR v′ r g) (file-calm v v′ R C c0 A q x)
-      ∙ weighR-frame v v′ C A (fileAt v x) (omega (arith, blocksR-le v (fileAt v x) C, q-entry v v′ R C c0 A q x h)) g;
-  held = λ g. all-calm v v′ R C c0 A q P g;
-}
-  where
-    R : Roots v v′
-    R k i j = m k
-
--- ---- what the entries' places say of the bit file
-
-pub bitPage-same : (P : ℕ) (v v′ : Vol) → SamePlaces v v′ → (p : ℕ) → bitPage P v′ p ≡ bitPage P v p
-unfolding bitPage bitFile pageAt Roots
-bitPage-same P v v′ L p = ap (λ (r : Root). pageAt v r (p / 16384)) (bits-root v v′ (λ k i j. L .master k) P)
-
-pub rest-same : (P : ℕ) (v v′ : Vol) → Still P v v′ → (g : ℕ → ℕ) → rest v′ g ≡ rest v g
-unfolding bitFile weighR Roots
-rest-same P v v′ S g = omega (arith, S .held g, all-rest P v′ g, all-rest P v g, ap (λ (r : Root). weighR v r g) (bits-root v v′ (λ k i j. S .places .master k) P))
-
 -- so the bits change as the file's pages do
 pub beside-bits : (P : ℕ) (v v′ : Vol) (a e : ℕ) → Good P v (λ p. 0) → Good P v′ (λ p. 0) → Beside P v v′ a e → (p : ℕ) → p < P
     → bit P v′ p + weighR v (fileAt v e) (hit p) ≡ bit P v p + weighR v′ (fileAt v′ e) (hit p)
 beside-bits P v v′ a e G H B p h = omega (arith, G .held p h, H .held p h, B .held (hit p))
-
--- ---- the master page and the owner
-
-module _ (v v′ : Vol) (L : SamePlaces v v′) where
-  pub places-unreserved : unreserved v′ ≡ unreserved v
-  unfolding unreserved
-  places-unreserved = two-ext (v′ 0) (v 0) 1022 (L .master 1022) (L .master 1023)
-
-  pub places-users : userFile v′ ≡ userFile v
-  unfolding Roots
-  places-users = users-root v v′ (λ k i j. L .master k)
-
-  pub places-objects : objectFile v′ ≡ objectFile v
-  unfolding Roots
-  places-objects = objs-root v v′ (λ k i j. L .master k)
 
 module _ (P : ℕ) (v v′ : Vol) (a e : ℕ) (B : Beside P v v′ a e) where
   pub beside-used : used (user v′ a) ≡ used (user v a)
@@ -174,3 +73,46 @@ module _ (P : ℕ) (v v′ : Vol) (a e : ℕ) (B : Beside P v v′ a e) where
   pub beside-given : given (user v′) a ≡ given (user v) a
   unfolding given
   beside-given = two-ext (user v′ a) (user v a) 14 (B .owner 14 (omega arith) (omega arith) (omega arith)) (B .owner 15 (omega arith) (omega arith) (omega arith))
+
+module _ (P : ℕ) (v : Vol) (hand : ℕ → ℕ) (G : Good P v hand) (pos : 0 < P) (a f : ℕ) (ha : a < 256) (hf : f < 256) (D : ℕ → ℕ) (v′ : Vol)
+    (E : Change P v hand G pos a f ha hf D v′) where
+  -- over entry numbers
+  by-entry : (Q : ℕ → Type 0) → ((u h : ℕ) → u < 256 → h < 256 → 256 * u + h ≢ 256 * a + f → Q (256 * u + h)) → (x : ℕ) → x < 65536 → x ≢ 256 * a + f → Q x
+  by-entry Q q x h n = let s : 256 * (x / 256) + x % 256 ≡ x = omega arith in
+      subst Q s (q (x / 256) (x % 256) (omega arith) (omega arith) (λ i. n (omega arith)))
+
+  pub edit-beside : ((k : ℕ) → v′ 0 k ≡ v 0 k) → ((k : ℕ) → k < 32 → k ≢ 16 → k ≢ 17 → user v′ a k ≡ user v a k) → Beside P v v′ a (256 * a + f)
+  edit-beside m o = record {
+    places = places-frame v v′ _ (E .agree) m (c-users P v hand G pos a f ha hf D v′ E) (c-objs P v hand G pos a f ha hf D v′ E);
+    users = users-words P v hand G pos a f ha hf D v′ E;
+    owner = o;
+    files = objs-words P v hand G pos a f ha hf D v′ E;
+    address = by-entry (λ x. (m : ℕ) → pageAt v′ (fileAt v′ x) m ≡ pageAt v (fileAt v x) m)
+        (λ u h i j n m. ap (λ (r : Root). pageAt v′ r m) (file-root P v hand G pos a f ha hf D v′ E (256 * u + h) n)
+        ∙ pageAt-frame v v′ _ (E .agree) (fileAt v (256 * u + h)) (zeroB P v hand G pos a f ha hf D v′ E _ (c-file P v hand G pos a f ha hf D v′ E u h i j n)) m);
+    holding = by-entry (λ x. (g : ℕ → ℕ) → weighR v′ (fileAt v′ x) g ≡ weighR v (fileAt v x) g) (λ u h i j n g. w-file P v hand G pos a f ha hf D v′ E g u h i j n);
+    held = edit-all P v hand G pos a f ha hf D v′ E;
+  }
+
+-- what the owner's files hold changes as the file does
+pub beside-mine : (P : ℕ) (v v′ : Vol) (a f : ℕ) → a < 256 → f < 256 → Beside P v v′ a (256 * a + f) → (g : ℕ → ℕ)
+    → mine v′ a g + weighR v (fileAt v (256 * a + f)) g ≡ mine v a g + weighR v′ (fileAt v′ (256 * a + f)) g
+unfolding mine
+beside-mine P v v′ a f ha hf B g = sum-change 256 (λ h. weighR v (fileAt v (256 * a + h)) g) (λ h. weighR v′ (fileAt v′ (256 * a + h)) g) f hf
+    (λ h i n. B .holding (256 * a + h) (omega arith) (λ q. n (omega arith)) g)
+
+pub beside-free : (P : ℕ) (v v′ : Vol) (a f : ℕ) → 0 < P → a < 256 → f < 256 → 0 < used (object v (256 * a + f)) → Good P v (λ p. 0) → Good P v′ (λ p. 0) → Beside P v v′ a (256 * a + f)
+    → free P v′ + usedPages (user v′) a ≡ free P v + usedPages (user v) a
+unfolding Rule6 Rule10
+beside-free P v v′ a f pos ha hf uf G H B =
+    let o : 0 < used (user v a) = G .most .r6 .0 a f ha hf uf .owner in
+    omega (
+      arith,
+      free-count P v (λ p. 0) G pos,
+      free-count P v′ (λ p. 0) H pos,
+      sum-none P (λ p. 0) (λ p i. refl),
+      B .held some,
+      beside-mine P v v′ a f ha hf B some,
+      G .most .r10 .0 a ha o,
+      H .most .r10 .0 a ha (omega (arith, beside-used P v v′ a (256 * a + f) B)),
+    )

@@ -1,24 +1,26 @@
 -- One file of one user changes, with his entry: all else stays. Assumes nothing.
-use mathlib.Core.Path.{_≡_, refl, sym, ap, _∙_, subst}
+use mathlib.Core.Path.{_≡_, sym, ap, _∙_, subst}
 use mathlib.Core.Logic.{_≢_, _⊎_, inl, inr}
-use Prim.Native.Nat.{ℕ, zero, suc, _+_, _-_, _*_, _/_, _%_, _≤_, _<_}
+use Prim.Native.Nat.{ℕ, _+_, _-_, _*_, _/_, _%_, _≤_, _<_}
 use native.Mathlib.Nat.{le-trans, eq-zero-or-pos}
 use native.Mathlib.Decide.{ℕ-discrete, decLt}
 use native.Mathlib.Omega.{arith}
-use Rattle.sums.specs.Sum.{sum, is, is-other, sum-at, sum-at₂, sum-none, sum-change}
+use Rattle.sums.specs.Sum.{sum, sum-at, sum-at₂, sum-none, sum-change}
 use Rattle.book.specs.Bits.{bitFile, bitPage, bit, digit}
 use Rattle.book.specs.Entries.{entry, userFile, objectFile, user, object, used, usedPages, grant, unreserved}
 use Rattle.book.specs.Files.{fileAt}
 use Rattle.book.specs.Holders.{hit, some, all, system, mine, systemPages}
-use Rattle.book.specs.Pointers.{slot, flags, page}
+use Rattle.book.specs.Pointers.{flags}
 use Rattle.book.specs.Rules.{Rule10}
-use Rattle.book.specs.Trees.{Root, tree, run, weigh, weighR, blocksR, pageAt}
+use Rattle.book.specs.Trees.{Root, weighR, blocksR, pageAt}
 use Rattle.book.specs.Words.{Vol, two, word}
-use Rattle.laws.specs.Count.Good.{Good, bit-le, Within, sound-within, BelowR}
+use Rattle.laws.specs.Count.Good.{Good, bit-le, sound-within}
+use Rattle.laws.specs.Count.Reach.{Within}
 use Rattle.laws.specs.Frame.Renewed.{Master, Entries, UserNew, FileNew, rule1, rule2, rule3, rule4, rule5, rule6, rule7, used-same, spent-same, grant-same}
-use Rattle.laws.specs.Frame.Rest.{rest, all-rest, file-le, weighR-add, blocksR-add}
-use Rattle.laws.specs.Frame.Roots.{pageAt-le, pageAt-le₂, pageAt-below, pageAt-frame, weighR-frame, Roots, bits-root, users-root, objs-root, blocksR-le, file-kept, mine-other, mine-change, all-change}
-use Rattle.laws.specs.Tree.Weigh.{Agree, word-zero, two-ext, hit-zero, hit-same, hit-other}
+use Rattle.laws.specs.Frame.Rest.{rest, all-rest, file-le}
+use Rattle.laws.specs.Frame.Roots.{weighR-add, blocksR-add, pageAt-le, pageAt-le₂, pageAt-below, pageAt-frame, weighR-frame, Roots, bits-root, users-root, objs-root, blocksR-le, file-kept, mine-other, mine-change, all-change, weighR-nobody}
+use Rattle.laws.specs.Tree.Slot.{Agree, word-zero, two-ext, hit-zero, hit-same, hit-other, hit-nobody}
+use Rattle.laws.specs.Tree.Weigh.{BelowR}
 
 -- two files
 pub file-le₂ : (v : Vol) (g : ℕ → ℕ) (u f a b : ℕ) → u < 256 → f < 256 → a < 256 → b < 256 → 256 * u + f ≢ 256 * a + b
@@ -31,22 +33,6 @@ file-le₂ v g u f a b hu hf ha hb ne =
           (le-trans (sum-at₂ 256 (F u) f b hf hb (λ i. ne (omega arith))) (sum-at 256 (λ u. sum 256 (F u)) u hu))
       | no n ↦ omega (arith, sum-at 256 (F u) f hf, sum-at 256 (F a) b hb, sum-at₂ 256 (λ u. sum 256 (F u)) u a hu ha n)
     ]
-
--- nothing holds page 0
-hit-nobody : (x : ℕ) → hit 0 x ≡ 0
-unfolding hit
-hit-nobody zero = refl
-hit-nobody (suc x) = is-other (suc x) 0 (omega arith)
-
-pub weigh-nobody : (v : Vol) (g : ℕ → ℕ) → ((x : ℕ) → g x ≡ 0) → (l t : ℕ) → weigh v l t g ≡ 0
-unfolding weigh
-weigh-nobody v g h zero t = h t
-weigh-nobody v g h (suc l) t = omega (arith, h t, sum-none 512 (λ k. weigh v l (slot v t k) g) (λ k i. weigh-nobody v g h l (slot v t k)))
-
-pub weighR-nobody : (v : Vol) (g : ℕ → ℕ) → ((x : ℕ) → g x ≡ 0) → (r : Root) → weighR v r g ≡ 0
-unfolding weighR
-weighR-nobody v g h (tree l t) = weigh-nobody v g h l t
-weighR-nobody v g h (run s n) = sum-none n (λ i. g (s + i)) (λ i l. h (s + i))
 
 all-nobody : (P : ℕ) (v : Vol) → all P v (hit 0) ≡ 0
 unfolding all system mine

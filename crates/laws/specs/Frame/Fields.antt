@@ -1,12 +1,16 @@
 -- A field written into words that were just written in a row: as if the row had been written with that field. Assumes nothing.
-use mathlib.Core.Path.{_≡_, sym, ap, _∙_, fun-ext}
-use mathlib.Core.Logic.{_≢_}
+use mathlib.Core.Path.{_≡_, sym, ap, _∙_, fun-ext, subst}
+use mathlib.Core.Logic.{_≢_, inl, inr}
 use Prim.Native.Nat.{ℕ, suc, _+_, _-_, _/_, _%_, _≤_, _<_}
 use native.Mathlib.Nat.{add-suc}
 use native.Mathlib.Decide.{ℕ-discrete, decLt}
 use native.Mathlib.Omega.{arith}
-use Rattle.book.specs.Words.{Words, Vol, put, put2, putWords, setWord, setTwo, setWords}
-use Rattle.book.specs.Written.{put-here, put-page, put-word, putWords-here, putWords-page, putWords-low, putWords-high, setWord-here, setWord-other, setWords-in, setWords-low, setWords-high}
+use Rattle.book.specs.Entries.{entryWord, putEntry}
+use Rattle.book.specs.Holders.{hit}
+use Rattle.book.specs.Words.{Words, Vol, put, put2, putWords, setWord, setTwo, setWords, word}
+use Rattle.book.specs.Written.{put-here, put-page, put-word, putWords-here, putWords-page, putWords-low, putWords-high, setWord-here, setWord-other, setWords-in, setWords-low, setWords-high, word-pos, word-ext}
+use Rattle.laws.specs.Frame.Edit.{Outside}
+use Rattle.laws.specs.Tree.Slot.{Agree, hit-same}
 
 -- a volume that is v but for n words of page q from k on, which are those of w
 pub row-is : (v x : Vol) (q k n : ℕ) (w : Words) → ((p i : ℕ) → p ≢ q → x p i ≡ v p i) → ((i : ℕ) → i < k → x q i ≡ v q i) → ((i : ℕ) → k + n ≤ i → x q i ≡ v q i)
@@ -69,3 +73,23 @@ module _ (v : Vol) (q k n : ℕ) where
           | no b ↦ putWords-high (row w) q (k + j) m x q (k + i) (omega arith) ∙ row-at w i l ∙ sym (setWords-high w j m x i (omega arith))
         ]
       ])
+
+module _ (v : Vol) (q n : ℕ) (E : Words) where
+  abbrev w : Vol
+  w = putEntry v q n E
+
+  pub entry-page : (p k : ℕ) → p ≢ q → w p k ≡ v p k
+  entry-page p k h = putWords-page v q (entryWord n) 32 E p k h
+
+  pub entry-agree : Agree (hit q) v w
+  unfolding Agree
+  entry-agree p h k = word-ext v w p k (λ i. entry-page p k (λ e. omega (arith, h, subst (λ (x : ℕ). hit x p ≡ 1) e (hit-same p i))))
+
+  pub entry-outside : (k : ℕ) → Outside n k → word w q k ≡ word v q k
+  unfolding Outside
+  entry-outside k (inl h) = word-ext v w q k (λ i. putWords-low v q (entryWord n) 32 E q k h)
+  entry-outside k (inr h) = word-ext v w q k (λ i. putWords-high v q (entryWord n) 32 E q k h)
+
+  pub entry-here : 0 < q → (k : ℕ) → k < 32 → word w q (entryWord n + k) ≡ E k
+  entry-here p k h = word-pos w q (entryWord n + k) p ∙ putWords-here v q (entryWord n) 32 E (entryWord n + k) (omega arith) (omega arith)
+      ∙ ap E (let e : entryWord n + k - entryWord n ≡ k = omega arith in e)

@@ -14,10 +14,11 @@ use Rattle.book.specs.Trees.{Root, weighR, blocksR, pageAt}
 use Rattle.book.specs.Words.{Vol, word}
 use Rattle.laws.specs.Count.Good.{good, sound}
 use Rattle.laws.specs.File.Named.{Legal-ext, SameFile-ext}
-use Rattle.laws.specs.Frame.Renewed.{Master, rule1, rule2, rule3, rule5, used-ext, shape-kept}
+use Rattle.laws.specs.Frame.Renewed.{Master, rule1, rule2, rule3, rule5, shape-kept}
 use Rattle.laws.specs.Frame.Roots.{Roots, users-root, objs-root, bits-root, pageAt-le, pageAt-frame, weighR-frame, blocksR-le, file-kept}
 use Rattle.laws.specs.Frame.Still.{kept-words, address-still}
-use Rattle.laws.specs.Tree.Weigh.{Agree, two-ext}
+use Rattle.laws.specs.Tree.Pointer.{used-ext}
+use Rattle.laws.specs.Tree.Slot.{Agree, two-ext}
 
 -- what the pages at C are not
 pub record Quiet (P : ℕ) (v : Vol) (C : ℕ → ℕ) : Type 0 where

@@ -1,37 +1,44 @@
 -- Rules 1 to 7 after a change of at most one user's entry and at most one file's. Assumes nothing.
 use mathlib.Core.Path.{_≡_, refl, sym, ap, ap₂, _∙_, subst, subst₂}
 use mathlib.Core.Logic.{_≢_, _⊎_, inl, inr}
-use Prim.Native.Nat.{ℕ, zero, suc, _+_, _-_, _*_, _/_, _%_, _≤_, _<_}
+use Prim.Native.Nat.{ℕ, zero, suc, _+_, _-_, _*_, _/_, _≤_, _<_}
 use native.Mathlib.Nat.{not-suc-le-zero}
 use native.Mathlib.Decide.{ℕ-discrete}
 use native.Mathlib.Omega.{arith}
 use Rattle.sums.specs.Search.{pick}
-use Rattle.book.specs.Entries.{entry, userFile, objectFile, user, object, used, given, usedPages, grant}
+use Rattle.book.specs.Entries.{userFile, objectFile, user, object, used, given, usedPages, grant}
 use Rattle.book.specs.Files.{fileAt, Shape, FileShape}
-use Rattle.book.specs.Holders.{all}
 use Rattle.book.specs.Names.{SameName, SameFile}
 use Rattle.book.specs.Pointers.{slot, flags, page, Zero, Inside}
 use Rattle.book.specs.Rules.{UserOk, FileOk, Rule1, Rule2, Rule3, Rule4, Rule5, Rule5By, Rule6, Rule7}
-use Rattle.book.specs.Trees.{run, blocks, blocksR, rootAt, rootBy}
+use Rattle.book.specs.Trees.{run, blocks, blocksR, rootAt, rootBy, Root}
 use Rattle.book.specs.Words.{Vol, two}
 use Rattle.laws.specs.File.Named.{Legal-ext, SameName-ext, SameName-sym, SameFile-ext, SameFile-sym}
-use Rattle.laws.specs.Frame.Calm.{users-top, Shape-frame}
 use Rattle.laws.specs.Frame.Roots.{Roots}
-use Rattle.laws.specs.Tree.Weigh.{Agree, two-ext, slot-same, Below-frame}
+use Rattle.laws.specs.Tree.Pointer.{flags-ext, page-ext, used-ext, root-1, zero-page}
+use Rattle.laws.specs.Tree.Slot.{Agree, two-ext, slot-same}
+use Rattle.laws.specs.Tree.Weigh.{Below-frame, Fill-frame}
+
+-- the page of the user index, and of the object file's top, is one of its tree's blocks
+module _ (P : ℕ) (v : Vol) (C : ℕ → ℕ) (c0 : C 0 ≡ 0) where
+  pub users-top : Rule2 P v → C (page (v 0) 1018) ≤ blocksR v (userFile v) C
+  unfolding Rule2 Inside userFile blocksR blocks
+  users-top (inl z) = omega (arith, c0, ap C (zero-page (v 0) 1018 (z .0)))
+  users-top (inr i) = subst (λ (r : Root). C (page (v 0) 1018) ≤ blocksR v r C) (sym (root-1 (v 0) 1018 0 (i .0 .0))) (omega arith)
+
+module _ (v v′ : Vol) (C : ℕ → ℕ) (A : Agree C v v′) where
+  pub Shape-frame : (P x t n : ℕ) → blocksR v (rootBy x t n) C ≡ 0 → Shape P v x t n → Shape P v′ x t n
+  unfolding Shape rootBy blocksR
+  Shape-frame P zero t n h a = a
+  Shape-frame P (suc zero) t n h a = (a .0, a .1, Fill-frame v v′ C A 1 t n h (a .2), Below-frame v v′ C A P 1 t h (a .3))
+  Shape-frame P (suc (suc zero)) t n h a = (a .0, a .1, Fill-frame v v′ C A 2 t n h (a .2), Below-frame v v′ C A P 2 t h (a .3))
+  Shape-frame P (suc (suc (suc x))) t n h a = a
 
 -- ---- the master page
 
 -- the directory entry's name and pointers stay
 unfoldable pub Master : Vol → Vol → Type 0
 Master v v′ = (k : ℕ) → 1008 ≤ k → k < 1022 → v′ 0 k ≡ v 0 k
-
-pub flags-ext : (w x : ℕ → ℕ) (k : ℕ) → w k ≡ x k → flags w k ≡ flags x k
-unfolding flags
-flags-ext w x k e = ap (λ (m : ℕ). m / 16384) e
-
-pub page-ext : (w x : ℕ → ℕ) (k : ℕ) → w k ≡ x k → w (suc k) ≡ x (suc k) → page w k ≡ page x k
-unfolding page
-page-ext w x k a b = ap₂ (λ (m n : ℕ). m % 16384 * 65536 + n) a b
 
 module _ (P : ℕ) (v v′ : Vol) (M : Master v v′) where
   at : (k : ℕ) → 1008 ≤ k → k < 1022 → v′ 0 k ≡ v 0 k
@@ -114,10 +121,6 @@ pub record FileNew (P : ℕ) (v′ : Vol) (a f : ℕ) : Type 0 where
   pub alone : (h : ℕ) → h < 256 → h ≢ f → 0 < used (object v′ (256 * a + h)) → 0 < used (object v′ (256 * a + f))
       → ¬ (SameFile (object v′ (256 * a + h)) (object v′ (256 * a + f)))
   pub shape : 0 < used (object v′ (256 * a + f)) → FileShape P v′ (256 * a + f)
-
-pub used-ext : (w x : ℕ → ℕ) → w 0 ≡ x 0 → used w ≡ used x
-unfolding used
-used-ext w x e = ap (λ (m : ℕ). m / 32768) e
 
 module _ (P : ℕ) (v v′ : Vol) where
   -- a file whose words 26 to 31 and blocks stay keeps its shape

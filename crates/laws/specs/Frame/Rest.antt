@@ -1,22 +1,21 @@
 -- The trees apart: what one holds, no other does. Assumes nothing.
-use mathlib.Core.Path.{_≡_, refl, sym, ap, _∙_, subst, subst₂, fun-ext}
-use Prim.Native.Nat.{ℕ, zero, suc, _+_, _-_, _*_, _/_, _%_, _≤_, _<_}
+use mathlib.Core.Path.{_≡_, sym, ap, _∙_, subst, subst₂, fun-ext}
+use Prim.Native.Nat.{ℕ, _+_, _-_, _*_, _/_, _%_, _≤_, _<_}
 use native.Mathlib.Nat.{le-trans}
 use native.Mathlib.Omega.{arith}
 use Rattle.sums.specs.Search.{pick}
-use Rattle.sums.specs.Sum.{sum, is, sum-ext, sum-add, sum-at}
-use Rattle.book.specs.Bits.{bitFile}
+use Rattle.sums.specs.Sum.{sum, sum-ext, sum-add, sum-at}
+use Rattle.book.specs.Bits.{bitFile, bit}
 use Rattle.book.specs.Entries.{entry, userFile, objectFile, user, object, used, usedPages, grant, Table, unreserved}
 use Rattle.book.specs.Files.{fileAt}
-use Rattle.book.specs.Holders.{some, mine, system, all, systemPages}
-use Rattle.book.specs.Pointers.{slot}
+use Rattle.book.specs.Holders.{some, mine, system, all, systemPages, hit}
 use Rattle.book.specs.Rules.{Rule4, Rule6, Rule7, Rule10}
-use Rattle.book.specs.Trees.{Root, tree, run, weigh, weighR, blocks, blocksR, pageAt, rootAt}
+use Rattle.book.specs.Trees.{Root, run, weighR, blocksR, pageAt, rootAt}
 use Rattle.book.specs.Words.{Vol, two}
-use Rattle.laws.specs.Count.Good.{Most}
+use Rattle.laws.specs.Count.Good.{Most, Good}
 use Rattle.laws.specs.Frame.Renewed.{Master, rule1, rule2, rule3, rule5, shape-same}
-use Rattle.laws.specs.Frame.Roots.{weighR-frame, pageAt-frame, entry-frame, blocksR-le, Roots, users-root, objs-root, bits-root}
-use Rattle.laws.specs.Tree.Weigh.{Agree, two-ext}
+use Rattle.laws.specs.Frame.Roots.{weighR-frame, pageAt-frame, entry-frame, blocksR-le, Roots, users-root, objs-root, bits-root, weighR-add}
+use Rattle.laws.specs.Tree.Slot.{Agree, two-ext}
 
 -- the user, object and file trees
 unfoldable pub rest : Vol → (ℕ → ℕ) → ℕ
@@ -29,38 +28,6 @@ all-rest P v g = omega arith
 pub file-le : (v : Vol) (g : ℕ → ℕ) (u f : ℕ) → u < 256 → f < 256 → weighR v (fileAt v (256 * u + f)) g ≤ sum 256 (λ u. mine v u g)
 unfolding mine
 file-le v g u f h i = le-trans (sum-at 256 (λ f. weighR v (fileAt v (256 * u + f)) g) f i) (sum-at 256 (λ u. sum 256 (λ f. weighR v (fileAt v (256 * u + f)) g)) u h)
-
--- ---- two weights
-
-pub weigh-add : (v : Vol) (g h : ℕ → ℕ) (l t : ℕ) → weigh v l t (λ x. g x + h x) ≡ weigh v l t g + weigh v l t h
-unfolding weigh
-weigh-add v g h zero t = refl
-weigh-add v g h (suc l) t =
-    omega (
-      arith,
-      sum-ext 512 (λ k. weigh v l (slot v t k) (λ x. g x + h x)) (λ k. weigh v l (slot v t k) g + weigh v l (slot v t k) h) (λ k i. weigh-add v g h l (slot v t k)),
-      sum-add 512 (λ k. weigh v l (slot v t k) g) (λ k. weigh v l (slot v t k) h),
-    )
-
-pub weighR-add : (v : Vol) (g h : ℕ → ℕ) (r : Root) → weighR v r (λ x. g x + h x) ≡ weighR v r g + weighR v r h
-unfolding weighR
-weighR-add v g h (tree l t) = weigh-add v g h l t
-weighR-add v g h (run s n) = sum-add n (λ i. g (s + i)) (λ i. h (s + i))
-
-pub blocks-add : (v : Vol) (g h : ℕ → ℕ) (l t : ℕ) → blocks v l t (λ x. g x + h x) ≡ blocks v l t g + blocks v l t h
-unfolding blocks
-blocks-add v g h zero t = refl
-blocks-add v g h (suc l) t =
-    omega (
-      arith,
-      sum-ext 512 (λ k. blocks v l (slot v t k) (λ x. g x + h x)) (λ k. blocks v l (slot v t k) g + blocks v l (slot v t k) h) (λ k i. blocks-add v g h l (slot v t k)),
-      sum-add 512 (λ k. blocks v l (slot v t k) g) (λ k. blocks v l (slot v t k) h),
-    )
-
-pub blocksR-add : (v : Vol) (g h : ℕ → ℕ) (r : Root) → blocksR v r (λ x. g x + h x) ≡ blocksR v r g + blocksR v r h
-unfolding blocksR
-blocksR-add v g h (tree l t) = blocks-add v g h l t
-blocksR-add v g h (run s n) = refl
 
 pub rest-add : (v : Vol) (g h : ℕ → ℕ) → rest v (λ x. g x + h x) ≡ rest v g + rest v h
 unfolding rest mine
@@ -76,6 +43,9 @@ rest-add v g h =
           ∙ sum-add 256 (λ f. weighR v (fileAt v (256 * u + f)) g) (λ f. weighR v (fileAt v (256 * u + f)) h)),
       sum-add 256 (λ u. sum 256 (λ f. weighR v (fileAt v (256 * u + f)) g)) (λ u. sum 256 (λ f. weighR v (fileAt v (256 * u + f)) h)),
     )
+
+pub all-add : (P : ℕ) (v : Vol) (g h : ℕ → ℕ) → all P v (λ x. g x + h x) ≡ all P v g + all P v h
+all-add P v g h = omega (arith, all-rest P v (λ x. g x + h x), all-rest P v g, all-rest P v h, rest-add v g h, weighR-add v g h (bitFile P v))
 
 -- ---- a calm change: pages that none of those trees holds
 
@@ -164,3 +134,12 @@ module _ (v v′ : Vol) (R : Roots v v′) (C : ℕ → ℕ) (c0 : C 0 ≡ 0) (A
         (λ u h i. ap (λ (U : Table). usedPages U u) user-calm ∙ s .r10 .0 u h (subst (λ (U : Table). 0 < used (U u)) user-calm i) ∙ sym (mine-calm u h some)),
         omega (arith, s .r10 .1, two-ext (v′ 0) (v 0) 1022 (m 1022 (omega arith)) (m 1023 (omega arith)), ap (λ (U : Table). sum 256 (grant U)) user-calm, sys-calm P some),
       )
+
+-- only bits change: pages in hand are given back, or taken, in one go
+pub bits-good : (P : ℕ) (v v′ : Vol) (hand hand′ C : ℕ → ℕ) → Good P v hand → C 0 ≡ 0 → Agree C v v′ → rest v C ≡ 0 → ((k : ℕ) → v′ 0 k ≡ v 0 k)
+    → ((p : ℕ) → p < P → bit P v′ p + hand p ≡ bit P v p + hand′ p) → Good P v′ hand′
+unfolding Roots
+bits-good P v v′ hand hand′ C G c0 A q m e = record {
+  most = most-calm v v′ (λ k i j. m k) C c0 A q P (λ k i. m k) (G .most);
+  held = λ p h. omega (arith, e p h, G .held p h, all-calm v v′ (λ k i j. m k) C c0 A q P (hit p));
+}

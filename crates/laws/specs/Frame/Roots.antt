@@ -2,20 +2,21 @@
 use mathlib.Core.Path.{_≡_, refl, sym, ap, ap₂, _∙_, subst}
 use mathlib.Core.Logic.{_≢_}
 use Prim.Native.Nat.{ℕ, zero, suc, _+_, _-_, _*_, _/_, _%_, _^_, _≤_, _<_, zero-le}
-use native.Mathlib.Nat.{one-mul, zero-mul}
+use native.Mathlib.Nat.{one-mul, zero-mul, not-suc-le-zero}
 use native.Mathlib.Decide.{decLt}
 use native.Mathlib.Omega.{arith}
 use Rattle.sums.specs.Search.{pick}
-use Rattle.sums.specs.Sum.{sum, is, sum-ext, sum-le, sum-at, sum-at₂, sum-change}
+use Rattle.sums.specs.Sum.{sum, sum-ext, sum-at, sum-at₂, sum-change, sum-none, sum-add}
 use Rattle.book.specs.Bits.{bitFile, bitPages}
 use Rattle.book.specs.Entries.{entry, userFile, objectFile, object, used}
 use Rattle.book.specs.Files.{fileAt}
-use Rattle.book.specs.Holders.{some, mine, system, all}
-use Rattle.book.specs.Pointers.{flags, page}
-use Rattle.book.specs.Trees.{Root, tree, run, weigh, weighR, blocks, blocksR, leaf, pageAt, upto, rootAt, rootBy}
+use Rattle.book.specs.Holders.{mine, system, all}
+use Rattle.book.specs.Pointers.{page, Zero}
+use Rattle.book.specs.Trees.{Root, tree, run, weigh, weighR, blocks, blocksR, leaf, pageAt, upto, rootAt}
 use Rattle.book.specs.Words.{Vol, two, word}
-use Rattle.laws.specs.Count.Good.{BelowR}
-use Rattle.laws.specs.Tree.Weigh.{Agree, weigh-frame, blocks-frame, leaf-frame, blocks-le, leaf-le, leaf-le₂, leaf-below}
+use Rattle.laws.specs.Tree.Pointer.{root-0, zero-flags, rootAt-ext}
+use Rattle.laws.specs.Tree.Slot.{Agree}
+use Rattle.laws.specs.Tree.Weigh.{BelowR, weigh-frame, blocks-frame, leaf-frame, blocks-le, leaf-le, leaf-le₂, leaf-below, weigh-nobody, weigh-add, blocks-add}
 
 pub upto-in : (n m x : ℕ) → n < m → upto n m x ≡ x
 unfolding upto
@@ -25,25 +26,10 @@ pub upto-out : (n m x : ℕ) → m ≤ n → upto n m x ≡ 0
 unfolding upto
 upto-out n m x h = let e : 1 - (suc n - m) ≡ 0 = omega arith in ap (λ (c : ℕ). c * x) e ∙ zero-mul x
 
--- ---- the weights of all trees
-
-unfoldable pub allBlocks : Vol → (ℕ → ℕ) → ℕ
-allBlocks v g = blocksR v (userFile v) g + blocksR v (objectFile v) g + sum 256 (λ u. sum 256 (λ f. blocksR v (fileAt v (256 * u + f)) g))
-
 pub blocksR-le : (v : Vol) (r : Root) (g : ℕ → ℕ) → blocksR v r g ≤ weighR v r g
 unfolding blocksR weighR
 blocksR-le v (tree l t) g = blocks-le v g l t
 blocksR-le v (run s n) g = zero-le
-
-pub allBlocks-le : (P : ℕ) (v : Vol) (g : ℕ → ℕ) → allBlocks v g ≤ all P v g
-unfolding allBlocks all system mine
-allBlocks-le P v g = omega (
-  arith,
-  blocksR-le v (userFile v) g,
-  blocksR-le v (objectFile v) g,
-  sum-le 256 (λ u. sum 256 (λ f. blocksR v (fileAt v (256 * u + f)) g)) (λ u. sum 256 (λ f. weighR v (fileAt v (256 * u + f)) g))
-      (λ u i. sum-le 256 (λ f. blocksR v (fileAt v (256 * u + f)) g) (λ f. weighR v (fileAt v (256 * u + f)) g) (λ f j. blocksR-le v (fileAt v (256 * u + f)) g)),
-)
 
 -- a page of a tree, beside its blocks
 pub pageAt-le : (v : Vol) (g : ℕ → ℕ) → g 0 ≡ 0 → (r : Root) (n : ℕ) → blocksR v r g + g (pageAt v r n) ≤ weighR v r g
@@ -87,11 +73,36 @@ pageAt-below v P h (run s m) b n = elim (decLt n m) [
   | no i ↦ omega (arith, upto-out n m (s + n) (omega arith))
 ]
 
--- ---- roots
+pub weighR-nobody : (v : Vol) (g : ℕ → ℕ) → ((x : ℕ) → g x ≡ 0) → (r : Root) → weighR v r g ≡ 0
+unfolding weighR
+weighR-nobody v g h (tree l t) = weigh-nobody v g h l t
+weighR-nobody v g h (run s n) = sum-none n (λ i. g (s + i)) (λ i l. h (s + i))
 
-pub rootAt-ext : (w x : ℕ → ℕ) (k n : ℕ) → w k ≡ x k → w (suc k) ≡ x (suc k) → rootAt w k n ≡ rootAt x k n
-unfolding rootAt flags page
-rootAt-ext w x k n a b = ap₂ (λ (m o : ℕ). rootBy (m / 16384) (m % 16384 * 65536 + o) n) a b
+pub weighR-add : (v : Vol) (g h : ℕ → ℕ) (r : Root) → weighR v r (λ x. g x + h x) ≡ weighR v r g + weighR v r h
+unfolding weighR
+weighR-add v g h (tree l t) = weigh-add v g h l t
+weighR-add v g h (run s n) = sum-add n (λ i. g (s + i)) (λ i. h (s + i))
+
+pub blocksR-add : (v : Vol) (g h : ℕ → ℕ) (r : Root) → blocksR v r (λ x. g x + h x) ≡ blocksR v r g + blocksR v r h
+unfolding blocksR
+blocksR-add v g h (tree l t) = blocks-add v g h l t
+blocksR-add v g h (run s n) = refl
+
+pub no-blocks : (v : Vol) (r : Root) → blocksR v r (λ x. 0) ≡ 0
+no-blocks v r = omega (arith, blocksR-le v r (λ x. 0), weighR-nobody v (λ x. 0) (λ x. refl) r)
+
+-- a pointer of zeros has no page
+pub zero-none : (v : Vol) (w : ℕ → ℕ) (k : ℕ) → Zero w k → (i : ℕ) → pageAt v (rootAt w k 0) i ≡ 0
+unfolding pageAt
+zero-none v w k z i = ap (λ (r : Root). pageAt v r i) (root-0 w k 0 (zero-flags w k z)) ∙ upto-out i 0 _ zero-le
+
+pub used-page : (v : Vol) (r : Root) (n : ℕ) → 0 < used (entry v r n) → 0 < pageAt v r (n / 32)
+unfolding used entry word
+used-page v r n h = go (pageAt v r (n / 32)) h
+  where
+    go : (p : ℕ) → 0 < word v p (32 * (n % 32) + 0) / 32768 → 0 < p
+    go zero i = absurd (not-suc-le-zero i)
+    go (suc p) i = omega arith
 
 -- the words of an entry that say what the file is
 pub record Kept (w x : ℕ → ℕ) : Type 0 where
@@ -153,11 +164,6 @@ module _ (v v′ : Vol) (R : Roots v v′) where
   pub bits-root : (P : ℕ) → bitFile P v′ ≡ bitFile P v
   unfolding bitFile Roots page
   bits-root P = ap₂ (λ (m o : ℕ). run (m % 16384 * 65536 + o) (bitPages P)) (R 1020 (omega arith) (omega arith)) (R 1021 (omega arith) (omega arith))
-
--- ---- one file changes: every other is as it was
-
-unfoldable pub fileW : Vol → (ℕ → ℕ) → ℕ → ℕ
-fileW v g e = weighR v (fileAt v e) g
 
 module _ (P : ℕ) (v v′ : Vol) (g : ℕ → ℕ) (a b : ℕ) (ha : a < 256) (hb : b < 256)
     (wb : weighR v′ (bitFile P v′) g ≡ weighR v (bitFile P v) g) (wu : weighR v′ (userFile v′) g ≡ weighR v (userFile v) g) (wo : weighR v′ (objectFile v′) g ≡ weighR v (objectFile v) g)

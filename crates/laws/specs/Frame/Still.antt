@@ -1,19 +1,74 @@
 -- A change of pages that are no block of any tree: entries elsewhere and every file's pages stay. Assumes nothing.
-use mathlib.Core.Path.{_≡_, sym, ap, _∙_, subst, fun-ext}
+use mathlib.Core.Path.{_≡_, sym, ap, _∙_, subst, fun-ext, refl}
 use mathlib.Core.Logic.{_≢_}
-use Prim.Native.Nat.{ℕ, _/_, _%_, _≤_, _<_}
+use Prim.Native.Nat.{ℕ, _/_, _%_, _<_}
 use native.Mathlib.Omega.{arith}
 use Rattle.sums.specs.Sum.{sum}
-use Rattle.book.specs.Entries.{entry, userFile, objectFile, user, object, fileEntry}
+use Rattle.book.specs.Bits.{bitFile, bitPage}
+use Rattle.book.specs.Entries.{entry, userFile, objectFile, user, object, fileEntry, userPage, objectPage, unreserved}
 use Rattle.book.specs.Files.{fileAt}
-use Rattle.book.specs.Holders.{hit, mine}
+use Rattle.book.specs.Holders.{hit, mine, all}
 use Rattle.book.specs.Trees.{Root, weighR, blocksR, pageAt}
 use Rattle.book.specs.Words.{Words, Vol}
 use Rattle.book.specs.Written.{word-ext}
 use Rattle.laws.specs.Frame.Places.{Places, OnlyAt}
-use Rattle.laws.specs.Frame.Rest.{file-le}
-use Rattle.laws.specs.Frame.Roots.{Roots, Kept, users-root, objs-root, entry-frame, file-kept, pageAt-frame, blocksR-le}
-use Rattle.laws.specs.Tree.Weigh.{Agree, hit-same, two-ext}
+use Rattle.laws.specs.Frame.Rest.{file-le, rest, all-rest, q-entry, user-calm, obj-calm, file-calm, page-calm, all-calm}
+use Rattle.laws.specs.Frame.Roots.{Roots, Kept, users-root, objs-root, entry-frame, file-kept, pageAt-frame, blocksR-le, bits-root, weighR-frame}
+use Rattle.laws.specs.Tree.Slot.{Agree, hit-same, two-ext}
+
+-- where the entries lie
+pub record SamePlaces (v v′ : Vol) : Type 0 where
+  pub master : (k : ℕ) → v′ 0 k ≡ v 0 k
+  pub ofUser : (u : ℕ) → userPage v′ u ≡ userPage v u
+  pub ofObject : (x : ℕ) → objectPage v′ x ≡ objectPage v x
+
+-- no entry and no tree changed
+pub record Still (P : ℕ) (v v′ : Vol) : Type 0 where
+  pub places : SamePlaces v v′
+  pub users : user v′ ≡ user v
+  pub objects : object v′ ≡ object v
+  pub address : (x : ℕ) → x < 65536 → (m : ℕ) → pageAt v′ (fileAt v′ x) m ≡ pageAt v (fileAt v x) m
+  pub holding : (x : ℕ) → x < 65536 → (g : ℕ → ℕ) → weighR v′ (fileAt v′ x) g ≡ weighR v (fileAt v x) g
+  pub held : (g : ℕ → ℕ) → all P v′ g ≡ all P v g
+
+pub places-refl : (v : Vol) → SamePlaces v v
+places-refl v = record { master = λ k. refl; ofUser = λ u. refl; ofObject = λ x. refl }
+
+pub places-sym : (v w : Vol) → SamePlaces v w → SamePlaces w v
+places-sym v w L = record { master = λ k. sym (L .master k); ofUser = λ u. sym (L .ofUser u); ofObject = λ x. sym (L .ofObject x) }
+
+pub places-trans : (v w z : Vol) → SamePlaces v w → SamePlaces w z → SamePlaces v z
+places-trans v w z L M = record { master = λ k. M .master k ∙ L .master k; ofUser = λ u. M .ofUser u ∙ L .ofUser u; ofObject = λ x. M .ofObject x ∙ L .ofObject x }
+
+pub still-refl : (P : ℕ) (v : Vol) → Still P v v
+still-refl P v = record {
+  places = places-refl v;
+  users = refl;
+  objects = refl;
+  address = λ x h m. refl;
+  holding = λ x h g. refl;
+  held = λ g. refl;
+}
+
+pub still-sym : (P : ℕ) (v w : Vol) → Still P v w → Still P w v
+still-sym P v w S = record {
+  places = places-sym v w (S .places);
+  users = sym (S .users);
+  objects = sym (S .objects);
+  address = λ x h m. sym (S .address x h m);
+  holding = λ x h g. sym (S .holding x h g);
+  held = λ g. sym (S .held g);
+}
+
+pub still-trans : (P : ℕ) (v w z : Vol) → Still P v w → Still P w z → Still P v z
+still-trans P v w z S T = record {
+  places = places-trans v w z (S .places) (T .places);
+  users = T .users ∙ S .users;
+  objects = T .objects ∙ S .objects;
+  address = λ x h m. T .address x h m ∙ S .address x h m;
+  holding = λ x h g. T .holding x h g ∙ S .holding x h g;
+  held = λ g. T .held g ∙ S .held g;
+}
 
 -- the words of A are on page q, or on page 0, which no pointer names
 pub agree-at : (v v′ : Vol) (A : Places) (q : ℕ) → 0 < q → ((p k : ℕ) → 0 < p → A p k → p ≡ q) → OnlyAt A v v′ → Agree (hit q) v v′
@@ -49,3 +104,53 @@ pub blocks-nobody : (v : Vol) (C : ℕ → ℕ) → sum 256 (λ u. mine v u C) �
 blocks-nobody v C h e i = let s : fileEntry (e / 256) (e % 256) ≡ e = omega arith in
     subst (λ (x : ℕ). blocksR v (fileAt v x) C ≡ 0) s
     (omega (arith, h, blocksR-le v (fileAt v (fileEntry (e / 256) (e % 256))) C, file-le v C (e / 256) (e % 256) (omega arith) (omega arith)))
+
+-- ---- pages that none of the user, object and file trees holds
+
+pub places-frame : (v v′ : Vol) (C : ℕ → ℕ) → Agree C v v′ → ((k : ℕ) → v′ 0 k ≡ v 0 k) → blocksR v (userFile v) C ≡ 0 → blocksR v (objectFile v) C ≡ 0 → SamePlaces v v′
+unfolding userPage objectPage Roots
+places-frame v v′ C A m bu bo = record {
+  master = m;
+  ofUser = λ u. ap (λ (r : Root). pageAt v′ r (u / 32)) (users-root v v′ (λ k i j. m k)) ∙ pageAt-frame v v′ C A (userFile v) bu (u / 32);
+  ofObject = λ x. ap (λ (r : Root). pageAt v′ r (x / 32)) (objs-root v v′ (λ k i j. m k)) ∙ pageAt-frame v v′ C A (objectFile v) bo (x / 32);
+}
+
+pub still-calm : (P : ℕ) (v v′ : Vol) (C : ℕ → ℕ) → C 0 ≡ 0 → Agree C v v′ → rest v C ≡ 0 → ((k : ℕ) → v′ 0 k ≡ v 0 k) → Still P v v′
+unfolding Roots rest
+still-calm P v v′ C c0 A q m = record {
+  places = places-frame v v′ C A m (omega (arith, q, blocksR-le v (userFile v) C)) (omega (arith, q, blocksR-le v (objectFile v) C));
+  users = user-calm v v′ R C c0 A q;
+  objects = obj-calm v v′ R C c0 A q;
+  address = λ x h n. page-calm v v′ R C c0 A q x h n;
+  holding = λ x h g. ap (λ (r : Root). weighR v′ r g) (file-calm v v′ R C c0 A q x)
+      ∙ weighR-frame v v′ C A (fileAt v x) (omega (arith, blocksR-le v (fileAt v x) C, q-entry v v′ R C c0 A q x h)) g;
+  held = λ g. all-calm v v′ R C c0 A q P g;
+}
+  where
+    R : Roots v v′
+    R k i j = m k
+
+-- ---- what the entries' places say of the bit file
+
+pub bitPage-same : (P : ℕ) (v v′ : Vol) → SamePlaces v v′ → (p : ℕ) → bitPage P v′ p ≡ bitPage P v p
+unfolding bitPage bitFile pageAt Roots
+bitPage-same P v v′ L p = ap (λ (r : Root). pageAt v r (p / 16384)) (bits-root v v′ (λ k i j. L .master k) P)
+
+pub rest-same : (P : ℕ) (v v′ : Vol) → Still P v v′ → (g : ℕ → ℕ) → rest v′ g ≡ rest v g
+unfolding bitFile weighR Roots
+rest-same P v v′ S g = omega (arith, S .held g, all-rest P v′ g, all-rest P v g, ap (λ (r : Root). weighR v r g) (bits-root v v′ (λ k i j. S .places .master k) P))
+
+-- ---- the master page and the owner
+
+module _ (v v′ : Vol) (L : SamePlaces v v′) where
+  pub places-unreserved : unreserved v′ ≡ unreserved v
+  unfolding unreserved
+  places-unreserved = two-ext (v′ 0) (v 0) 1022 (L .master 1022) (L .master 1023)
+
+  pub places-users : userFile v′ ≡ userFile v
+  unfolding Roots
+  places-users = users-root v v′ (λ k i j. L .master k)
+
+  pub places-objects : objectFile v′ ≡ objectFile v
+  unfolding Roots
+  places-objects = objs-root v v′ (λ k i j. L .master k)

@@ -1,39 +1,16 @@
 -- A tree of pages grows by one position. Assumes nothing.
 use mathlib.Core.Path.{_≡_, refl, sym, ap, ap₂, _∙_, subst, subst₂}
 use mathlib.Core.Logic.{_≢_}
-use Prim.Native.Nat.{ℕ, zero, suc, _+_, _-_, _*_, _/_, _%_, _^_, _≤_, _<_, min}
+use Prim.Native.Nat.{ℕ, suc, _+_, _-_, _*_, _/_, _%_, _^_, _≤_, _<_, min}
 use native.Mathlib.Nat.{not-suc-le-zero, mod-lt, mul-le-mul-right, div-add-mod', suc-mul, zero-div, zero-mod, div-eq-of-lt, mod-eq-of-lt, div-self, mod-self}
 use native.Mathlib.Decide.{ℕ-discrete, decLt}
 use native.Mathlib.Omega.{arith}
 use Rattle.sums.specs.Sum.{sum, sum-none, sum-change, sum-only, sum-only₂}
-use Rattle.book.specs.Holders.{hit}
-use Rattle.book.specs.Pointers.{slot, setSlot}
+use Rattle.book.specs.Pointers.{slot}
 use Rattle.book.specs.Trees.{weigh, blocks, leaf, Below, Fill}
-use Rattle.book.specs.Words.{Vol, word, put2}
-use Rattle.book.specs.Written.{word-pos, word-ext, put2-two, put2-page, put2-word}
-use Rattle.laws.specs.Tree.Weigh.{Agree, two-ext, hit-same, slot-zero, weigh-none, weigh-frame, leaf-frame, Below-frame, Fill-frame, pow-pos, slot-lt}
-
--- ---- a slot is set
-
-module _ (v : Vol) (b k d : ℕ) (pos : 0 < b) where
-  pub slot-here : slot (setSlot v b k d) b k ≡ d
-  unfolding slot setSlot
-  slot-here = two-ext (word (put2 v b (2 * k) d) b) (put2 v b (2 * k) d b) (2 * k) (word-pos _ b (2 * k) pos) (word-pos _ b (suc (2 * k)) pos) ∙ put2-two v b (2 * k) d
-
-  pub slot-other : (j : ℕ) → j ≢ k → slot (setSlot v b k d) b j ≡ slot v b j
-  unfolding slot setSlot
-  slot-other j n = two-ext (word (put2 v b (2 * k) d) b) (word v b) (2 * j) (w (2 * j) (omega arith) (omega arith)) (w (suc (2 * j)) (omega arith) (omega arith))
-    where
-      w : (i : ℕ) → i ≢ 2 * k → i ≢ suc (2 * k) → word (put2 v b (2 * k) d) b i ≡ word v b i
-      w i a c = word-ext v (put2 v b (2 * k) d) b i (λ h. put2-word v b (2 * k) d b i a c)
-
-pub setSlot-page : (v : Vol) (b k d q j : ℕ) → q ≢ b → setSlot v b k d q j ≡ v q j
-unfolding setSlot
-setSlot-page v b k d q j n = put2-page v b (2 * k) d q j n
-
-pub setSlot-agree : (v : Vol) (b k d : ℕ) → Agree (hit b) v (setSlot v b k d)
-unfolding Agree
-setSlot-agree v b k d q h j = word-ext v (setSlot v b k d) q j (λ i. setSlot-page v b k d q j (λ e. omega (arith, h, subst (λ (x : ℕ). hit x q ≡ 1) e (hit-same q i))))
+use Rattle.book.specs.Words.{Vol}
+use Rattle.laws.specs.Tree.Slot.{Agree, slot-zero}
+use Rattle.laws.specs.Tree.Weigh.{weigh-none, weigh-frame, leaf-frame, Below-frame, Fill-frame, pow-pos, slot-lt, fill-zero, below-zero}
 
 -- ---- how many of n positions lie under slot j
 
@@ -58,20 +35,6 @@ pub record Grown (P : ℕ) (v v′ : Vol) (l t t′ n d : ℕ) (new : (ℕ → �
   pub old : (m : ℕ) → m < n → leaf v′ l t′ m ≡ leaf v l t m
   pub at : leaf v′ l t′ n ≡ d
   pub inside : Below v′ P l t′
-
-pub fill-zero : (v : Vol) (l : ℕ) → Fill v l 0 0
-unfolding Fill
-fill-zero v zero = ((λ h. absurd (not-suc-le-zero h)), λ h. refl)
-fill-zero v (suc l) = (
-  (λ h. absurd (not-suc-le-zero h)),
-  (λ h. refl),
-  λ k i. subst₂ (λ (x y : ℕ). Fill v l x y) (sym (slot-zero v k)) (let e : 0 ≡ min (0 - k * 512 ^ l) (512 ^ l) = omega arith in e) (fill-zero v l),
-)
-
-pub below-zero : (v : Vol) (P l : ℕ) → 0 < P → Below v P l 0
-unfolding Below
-below-zero v P zero h = h
-below-zero v P (suc l) h = (h, λ k i. subst (λ (x : ℕ). Below v P l x) (sym (slot-zero v k)) (below-zero v P l h))
 
 -- a new page where none was
 pub grown-page : (P : ℕ) (v v′ : Vol) (d : ℕ) → 0 < d → d < P → Grown P v v′ 0 0 d 0 d (λ g. g d)

@@ -1,11 +1,10 @@
 -- A file that grows by one page, over new pages in hand; the two ways without a subindex block. Assumes nothing.
 use mathlib.Core.Path.{_≡_, refl, sym, ap, _∙_, subst, subst₃}
 use mathlib.Core.Logic.{inl, inr}
-use Prim.Native.Nat.{ℕ, zero, suc, _+_, _-_, _*_, _/_, _%_, _≤_, _<_, min}
+use Prim.Native.Nat.{ℕ, suc, _+_, _-_, _*_, _/_, _%_, _≤_, _<_, min}
 use native.Mathlib.Nat.{le-refl, div-one, mod-one}
 use native.Mathlib.Omega.{arith}
-use Rattle.sums.specs.Sum.{sum, is, is-other, is-sym}
-use Rattle.book.specs.Bits.{bitFile}
+use Rattle.sums.specs.Sum.{sum, is}
 use Rattle.book.specs.Entries.{userFile, objectFile, user, object, used, given, usedPages}
 use Rattle.book.specs.Files.{fileAt, Shape, FileShape, need}
 use Rattle.book.specs.Grow.{finish}
@@ -15,35 +14,18 @@ use Rattle.book.specs.Rules.{Rule7}
 use Rattle.book.specs.Trees.{Root, tree, run, weigh, blocks, weighR, pageAt, indexAt, subindexOf, upto, leaf, rootAt, rootBy, Fill, Below}
 use Rattle.book.specs.Words.{Vol, two}
 use Rattle.laws.specs.Count.Good.{Good, bit-le}
-use Rattle.laws.specs.File.Around.{AroundNew, Needs, SlotOf, CountsOf, only-trans, only-slot}
-use Rattle.laws.specs.File.Finish.{Blocks, Regrown, file-used}
+use Rattle.laws.specs.File.Around.{AroundNew, Needs, SlotOf, CountsOf, only-slot, Longer}
+use Rattle.laws.specs.File.Finish.{Blocks, Regrown}
 use Rattle.laws.specs.File.Finished.{Finished, finished}
-use Rattle.laws.specs.File.Longer.{Longer}
 use Rattle.laws.specs.Frame.Beside.{Beside}
-use Rattle.laws.specs.Frame.Places.{Places, Either, OnlyAt, only-wider}
-use Rattle.laws.specs.Frame.Rest.{rest, all-rest, rest-add, file-le, weighR-add}
+use Rattle.laws.specs.Frame.Places.{only-trans, Places, Either, OnlyAt, only-wider}
+use Rattle.laws.specs.Frame.Rest.{rest, all-rest, file-le}
 use Rattle.laws.specs.Frame.Roots.{upto-in}
-use Rattle.laws.specs.Grow.Grown.{slot-here, slot-other, setSlot-page, setSlot-agree, Grown, grown-page, grown-block, grown-up, part-old}
+use Rattle.laws.specs.Grow.Grown.{Grown, grown-page, grown-block, grown-up, part-old}
 use Rattle.laws.specs.Tree.Levels.{last, last-mid, last-block, need-mid, need-block, index-1}
-use Rattle.laws.specs.Tree.Weigh.{Agree, hit-zero, hit-same, some-pos, weigh-none}
-
-pub hit-sym : (p d : ℕ) → hit p d ≡ hit d p
-unfolding hit
-hit-sym zero zero = refl
-hit-sym zero (suc d) = is-other (suc d) 0 (omega arith)
-hit-sym (suc p) zero = sym (is-other (suc p) 0 (omega arith))
-hit-sym (suc p) (suc d) = is-sym (suc d) (suc p)
-
-pub all-add : (P : ℕ) (v : Vol) (g h : ℕ → ℕ) → all P v (λ x. g x + h x) ≡ all P v g + all P v h
-all-add P v g h = omega (arith, all-rest P v (λ x. g x + h x), all-rest P v g, all-rest P v h, rest-add v g h, weighR-add v g h (bitFile P v))
-
-pub Agree-comp : (C D : ℕ → ℕ) (u v w : Vol) → Agree C u v → Agree D v w → Agree (λ x. C x + D x) u w
-unfolding Agree
-Agree-comp C D u v w a b q h k = b q (omega (arith, h)) k ∙ a q (omega (arith, h)) k
-
-pub Agree-mono : (C D : ℕ → ℕ) (u v : Vol) → ((q : ℕ) → D q ≡ 0 → C q ≡ 0) → Agree C u v → Agree D u v
-unfolding Agree
-Agree-mono C D u v h a q z k = a q (h q z) k
+use Rattle.laws.specs.Tree.Pointer.{file-used}
+use Rattle.laws.specs.Tree.Slot.{slot-here, slot-other, setSlot-page, setSlot-agree, hit-zero, hit-same, some-pos, hit-sym}
+use Rattle.laws.specs.Tree.Weigh.{weigh-none}
 
 -- the file at e of user a grew by position n, which has page d: the volume is as good as before, all beside is as it was, and the pages in hand are the new position's
 pub record Grew (P : ℕ) (v v′ : Vol) (a e n d : ℕ) (hand : ℕ → ℕ) : Type 0 where

@@ -1,10 +1,10 @@
 -- Growing a file by one page leaves a sound volume sound, and has the pages it needs. Assumes nothing.
 use mathlib.Core.Path.{_≡_, refl, sym, ap, _∙_, subst}
-use Prim.Native.Nat.{ℕ, zero, suc, _+_, _-_, _*_, _/_, _%_, _^_, _≤_, _<_, min}
-use native.Mathlib.Nat.{not-suc-le-zero, pow-suc, mul-comm, mul-le-mul-right}
+use Prim.Native.Nat.{ℕ, zero, suc, _+_, _-_, _*_, _/_, _%_, _≤_, _<_}
+use native.Mathlib.Nat.{not-suc-le-zero}
 use native.Mathlib.Decide.{ℕ-discrete}
 use native.Mathlib.Omega.{arith}
-use Rattle.sums.specs.Sum.{is, is-same, sum-le, sum-const}
+use Rattle.sums.specs.Sum.{is, is-same}
 use Rattle.book.specs.Bits.{bit, claim}
 use Rattle.book.specs.Entries.{Table, user, object, used, given, usedPages}
 use Rattle.book.specs.Files.{fileAt, Shape, need}
@@ -12,42 +12,22 @@ use Rattle.book.specs.Grow.{first, onward, raise, block, phaseBy, indexOf, ente
 use Rattle.book.specs.Holders.{hit, some}
 use Rattle.book.specs.Pointers.{slot, flags, page, pointer, setSlot}
 use Rattle.book.specs.Rules.{Rule6, Sound}
-use Rattle.book.specs.Trees.{Root, weigh, weighR, rootBy, Fill}
-use Rattle.book.specs.Words.{Vol, two, word}
+use Rattle.book.specs.Trees.{Root, weighR, rootBy, Fill}
+use Rattle.book.specs.Words.{Vol, two}
+use Rattle.laws.specs.Bits.Choose.{Chooser}
 use Rattle.laws.specs.Bits.Claim.{claim-good, claim-user, claim-obj, claim-keeps, claim-zero, claim-free, free-pos}
 use Rattle.laws.specs.Bits.Marked.{claim-still}
 use Rattle.laws.specs.Count.Good.{Good, good, sound, free, free-count, room}
-use Rattle.laws.specs.File.Around.{AroundNew, Needs, only-trans, only-take}
+use Rattle.laws.specs.File.Around.{AroundNew, Needs, only-take, longer-still}
 use Rattle.laws.specs.File.Kinds.{kind-empty, kind-low, kind-high}
-use Rattle.laws.specs.File.Longer.{longer-still}
-use Rattle.laws.specs.Frame.Beside.{SamePlaces, Still, Beside, places-sym, places-trans, still-trans, still-beside, beside-trans}
-use Rattle.laws.specs.Frame.Places.{OnlyAt}
+use Rattle.laws.specs.Frame.Beside.{Beside, still-beside, beside-trans}
+use Rattle.laws.specs.Frame.Places.{only-trans, OnlyAt}
 use Rattle.laws.specs.Frame.Rest.{all-rest, file-le, rest}
+use Rattle.laws.specs.Frame.Still.{SamePlaces, Still, places-sym, places-trans, still-trans}
 use Rattle.laws.specs.Grow.Indexed.{Grew, caseA, caseB, root-is, shape-is}
 use Rattle.laws.specs.Grow.Subindexed.{caseC, caseD, caseE}
-use Rattle.laws.specs.Tree.Weigh.{hit-same, some-pos, slot-same}
-
--- ---- a full tree has as many pages
-
-pub full-count : (v : Vol) (l t : ℕ) → Fill v l t (512 ^ l) → 512 ^ l ≤ weigh v l t some
-unfolding Fill weigh
-full-count v zero t h = omega (arith, some-pos t (h .0 (omega arith)))
-full-count v (suc l) t h =
-    let L : ℕ = 512 ^ l in
-    let s : 512 ^ suc l ≡ 512 * L = pow-suc 512 l ∙ mul-comm (512 ^ l) 512 in
-    let each : (k : ℕ) → k < 512 → L ≤ weigh v l (slot v t k) some = λ k i.
-    full-count v l (slot v t k) (subst (λ (x : ℕ). Fill v l (slot v t k) x) (let q : min (512 ^ suc l - k * L) L ≡ L = omega (arith, s, mul-le-mul-right L i) in q) (h .2 k i)) in
-    omega (arith, s, sum-le 512 (λ k. L) (λ k. weigh v l (slot v t k) some) each, sum-const 512 L)
-
--- a block whose words are zero has only zero slots
-pub slot-bare : (v : Vol) (q : ℕ) → ((k : ℕ) → word v q k ≡ 0) → (j : ℕ) → slot v q j ≡ 0
-unfolding slot two
-slot-bare v q h j = omega (arith, h (2 * j), h (suc (2 * j)))
-
--- ---- a choice of pages: free while one is
-
-unfoldable pub Chooser : ℕ → (Vol → ℕ) → Type 0
-Chooser P choose = (v : Vol) → 0 < free P v → (choose v < P) × (bit P v (choose v) ≡ 0)
+use Rattle.laws.specs.Tree.Slot.{hit-same, slot-same, slot-bare}
+use Rattle.laws.specs.Tree.Weigh.{full-count}
 
 module _ (choose : Vol → ℕ) (P : ℕ) (ch : Chooser P choose) (v : Vol) (S : Sound P v) (pos : 0 < P) (big : P < 262144) (a f : ℕ) (ha : a < 256) (hf : f < 256)
     (uf : 0 < used (object v (256 * a + f))) where

@@ -14,15 +14,17 @@ use Rattle.book.specs.Trees.{Root, tree, weigh, blocks, weighR, pageAt, indexAt
 use Rattle.book.specs.Words.{Vol, two}
 use Rattle.book.specs.Written.{word-ext}
 use Rattle.laws.specs.Count.Good.{Good}
-use Rattle.laws.specs.File.Around.{Needs, only-trans, only-slot}
+use Rattle.laws.specs.File.Around.{Needs, only-slot}
 use Rattle.laws.specs.File.Finish.{Blocks, Regrown}
 use Rattle.laws.specs.File.Finished.{finished}
-use Rattle.laws.specs.Frame.Rest.{weighR-add}
-use Rattle.laws.specs.Frame.Roots.{upto-in}
-use Rattle.laws.specs.Grow.Grown.{slot-here, slot-other, setSlot-page, setSlot-agree, Grown, grown-page, grown-block, grown-up, raise-weight, raise-fill, raise-below, raise-old, raise-at, part-old}
-use Rattle.laws.specs.Grow.Indexed.{Grew, grew, grown-leaf, own, loose, root-is, shape-is, hit-sym, all-add, Agree-comp, Agree-mono}
+use Rattle.laws.specs.Frame.Places.{only-trans}
+use Rattle.laws.specs.Frame.Rest.{all-add}
+use Rattle.laws.specs.Frame.Roots.{weighR-add, upto-in}
+use Rattle.laws.specs.Grow.Grown.{Grown, grown-page, grown-block, grown-up, raise-weight, raise-fill, raise-below, raise-old, raise-at, part-old}
+use Rattle.laws.specs.Grow.Indexed.{Grew, grew, grown-leaf, own, loose, root-is, shape-is}
 use Rattle.laws.specs.Tree.Levels.{last, last-mid, last-block, last-raise, need-mid, need-block, need-raise, index-2}
-use Rattle.laws.specs.Tree.Weigh.{Agree, hit-zero, hit-same, some-pos, slot-same, blocks-le}
+use Rattle.laws.specs.Tree.Slot.{slot-here, slot-other, setSlot-page, setSlot-agree, hit-sym, Agree-comp, Agree-mono, Agree, hit-zero, hit-same, some-pos, slot-same}
+use Rattle.laws.specs.Tree.Weigh.{blocks-le}
 
 module _ (P : ℕ) (v : Vol) (hand : ℕ → ℕ) (G : Good P v hand) (pos : 0 < P) (big : P ≤ 1073741824) (a f : ℕ) (ha : a < 256) (hf : f < 256)
     (uf : 0 < used (object v (256 * a + f))) where

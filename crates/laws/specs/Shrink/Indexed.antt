@@ -13,18 +13,17 @@ use Rattle.book.specs.Rules.{Rule4, Rule10}
 use Rattle.book.specs.Trees.{Root, tree, weigh, weighR, pageAt, indexAt, upto, rootBy, Fill, Below}
 use Rattle.book.specs.Words.{Vol, two}
 use Rattle.laws.specs.Count.Good.{Good}
-use Rattle.laws.specs.File.Around.{Around, Needs, SlotOf, only-trans, only-slot}
+use Rattle.laws.specs.File.Around.{Around, Needs, SlotOf, only-slot, Longer}
 use Rattle.laws.specs.File.Finish.{Blocks, owner-used}
 use Rattle.laws.specs.File.Finished.{Finished, finished}
-use Rattle.laws.specs.File.Longer.{Longer}
 use Rattle.laws.specs.Frame.Beside.{Beside}
-use Rattle.laws.specs.Frame.Edit.{weighR-nobody}
-use Rattle.laws.specs.Frame.Places.{OnlyAt, only-wider}
-use Rattle.laws.specs.Grow.Grown.{setSlot-page, setSlot-agree}
+use Rattle.laws.specs.Frame.Places.{only-trans, OnlyAt, only-wider}
+use Rattle.laws.specs.Frame.Roots.{weighR-nobody}
 use Rattle.laws.specs.Grow.Indexed.{own, root-is, shape-is}
 use Rattle.laws.specs.Shrink.Shrunk.{Shrunk, shrunk-page, shrunk-block, shrunk-leaf, all-zero}
 use Rattle.laws.specs.Tree.Levels.{last, last-mid, last-block, need-mid, need-block, page-1, index-1}
-use Rattle.laws.specs.Tree.Weigh.{Agree, hit-zero, hit-same, some-pos, weigh-none}
+use Rattle.laws.specs.Tree.Slot.{setSlot-page, setSlot-agree, Agree, hit-zero, hit-same, some-pos}
+use Rattle.laws.specs.Tree.Weigh.{weigh-none}
 
 -- the file at e of user a lost its last position n, whose pages are in hand: the volume is as good as before, and all beside is as it was
 pub record Lost (P : ℕ) (v v′ : Vol) (a e n : ℕ) (hand : ℕ → ℕ) : Type 0 where

@@ -19,15 +19,15 @@ use Rattle.book.specs.Rules.{Rule7, Sound}
 use Rattle.book.specs.Trees.{Root, pageAt, rootAt}
 use Rattle.book.specs.Words.{Vol, vol}
 use Rattle.laws.specs.Count.Good.{Most, good, free}
-use Rattle.laws.specs.File.Finish.{file-used}
-use Rattle.laws.specs.Frame.Beside.{Beside, beside-trans, beside-bits, places-unreserved}
-use Rattle.laws.specs.Frame.Renewed.{used-ext}
+use Rattle.laws.specs.Frame.Beside.{Beside, beside-trans, beside-bits}
+use Rattle.laws.specs.Frame.Still.{places-unreserved}
 use Rattle.laws.specs.Grow.Call.{grow-done, grow-count, grew-call}
 use Rattle.laws.specs.Grow.Indexed.{Grew}
 use Rattle.laws.specs.Shrink.Call.{shrunk-call}
 use Rattle.laws.specs.Shrink.Indexed.{Lost}
 use Rattle.laws.specs.Tree.Levels.{page-none}
-use Rattle.laws.specs.Tree.Weigh.{hit-zero}
+use Rattle.laws.specs.Tree.Pointer.{file-used, used-ext}
+use Rattle.laws.specs.Tree.Slot.{hit-zero}
 
 -- a file has no page past its last
 pub past-none : (P : ℕ) (v : Vol) → Most P v → (e : ℕ) → e < 65536 → 0 < used (object v e) → (m : ℕ) → pageCount (object v e) ≤ m → pageAt v (fileAt v e) m ≡ 0

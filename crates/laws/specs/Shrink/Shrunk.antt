@@ -13,9 +13,10 @@ use Rattle.book.specs.Holders.{hit, all, system, mine}
 use Rattle.book.specs.Pointers.{slot, setSlot}
 use Rattle.book.specs.Trees.{weigh, blocks, leaf, weighR, Fill, Below}
 use Rattle.book.specs.Words.{Vol}
-use Rattle.laws.specs.Frame.Edit.{weighR-nobody}
-use Rattle.laws.specs.Grow.Grown.{slot-here, slot-other, setSlot-agree, fill-zero, below-zero, part-old, part-other}
-use Rattle.laws.specs.Tree.Weigh.{Agree, slot-zero, weigh-none, weigh-frame, leaf-frame, Below-frame, Fill-frame, pow-pos, slot-lt}
+use Rattle.laws.specs.Frame.Roots.{weighR-nobody}
+use Rattle.laws.specs.Grow.Grown.{part-old, part-other}
+use Rattle.laws.specs.Tree.Slot.{slot-here, slot-other, setSlot-agree, Agree, slot-zero}
+use Rattle.laws.specs.Tree.Weigh.{fill-zero, below-zero, weigh-none, weigh-frame, leaf-frame, Below-frame, Fill-frame, pow-pos, slot-lt}
 
 -- the tree under t had n + 1 positions; under t′ it has n
 pub record Shrunk (P : ℕ) (v v′ : Vol) (l t t′ n : ℕ) (gone : (ℕ → ℕ) → ℕ) : Type 0 where

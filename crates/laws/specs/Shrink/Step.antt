@@ -15,13 +15,15 @@ use Rattle.book.specs.Words.{Vol, two}
 use Rattle.laws.specs.Bits.Mark.{release-good}
 use Rattle.laws.specs.Bits.Marked.{alone, mark-still}
 use Rattle.laws.specs.Count.Good.{Good, good, sound}
-use Rattle.laws.specs.File.Around.{Around, only-trans, only-mark}
+use Rattle.laws.specs.File.Around.{Around, only-mark, longer-still}
 use Rattle.laws.specs.File.Kinds.{kind-low, kind-high}
-use Rattle.laws.specs.File.Longer.{longer-still}
-use Rattle.laws.specs.Frame.Beside.{Still, still-sym, still-beside, beside-trans, bitPage-same}
-use Rattle.laws.specs.Grow.Indexed.{shape-is, hit-sym}
+use Rattle.laws.specs.Frame.Beside.{still-beside, beside-trans}
+use Rattle.laws.specs.Frame.Places.{only-trans}
+use Rattle.laws.specs.Frame.Still.{Still, still-sym, bitPage-same}
+use Rattle.laws.specs.Grow.Indexed.{shape-is}
 use Rattle.laws.specs.Shrink.Indexed.{Lost, Real, shrinkA, shrinkB}
 use Rattle.laws.specs.Shrink.Subindexed.{shrinkC, shrinkD, shrinkE}
+use Rattle.laws.specs.Tree.Slot.{hit-sym}
 
 -- one of the pages in hand is given back
 pub lost-release : (P : ℕ) (v w : Vol) (a e n : ℕ) (hand hand′ : ℕ → ℕ) (d : ℕ) → e < 65536 → Lost P v w a e n hand → Real P v e n d

@@ -17,13 +17,14 @@ use Rattle.laws.specs.Count.Good.{Good}
 use Rattle.laws.specs.File.Around.{only-slot}
 use Rattle.laws.specs.File.Finish.{Blocks}
 use Rattle.laws.specs.File.Finished.{finished}
-use Rattle.laws.specs.Frame.Edit.{weighR-nobody}
-use Rattle.laws.specs.Grow.Grown.{slot-here, slot-other, setSlot-page, setSlot-agree, part-here}
+use Rattle.laws.specs.Frame.Roots.{weighR-nobody}
+use Rattle.laws.specs.Grow.Grown.{part-here}
 use Rattle.laws.specs.Grow.Indexed.{own, root-is, shape-is}
 use Rattle.laws.specs.Shrink.Indexed.{Lost, Real, lost, paid, within}
 use Rattle.laws.specs.Shrink.Shrunk.{Shrunk, shrunk-page, shrunk-block, shrunk-up, shrunk-leaf, all-zero}
 use Rattle.laws.specs.Tree.Levels.{last, last-mid, last-block, last-raise, need-mid, need-block, need-raise, page-1, page-2, index-2}
-use Rattle.laws.specs.Tree.Weigh.{Agree, hit-zero, hit-same, some-pos, some-zero, slot-same, weigh-none}
+use Rattle.laws.specs.Tree.Slot.{slot-here, slot-other, setSlot-page, setSlot-agree, Agree, hit-zero, hit-same, some-pos, some-zero, slot-same}
+use Rattle.laws.specs.Tree.Weigh.{weigh-none}
 
 module _ (P : ℕ) (v : Vol) (G : Good P v (λ p. 0)) (pos : 0 < P) (big : P ≤ 1073741824) (a f : ℕ) (ha : a < 256) (hf : f < 256) (uf : 0 < used (object v (256 * a + f))) where
   abbrev e : ℕ

@@ -10,7 +10,7 @@ use Rattle.book.specs.Pointers.{flags, page, slot, Inside, objectPointer}
 use Rattle.book.specs.Rules.{Rule2, Rule5, Rule5By, Sound}
 use Rattle.book.specs.Trees.{Below}
 use Rattle.book.specs.Words.{Vol}
-use Rattle.laws.specs.Count.Good.{zero-flags, zero-page}
+use Rattle.laws.specs.Tree.Pointer.{zero-flags, zero-page}
 
 module _ (v : Vol) (x t n : ℕ) where
   kind : (y : ℕ) → x ≡ y → indexOf v x t n ≡ indexOf v y t n

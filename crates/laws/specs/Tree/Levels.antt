@@ -12,7 +12,8 @@ use Rattle.book.specs.Trees.{Root, tree, run, blocks, blocksR, leaf, upto, page
 use Rattle.book.specs.Words.{Vol}
 use Rattle.laws.specs.Frame.Roots.{upto-in, upto-out, pageAt-frame}
 use Rattle.laws.specs.Tree.Positions.{root-one, root-two}
-use Rattle.laws.specs.Tree.Weigh.{Agree, pow-pos, slot-lt}
+use Rattle.laws.specs.Tree.Slot.{Agree}
+use Rattle.laws.specs.Tree.Weigh.{pow-pos, slot-lt}
 
 module _ (v : Vol) (t : ℕ) where
   pub page-1 : (m : ℕ) → m < 512 → pageAt v (tree 1 t) m ≡ slot v t m

@@ -12,7 +12,8 @@ use Rattle.book.specs.Pointers.{slot}
 use Rattle.book.specs.Trees.{weigh, leaf}
 use Rattle.book.specs.Words.{Vol}
 use Rattle.laws.specs.Count.Sums.{Twice, apart, within, sum-find₂}
-use Rattle.laws.specs.Tree.Weigh.{hit-same, hit-le, hit-eq, pow-pos, slot-lt}
+use Rattle.laws.specs.Tree.Slot.{hit-same, hit-le, hit-eq}
+use Rattle.laws.specs.Tree.Weigh.{pow-pos, slot-lt}
 
 -- a page at depth j and place n below t, for j up to the level: its weight is in the tree's
 module _ (v : Vol) (g : ℕ → ℕ) where

@@ -5,8 +5,8 @@ use native.Mathlib.Omega.{arith}
 use Rattle.book.specs.Pointers.{slot}
 use Rattle.book.specs.Trees.{leaf, pageAt, rootBy, Below}
 use Rattle.book.specs.Words.{Vol}
-use Rattle.laws.specs.Count.Good.{BelowR}
 use Rattle.laws.specs.Frame.Roots.{upto-in, upto-out}
+use Rattle.laws.specs.Tree.Weigh.{BelowR}
 
 module _ (v : Vol) (x t m n : ℕ) where
   kind : (y : ℕ) → x ≡ y → pageAt v (rootBy x t m) n ≡ pageAt v (rootBy y t m) n

@@ -15,7 +15,7 @@ use Rattle.book.specs.Words.{Vol}
 use Rattle.laws.specs.Count.Sums.{Twice, apart, within, sum-find₂}
 use Rattle.laws.specs.Frame.Roots.{upto-in, upto-out}
 use Rattle.laws.specs.Tree.Node.{Node, node-pos, node-one, node-find, node-find₂}
-use Rattle.laws.specs.Tree.Weigh.{hit-same, hit-le, hit-eq}
+use Rattle.laws.specs.Tree.Slot.{hit-same, hit-le, hit-eq}
 
 -- ---- a role in a tree of level l is a node of it
 

@@ -1,16 +1,17 @@
 -- Laws of a tree of pages, over its level. Assumes nothing.
-use mathlib.Core.Path.{_≡_, refl, sym, ap, ap₂, _∙_, subst}
+use mathlib.Core.Path.{_≡_, refl, sym, ap, ap₂, _∙_, subst, subst₂}
 use mathlib.Core.Logic.{_≢_}
 use Prim.Native.Nat.{ℕ, zero, suc, _+_, _-_, _*_, _/_, _%_, _^_, _≤_, _<_, zero-le, min}
-use native.Mathlib.Nat.{le-refl, not-suc-le-zero, mul-comm, mod-lt, div-add-mod', div-lt-iff-lt-mul, pow-suc}
+use native.Mathlib.Nat.{le-refl, not-suc-le-zero, mul-comm, mod-lt, div-add-mod', div-lt-iff-lt-mul, pow-suc, mul-le-mul-right}
 use native.Mathlib.Decide.{ℕ-discrete}
 use native.Mathlib.Omega.{arith}
 use lib.Arith.{lt-one}
-use Rattle.sums.specs.Sum.{sum, is, is-same, is-other, is-le, is-eq, sum-ext, sum-none, sum-add, sum-le, sum-at, sum-at-zero, sum-at₂, sum-change, sum-swap, sum-is, sum-le-at, sum-mul}
+use Rattle.sums.specs.Sum.{sum, sum-ext, sum-none, sum-add, sum-le, sum-at, sum-at-zero, sum-at₂, sum-change, sum-swap, sum-le-at, sum-mul, sum-const}
 use Rattle.book.specs.Holders.{hit, some}
 use Rattle.book.specs.Pointers.{slot}
-use Rattle.book.specs.Trees.{weigh, blocks, leaf, Below, Fill}
-use Rattle.book.specs.Words.{Vol, two, word}
+use Rattle.book.specs.Trees.{weigh, blocks, leaf, Below, Fill, Root, tree, run}
+use Rattle.book.specs.Words.{Vol, word}
+use Rattle.laws.specs.Tree.Slot.{hit-same, hit-other, some-pos, sum-hit, slot-zero, slot-same, Agree}
 
 pub pow-pos : (l : ℕ) → 0 < 512 ^ l
 pow-pos zero = le-refl 1
@@ -18,65 +19,6 @@ pow-pos (suc l) = subst (λ (x : ℕ). 0 < x) (sym (pow-suc 512 l)) (omega (arit
 
 pub slot-lt : (l n : ℕ) → n < 512 ^ suc l → n / 512 ^ l < 512
 slot-lt l n h = div-lt-iff-lt-mul (pow-pos l) .1 (subst (λ (x : ℕ). n < x) (pow-suc 512 l ∙ mul-comm (512 ^ l) 512) h)
-
--- ---- weights
-
-pub hit-zero : (p : ℕ) → hit p 0 ≡ 0
-unfolding hit
-hit-zero p = refl
-
-pub hit-same : (p : ℕ) → 0 < p → hit p p ≡ 1
-unfolding hit
-hit-same zero h = absurd (not-suc-le-zero h)
-hit-same (suc p) h = is-same (suc p)
-
-pub hit-other : (p x : ℕ) → x ≢ p → hit p x ≡ 0
-unfolding hit
-hit-other p zero h = refl
-hit-other p (suc x) h = is-other (suc x) p h
-
-pub hit-le : (p x : ℕ) → hit p x ≤ 1
-unfolding hit
-hit-le p zero = zero-le
-hit-le p (suc x) = is-le (suc x) p
-
-pub hit-eq : (p x : ℕ) → 0 < hit p x → x ≡ p
-unfolding hit
-hit-eq p zero h = absurd (not-suc-le-zero h)
-hit-eq p (suc x) h = is-eq (suc x) p (omega (arith, is-le (suc x) p))
-
-pub some-pos : (x : ℕ) → 0 < x → some x ≡ 1
-unfolding some
-some-pos zero h = absurd (not-suc-le-zero h)
-some-pos (suc x) h = refl
-
-pub some-zero : some 0 ≡ 0
-unfolding some
-some-zero = refl
-
--- each page below P is counted once
-pub sum-hit : (P x : ℕ) → x < P → sum P (λ p. hit p x) ≡ some x
-unfolding hit some
-sum-hit P zero h = sum-none P (λ p. zero) (λ i l. refl)
-sum-hit P (suc x) h = sum-is P (suc x) h
-
--- ---- slots
-
-pub word-zero : (v : Vol) (k : ℕ) → word v 0 k ≡ 0
-unfolding word
-word-zero v k = refl
-
-pub slot-zero : (v : Vol) (k : ℕ) → slot v 0 k ≡ 0
-unfolding slot two word
-slot-zero v k = refl
-
-pub two-ext : (w x : ℕ → ℕ) (k : ℕ) → w k ≡ x k → w (suc k) ≡ x (suc k) → two w k ≡ two x k
-unfolding two
-two-ext w x k a b = ap₂ (λ (m n : ℕ). m * 65536 + n) a b
-
-pub slot-same : (v v′ : Vol) (q : ℕ) → ((k : ℕ) → word v′ q k ≡ word v q k) → (n : ℕ) → slot v′ q n ≡ slot v q n
-unfolding slot
-slot-same v v′ q h n = two-ext (word v′ q) (word v q) (2 * n) (h (2 * n)) (h (suc (2 * n)))
 
 -- ---- weighing
 
@@ -159,12 +101,6 @@ module _ (v : Vol) where
   leaf-below P zero t n h b = b
   leaf-below P (suc l) t n h b = leaf-below P l (slot v t (n / 512 ^ l)) (n % 512 ^ l) (mod-lt n (pow-pos l)) (b .1 (n / 512 ^ l) (slot-lt l n h))
 
--- ---- what a tree reads: only its blocks
-
--- pages at which C is 0 are as they were
-unfoldable pub Agree : (ℕ → ℕ) → Vol → Vol → Type 0
-Agree C v v′ = (q : ℕ) → C q ≡ 0 → (k : ℕ) → word v′ q k ≡ word v q k
-
 module _ (v v′ : Vol) (C : ℕ → ℕ) (same : Agree C v v′) where
   slots : (l t : ℕ) → blocks v (suc l) t C ≡ 0 → (k : ℕ) → slot v′ t k ≡ slot v t k
   unfolding Agree blocks
@@ -242,3 +178,66 @@ module _ (v v′ : Vol) (X k d : ℕ) (L : Link v v′ X k d) (g : ℕ → ℕ) 
             (subst (λ (x : ℕ). slot v′ x j ≡ slot v x j) (sym e) (L .others j ne))) in
             omega (arith, mid, h, s, at, no)
       ]
+
+pub leaf-none : (v : Vol) (l n : ℕ) → leaf v l 0 n ≡ 0
+unfolding leaf
+leaf-none v zero n = refl
+leaf-none v (suc l) n = ap (λ (x : ℕ). leaf v l x (n % 512 ^ l)) (slot-zero v (n / 512 ^ l)) ∙ leaf-none v l (n % 512 ^ l)
+
+pub weigh-nobody : (v : Vol) (g : ℕ → ℕ) → ((x : ℕ) → g x ≡ 0) → (l t : ℕ) → weigh v l t g ≡ 0
+unfolding weigh
+weigh-nobody v g h zero t = h t
+weigh-nobody v g h (suc l) t = omega (arith, h t, sum-none 512 (λ k. weigh v l (slot v t k) g) (λ k i. weigh-nobody v g h l (slot v t k)))
+
+-- ---- two weights
+
+pub weigh-add : (v : Vol) (g h : ℕ → ℕ) (l t : ℕ) → weigh v l t (λ x. g x + h x) ≡ weigh v l t g + weigh v l t h
+unfolding weigh
+weigh-add v g h zero t = refl
+weigh-add v g h (suc l) t =
+    omega (
+      arith,
+      sum-ext 512 (λ k. weigh v l (slot v t k) (λ x. g x + h x)) (λ k. weigh v l (slot v t k) g + weigh v l (slot v t k) h) (λ k i. weigh-add v g h l (slot v t k)),
+      sum-add 512 (λ k. weigh v l (slot v t k) g) (λ k. weigh v l (slot v t k) h),
+    )
+
+pub blocks-add : (v : Vol) (g h : ℕ → ℕ) (l t : ℕ) → blocks v l t (λ x. g x + h x) ≡ blocks v l t g + blocks v l t h
+unfolding blocks
+blocks-add v g h zero t = refl
+blocks-add v g h (suc l) t =
+    omega (
+      arith,
+      sum-ext 512 (λ k. blocks v l (slot v t k) (λ x. g x + h x)) (λ k. blocks v l (slot v t k) g + blocks v l (slot v t k) h) (λ k i. blocks-add v g h l (slot v t k)),
+      sum-add 512 (λ k. blocks v l (slot v t k) g) (λ k. blocks v l (slot v t k) h),
+    )
+
+-- ---- a full tree has as many pages
+
+pub full-count : (v : Vol) (l t : ℕ) → Fill v l t (512 ^ l) → 512 ^ l ≤ weigh v l t some
+unfolding Fill weigh
+full-count v zero t h = omega (arith, some-pos t (h .0 (omega arith)))
+full-count v (suc l) t h =
+    let L : ℕ = 512 ^ l in
+    let s : 512 ^ suc l ≡ 512 * L = pow-suc 512 l ∙ mul-comm (512 ^ l) 512 in
+    let each : (k : ℕ) → k < 512 → L ≤ weigh v l (slot v t k) some = λ k i.
+    full-count v l (slot v t k) (subst (λ (x : ℕ). Fill v l (slot v t k) x) (let q : min (512 ^ suc l - k * L) L ≡ L = omega (arith, s, mul-le-mul-right L i) in q) (h .2 k i)) in
+    omega (arith, s, sum-le 512 (λ k. L) (λ k. weigh v l (slot v t k) some) each, sum-const 512 L)
+
+pub fill-zero : (v : Vol) (l : ℕ) → Fill v l 0 0
+unfolding Fill
+fill-zero v zero = ((λ h. absurd (not-suc-le-zero h)), λ h. refl)
+fill-zero v (suc l) = (
+  (λ h. absurd (not-suc-le-zero h)),
+  (λ h. refl),
+  λ k i. subst₂ (λ (x y : ℕ). Fill v l x y) (sym (slot-zero v k)) (let e : 0 ≡ min (0 - k * 512 ^ l) (512 ^ l) = omega arith in e) (fill-zero v l),
+)
+
+pub below-zero : (v : Vol) (P l : ℕ) → 0 < P → Below v P l 0
+unfolding Below
+below-zero v P zero h = h
+below-zero v P (suc l) h = (h, λ k i. subst (λ (x : ℕ). Below v P l x) (sym (slot-zero v k)) (below-zero v P l h))
+
+-- the pages of r are below P
+unfoldable pub BelowR : Vol → ℕ → Root → Type 0
+BelowR v P (tree l t) = Below v P l t
+BelowR v P (run s n) = s + n ≤ P

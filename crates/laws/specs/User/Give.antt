@@ -14,7 +14,7 @@ use Rattle.book.specs.Rows.{Clear}
 use Rattle.book.specs.Rules.{Rule4, Sound}
 use Rattle.book.specs.Trees.{pageAt}
 use Rattle.book.specs.Words.{Vol, vol}
-use Rattle.laws.specs.Call.Called.{Called, called}
+use Rattle.laws.specs.Call.After.{Called, called}
 use Rattle.laws.specs.Frame.Places.{Places, FieldOf, UnreservedWords, Either, OnlyAt}
 use Rattle.laws.specs.User.Move.{moved-only, moved-step}
 use Rattle.laws.specs.User.Words.{Beside, beside-same}

@@ -8,13 +8,14 @@ use Rattle.book.specs.Rules.{UserOk, Rule4, Rule10, Sound}
 use Rattle.book.specs.Steps.{moved}
 use Rattle.book.specs.Words.{Vol, two, put2}
 use Rattle.book.specs.Written.{put2-page, put2-two, put2-hi, put2-lo}
-use Rattle.laws.specs.Call.Called.{Stepped}
+use Rattle.laws.specs.Call.After.{Stepped}
 use Rattle.laws.specs.Count.Good.{grant-used}
+use Rattle.laws.specs.Count.Reach.{high-unused}
 use Rattle.laws.specs.File.Named.{Legal-ext, SameName-ext}
-use Rattle.laws.specs.File.There.{high-unused}
 use Rattle.laws.specs.Frame.Places.{EntryOf, FieldOf, UnreservedWords, Either, OnlyAt, only-wider, only-then, only-either, only-put2}
-use Rattle.laws.specs.Frame.Renewed.{UserNew, used-ext}
-use Rattle.laws.specs.Tree.Weigh.{two-ext}
+use Rattle.laws.specs.Frame.Renewed.{UserNew}
+use Rattle.laws.specs.Tree.Pointer.{used-ext}
+use Rattle.laws.specs.Tree.Slot.{two-ext}
 use Rattle.laws.specs.User.Words.{Beside, user-has-page, user-now, user-beside, user-sound}
 
 -- words 14 and 15 of his entry and the unreserved words alone

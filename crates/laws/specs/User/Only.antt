@@ -15,12 +15,13 @@ use Rattle.book.specs.Trees.{Root, weighR, blocksR, pageAt}
 use Rattle.book.specs.Words.{Vol, two, word}
 use Rattle.laws.specs.Count.Good.{Good}
 use Rattle.laws.specs.File.Named.{Legal-ext, SameFile-ext}
-use Rattle.laws.specs.Frame.Edit.{Outside, Change, user-page, obj-at, objs-words, user-at, users-words, bits-same, edit-mine, edit-good, weighR-nobody}
-use Rattle.laws.specs.Frame.Renewed.{UserNew, FileNew, used-ext, shape-same}
+use Rattle.laws.specs.Frame.Edit.{Outside, Change, user-page, obj-at, objs-words, user-at, users-words, bits-same, edit-mine, edit-good}
+use Rattle.laws.specs.Frame.Renewed.{UserNew, FileNew, shape-same}
 use Rattle.laws.specs.Frame.Rest.{file-le}
-use Rattle.laws.specs.Frame.Roots.{pageAt-le, weighR-frame, blocksR-le, file-kept}
+use Rattle.laws.specs.Frame.Roots.{weighR-nobody, pageAt-le, weighR-frame, blocksR-le, file-kept}
 use Rattle.laws.specs.Shrink.Shrunk.{all-zero}
-use Rattle.laws.specs.Tree.Weigh.{Agree, two-ext, hit-zero}
+use Rattle.laws.specs.Tree.Pointer.{used-ext}
+use Rattle.laws.specs.Tree.Slot.{Agree, two-ext, hit-zero}
 
 module _ (P : ℕ) (v : Vol) (hand : ℕ → ℕ) (G : Good P v hand) (pos : 0 < P) (a : ℕ) (ha : a < 256) (v′ : Vol)
     (agree : Agree (hit (pageAt v (userFile v) (a / 32))) v v′) (master : (k : ℕ) → k < 1022 → v′ 0 k ≡ v 0 k)

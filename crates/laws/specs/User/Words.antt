@@ -12,13 +12,12 @@ use Rattle.book.specs.Trees.{pageAt}
 use Rattle.book.specs.Words.{Vol, word}
 use Rattle.book.specs.Written.{word-pos, word-ext}
 use Rattle.laws.specs.Count.Good.{Good, good, sound}
-use Rattle.laws.specs.File.Finish.{used-page}
 use Rattle.laws.specs.Frame.Edit.{Outside, user-page}
 use Rattle.laws.specs.Frame.Places.{EntryOf, UnreservedWords, Either, OnlyAt, only-either}
 use Rattle.laws.specs.Frame.Renewed.{UserNew}
-use Rattle.laws.specs.Frame.Roots.{Roots, objs-root}
+use Rattle.laws.specs.Frame.Roots.{used-page, Roots, objs-root}
 use Rattle.laws.specs.Frame.Still.{agree-at, objects-still, address-still, kept-words, blocks-nobody}
-use Rattle.laws.specs.Tree.Weigh.{Agree, hit-zero}
+use Rattle.laws.specs.Tree.Slot.{Agree, hit-zero}
 use Rattle.laws.specs.User.Only.{user-there, users-else, user-good}
 
 -- what stands beside user u's entry is as it was: other users, all objects, the pages of their files

@@ -4,8 +4,7 @@ use Rattle.book.specs.Create.{objectIndex}
 use Rattle.book.specs.Entries.{entryPage}
 use Rattle.book.specs.Image.{pages}
 use Rattle.book.specs.Words.{vol}
-use Rattle.laws.specs.Create.Join.{Vacant}
-use Rattle.laws.specs.Create.Vacant.{top-vacant}
+use Rattle.laws.specs.Create.Vacant.{Vacant, top-vacant}
 use Rattle.making.proofs.Between.{index-kept, index-new, need-one}
 use Rattle.tree.proofs.Ready.{ready-some}
 use borrow.Author.Needs.{needs}

@@ -3,8 +3,7 @@ use Prim.Native.Nat.{_%_, ℕ}
 use Rattle.book.specs.Entries.{objectPage, entryPage}
 use Rattle.book.specs.Image.{pages}
 use Rattle.book.specs.Words.{vol}
-use Rattle.laws.specs.Create.Join.{Vacant}
-use Rattle.laws.specs.Create.Vacant.{index-vacant}
+use Rattle.laws.specs.Create.Vacant.{Vacant, index-vacant}
 use Rattle.making.proofs.Between.{object-kept, object-new}
 use Rattle.tree.proofs.Ready.{ready-objects}
 use borrow.Author.Needs.{needs}

@@ -3,7 +3,7 @@ use Prim.Native.Nat.{ℕ}
 use Rattle.book.specs.Entries.{userPage, entryPage}
 use Rattle.book.specs.Image.{pages}
 use Rattle.book.specs.Words.{vol}
-use Rattle.laws.specs.Create.Join.{Vacant}
+use Rattle.laws.specs.Create.Vacant.{Vacant}
 use Rattle.making.proofs.Between.{user-room, page-kept, page-new}
 use Rattle.tree.proofs.Ready.{ready-users, ready-some}
 use borrow.Author.Needs.{needs}

@@ -6,7 +6,7 @@ use Rattle.book.specs.Trees.{pageAt}
 use Rattle.book.specs.Entries.{fileEntry}
 use Rattle.book.specs.Files.{fileAt}
 use Rattle.book.specs.Image.{pages}
-use Rattle.laws.specs.File.There.{position-page}
+use Rattle.laws.specs.File.Kinds.{position-page}
 use Rattle.tree.proofs.Ready.{ready-objects, ready-file}
 use borrow.Author.Needs.{needs}
 use native.Mathlib.Omega.{arith}
