@@ -1,4 +1,4 @@
--- The choice that the book makes: the lowest free page. Assumes nothing.
+-- A choice of free pages (Chooser), and the book's: the lowest free page. Assumes nothing.
 use mathlib.Core.Path.{_≡_}
 use Prim.Native.Nat.{ℕ, _-_, _<_}
 use native.Mathlib.Omega.{arith}

@@ -7,7 +7,6 @@ use native.Mathlib.Omega.{arith}
 use Rattle.sums.specs.Sum.{is, is-same, sum-change}
 use Rattle.book.specs.Bits.{bitFile, bitPages, bitPage, bit, digit, mark, claim}
 use Rattle.book.specs.Entries.{user, object}
-use Rattle.book.specs.Files.{fileAt}
 use Rattle.book.specs.Holders.{hit, all}
 use Rattle.book.specs.Pointers.{page}
 use Rattle.book.specs.Rules.{Rule1}
@@ -15,7 +14,7 @@ use Rattle.book.specs.Trees.{Root, weighR, pageAt}
 use Rattle.book.specs.Words.{Vol, word, wipe}
 use Rattle.book.specs.Written.{digit-same, digit-other, word-pos, word-ext, put-here, put-page, put-word, wipe-here, wipe-page}
 use Rattle.laws.specs.Count.Good.{Good, bit-le, free}
-use Rattle.laws.specs.Frame.Rest.{rest, all-rest, rest-add, all-calm, most-calm, user-calm, obj-calm, page-calm}
+use Rattle.laws.specs.Frame.Rest.{rest, all-rest, rest-add, all-calm, most-calm, user-calm, obj-calm}
 use Rattle.laws.specs.Frame.Roots.{pageAt-le, Roots, bits-root, upto-in}
 use Rattle.laws.specs.Tree.Slot.{Agree, hit-zero, hit-same, hit-other, pair-zero}
 
@@ -100,9 +99,6 @@ module _ (P : ℕ) (v : Vol) (hand : ℕ → ℕ) (G : Good P v hand) (d : ℕ) 
 
   pub claim-obj : object (claim P v d) ≡ object v
   claim-obj = obj-calm v (claim P v d) claim-roots C claim-none claim-agree claim-quiet
-
-  pub claim-page : (e : ℕ) → e < 65536 → (m : ℕ) → pageAt (claim P v d) (fileAt (claim P v d) e) m ≡ pageAt v (fileAt v e) m
-  claim-page e h m = page-calm v (claim P v d) claim-roots C claim-none claim-agree claim-quiet e h m
 
   -- a page in hand stays as it is
   pub claim-keeps : (q : ℕ) → 1 ≤ hand q → (k : ℕ) → word (claim P v d) q k ≡ word v q k

@@ -11,7 +11,7 @@ use Rattle.book.specs.Pointers.{page, bitPointer}
 use Rattle.book.specs.Rules.{Rule1}
 use Rattle.book.specs.Words.{Vol, word, put}
 use Rattle.book.specs.Written.{word-pos, put-here, put-page, put-word}
-use Rattle.laws.specs.Bits.Claim.{bitPage-is, bitPage-pos}
+use Rattle.laws.specs.Bits.Claim.{bitPage-is}
 use Rattle.laws.specs.Bits.Mark.{mark-page, mark-master, mark-bit, mark-other}
 use Rattle.laws.specs.Count.Good.{bit-le}
 use Rattle.laws.specs.Frame.Renewed.{Master, rule1}
@@ -247,10 +247,6 @@ module _ (P : ℕ) (v : Vol) (r : Rule1 P v) where
   pub freed-rule : (g : ℕ → ℕ) → Rule1 P (freed P v g)
   unfolding freed
   freed-rule g = markAll-rule P (left g) (left-lt g) v r P (omega arith)
-
-  pub freed-bit : (g : ℕ → ℕ) (p : ℕ) → p < P → bit P (freed P v g) p ≡ bit P v p - g p
-  unfolding freed
-  freed-bit g p h = markAll-low P (left g) (left-lt g) v r P (omega arith) p h
 
   -- only the bit file changes
   pub freed-page : (g : ℕ → ℕ) (q k : ℕ) → ((p : ℕ) → p < P → q ≢ bitPage P v p) → freed P v g q k ≡ v q k

@@ -1,11 +1,9 @@
 -- The highest run of free pages: what is found is free and inside, nothing above it is, and 0 says that there is none. Assumes nothing.
 use mathlib.Core.Path.{_≡_}
-use mathlib.Core.Logic.{inl, inr}
 use Prim.Native.Nat.{ℕ, zero, suc, _+_, _-_, _≤_, _<_}
-use native.Mathlib.Nat.{eq-zero-or-pos}
 use native.Mathlib.Omega.{arith}
-use Rattle.sums.specs.Sum.{is-same}
 use Rattle.sums.specs.Search.{every-yes, every-at, highest-is}
+use Rattle.sums.specs.Sum.{is-same}
 use Rattle.book.specs.Bits.{bit, freeRun, highestRun}
 use Rattle.book.specs.Rules.{Sound}
 use Rattle.book.specs.Words.{Vol}
@@ -44,9 +42,6 @@ module _ (P : ℕ) (v : Vol) (n : ℕ) where
 
     pub run-none : highestRun P v n ≡ 0 → (s : ℕ) → FreeRun P v n s → ⊥
     run-none h s r = run-highest s (omega (arith, start s r)) r
-
-    pub none-run : ((s : ℕ) → FreeRun P v n s → ⊥) → highestRun P v n ≡ 0
-    none-run h = elim (eq-zero-or-pos (highestRun P v n)) [ inl e ↦ e | inr p ↦ absurd (h (highestRun P v n) (run-found p)) ]
 
     -- so a run that is there is found
     pub run-exact : (s : ℕ) → FreeRun P v n s → (s ≤ highestRun P v n) × (0 < highestRun P v n)

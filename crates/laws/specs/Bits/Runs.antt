@@ -1,4 +1,4 @@
--- A run of free pages is taken. Assumes nothing.
+-- A run of free pages is taken: the pages are in hand, and what it leaves. Assumes nothing.
 use mathlib.Core.Path.{_≡_, refl, _∙_}
 use mathlib.Core.Logic.{_≢_, _⊎_, inl, inr}
 use Prim.Native.Nat.{ℕ, zero, suc, _+_, _≤_, _<_}

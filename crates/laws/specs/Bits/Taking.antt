@@ -1,4 +1,4 @@
--- A step that takes pages and pays for them out of unreserved: all entries, all files and all pages that are there stay. Assumes nothing.
+-- A step that takes pages and pays for them out of unreserved (Taking): all entries, all files and all pages that are there stay. Assumes nothing.
 use mathlib.Core.Path.{_≡_, refl, sym, ap, _∙_, subst}
 use mathlib.Core.Logic.{_≢_, _⊎_, inl, inr}
 use Prim.Native.Nat.{ℕ, _+_, _-_, _/_, _≤_, _<_}

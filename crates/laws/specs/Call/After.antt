@@ -1,4 +1,4 @@
--- What holds of the volume before a call and of the step's volume holds of the volume after the call. Assumes nothing.
+-- From a step to its call: what holds of the step's volume holds after the call, done or refused. Assumes nothing.
 use mathlib.Core.Path.{_≡_, sym, subst, ap, _∙_}
 use mathlib.Core.Logic.{_⊎_, inl, inr}
 use mathlib.Core.List.{List}

@@ -1,4 +1,4 @@
--- A call that came back with 0 is done; one whose rows all hold is done with 0. Assumes nothing.
+-- The number that a call comes back with: 0 is done, another one is the lowest that applies. Assumes nothing.
 use mathlib.Core.Path.{_≡_, subst}
 use mathlib.Core.Logic.{inl, inr, _↔_, _⊎_}
 use mathlib.Core.List.{List}

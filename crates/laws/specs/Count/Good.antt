@@ -1,4 +1,4 @@
--- Counting: the free pages of a sound volume. Assumes nothing.
+-- A volume whose pages are held as often as their bits say, by trees and by hand (Good): the free pages are counted. Assumes nothing.
 use mathlib.Core.Path.{_≡_, refl, ap, ap₂, _∙_}
 use mathlib.Core.Logic.{_≢_, inl, inr}
 use Prim.Native.Nat.{ℕ, zero, _+_, _-_, _*_, _%_, _≤_, _<_}

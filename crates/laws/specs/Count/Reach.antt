@@ -1,4 +1,4 @@
--- What the rules say of each tree by itself: all its pages are below P. Assumes nothing.
+-- What the rules say of each tree by itself: all its pages are below P (Within). Assumes nothing.
 use mathlib.Core.Path.{_≡_, refl, sym, subst}
 use mathlib.Core.Logic.{_⊎_, inl, inr}
 use Prim.Native.Nat.{ℕ, zero, suc, _+_, _*_, _≤_, _<_, zero-le, _-_}

@@ -1,4 +1,4 @@
--- Room for system pages: what is unreserved is free. Assumes nothing.
+-- Room: what is unreserved is free, and what is given or charged is of the volume. Assumes nothing.
 use mathlib.Core.Path.{refl}
 use Prim.Native.Nat.{ℕ, zero, _≤_, _<_, _+_, _*_}
 use native.Mathlib.Omega.{arith}
@@ -24,10 +24,6 @@ system-room P v s h = omega (
 )
 
 module _ (P : ℕ) (v : Vol) (r : Rule10 P v) where
-  pub unreserved-le : unreserved v ≤ P
-  unfolding Rule10
-  unreserved-le = omega (arith, r .1)
-
   pub given-room : (u : ℕ) → u < 256 → 0 < used (user v u) → unreserved v + given (user v) u ≤ P
   unfolding Rule10
   given-room u h i = omega (arith, r .1, sum-at 256 (grant (user v)) u h, grant-used v u i)

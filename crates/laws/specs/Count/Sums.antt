@@ -1,4 +1,4 @@
--- Sums that are two or more, and sums cut up: what counting holders needs. Assumes nothing.
+-- Sums that are two or more, sums cut up, sums that are as great as they can be. Assumes nothing.
 use mathlib.Core.Path.{_≡_}
 use mathlib.Core.Logic.{_≢_}
 use Prim.Native.Nat.{ℕ, zero, suc, _+_, _*_, _≤_, _<_, _-_}

@@ -3,12 +3,9 @@ use mathlib.Core.Path.{_≡_, refl, sym, _∙_}
 use mathlib.Core.Logic.{inl, inr}
 use mathlib.Core.List.{List}
 use Prim.Native.Nat.{ℕ, zero, suc, _≤_, _<_}
-use native.Mathlib.Nat.{not-suc-le-zero, eq-zero-or-pos}
+use native.Mathlib.Nat.{not-suc-le-zero}
 use native.Mathlib.Omega.{arith}
-use Rattle.sums.specs.Sum.{sum, is, is-other, sum-none}
-use Rattle.book.specs.declared.Role.{Role}
-use Rattle.book.specs.declared.Holder.{Holder}
-use Rattle.book.specs.declared.Holder.the-variants.{Free}
+use Rattle.sums.specs.Sum.{sum, is-other, sum-none}
 use Rattle.book.specs.Bits.{bitFile, bit}
 use Rattle.book.specs.Calls.{whoCall}
 use Rattle.book.specs.Entries.{userFile, objectFile, fileEntry}
@@ -17,9 +14,12 @@ use Rattle.book.specs.Holders.{hit, mine, system, all, holders, heldPage, Exist
 use Rattle.book.specs.Image.{pages}
 use Rattle.book.specs.Outcome.{Single, asking, judged}
 use Rattle.book.specs.Rows.{Clear}
-use Rattle.book.specs.Rules.{Rule2, Rule8, Sound}
+use Rattle.book.specs.Rules.{Rule8, Sound}
 use Rattle.book.specs.Trees.{weighR}
 use Rattle.book.specs.Words.{Vol, vol}
+use Rattle.book.specs.declared.Holder.{Holder}
+use Rattle.book.specs.declared.Holder.the-variants.{Free}
+use Rattle.book.specs.declared.Role.{Role}
 use Rattle.laws.specs.Count.Good.{bit-holders}
 use Rattle.laws.specs.Count.Holder.{fileHolder, holder-some, holder-one, holder-find}
 use Rattle.laws.specs.Count.Owners.{file-shallow}
@@ -47,18 +47,6 @@ module _ (P : ℕ) (v : Vol) where
   holds-held zero h pos x e = absurd (not-suc-le-zero pos)
   holds-held (suc p) h pos x e = (x, e)
 
-  pub held-holds : (p : ℕ) (h : Holder) → 0 < p → Holds P v p h → Exists h × (heldPage P v h ≡ p)
-  unfolding Holds
-  held-holds zero h pos a = absurd (not-suc-le-zero pos)
-  held-holds (suc p) h pos a = a
-
-  -- a page that no holder has is free
-  pub holder-none : Rule2 P v → (p : ℕ) → ((h : Holder) → Holds P v p h → ⊥) → holders P v p ≡ 0
-  holder-none two p none = elim (eq-zero-or-pos (holders P v p)) [
-    | inl z ↦ z
-    | inr q ↦ let r = holder-find P v two p q in absurd (none (r .0) (r .1))
-  ]
-
   -- so is one that no owner has
   pub holders-none : (p : ℕ) → 0 < p → weighR v (bitFile P v) (hit p) ≡ 0 → weighR v (userFile v) (hit p) ≡ 0 → weighR v (objectFile v) (hit p) ≡ 0
       → ((u f : ℕ) → u < 256 → f < 256 → weighR v (fileAt v (fileEntry u f)) (hit p) ≡ 0) → holders P v p ≡ 0
@@ -83,8 +71,3 @@ module _ (P : ℕ) (v : Vol) where
   file-holds p u f pos hu hf q =
       let x = role-find v p (fileAt v (fileEntry u f)) (file-shallow v (fileEntry u f)) q in
       (x .0, holds-held p (fileHolder u f (x .0)) pos (hu, hf) (x .1))
-
-  -- and the only one
-  pub file-only : (p u f : ℕ) → 0 < p → u < 256 → f < 256 → 0 < weighR v (fileAt v (fileEntry u f)) (hit p) → holders P v p ≤ 1
-      → (h : Holder) → Holds P v p h → (x : Role) × (h ≡ fileHolder u f x)
-  file-only p u f pos hu hf q le h a = let r = file-holds p u f pos hu hf q in (r .0, holder-one P v p le h (fileHolder u f (r .0)) a (r .1))

@@ -1,4 +1,4 @@
--- Where an entry's page hangs: its block and slot, and that an empty slot may be used. Assumes nothing.
+-- Where an entry's page hangs: its block and slot, and that an empty slot may be used (Vacant). Assumes nothing.
 use mathlib.Core.Path.{_≡_, sym, ap, ap₂, _∙_, subst}
 use mathlib.Core.Logic.{_≢_, _⊎_, inl, inr}
 use Prim.Native.Nat.{ℕ, suc, _+_, _/_, _%_, _≤_, _<_, _-_}
@@ -20,8 +20,6 @@ use Rattle.laws.specs.Frame.Roots.{zero-none, used-page, blocksR-le}
 use Rattle.laws.specs.Tree.Pointer.{root-1, root-2, flags-ext, page-ext}
 use Rattle.laws.specs.Tree.Positions.{root-one, root-two}
 use Rattle.laws.specs.Tree.Slot.{hit-zero, hit-same, slot-zero}
-
--- ---- page d joins block X at slot k
 
 -- a block of the user or the object file with an empty slot k that may be used
 pub record Vacant (P : ℕ) (v : Vol) (X k : ℕ) : Type 0 where

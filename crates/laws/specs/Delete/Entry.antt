@@ -1,4 +1,4 @@
--- A file is deleted: its entry is cleared, its owner's count falls, and the bits of all its pages are cleared. Assumes nothing.
+-- The entry of a file is cleared and its owner's count falls: all that the file held is then in hand. Assumes nothing.
 use mathlib.Core.Path.{_≡_, ap, ap₂, _∙_, subst}
 use mathlib.Core.Logic.{_≢_}
 use Prim.Native.Nat.{ℕ, _+_, _-_, _*_, _/_, _<_}

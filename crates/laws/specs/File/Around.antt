@@ -1,4 +1,4 @@
--- The words that a file's last position has: slots, bits, counts; and what growing and shrinking may change. Assumes nothing.
+-- The words of a file's last position (Around), and a file that is one page longer in one volume than in another (Longer). Assumes nothing.
 use mathlib.Core.Path.{_≡_, sym, _∙_, subst, ap}
 use mathlib.Core.Logic.{_⊎_, inl, inr}
 use Prim.Native.Nat.{ℕ, _+_, _*_, _/_, _%_, _<_, suc}

@@ -1,4 +1,4 @@
--- The flags of a file that is no run, by its page count. Assumes nothing.
+-- The kind of a file by its flags and page count, and that each of its positions has a page. Assumes nothing.
 use mathlib.Core.Path.{_≡_, refl, sym, subst}
 use mathlib.Core.Logic.{inl, inr}
 use Prim.Native.Nat.{ℕ, zero, suc, _≤_, _<_, _+_, _-_, _*_, _/_, _%_, _^_, min}

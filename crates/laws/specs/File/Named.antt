@@ -1,4 +1,4 @@
--- Names and types of entries whose words stay. Assumes nothing.
+-- Names and types of entries whose words stay, or stand at another word of another part. Assumes nothing.
 use mathlib.Core.Path.{_≡_, sym, ap, _∙_, subst}
 use Prim.Native.Nat.{ℕ, _+_, _-_, _/_, _%_, _^_, _<_}
 use native.Mathlib.Omega.{arith}

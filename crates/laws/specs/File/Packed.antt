@@ -6,8 +6,8 @@ use Prim.Native.Nat.{ℕ, _+_, _-_, _*_, _/_, _%_, _^_, _≤_, _<_}
 use native.Mathlib.Decide.{ℕ-discrete, decLt}
 use native.Mathlib.Omega.{arith}
 use lib.ListN.{length, getD, List·getD-eq-default}
-use Rattle.book.specs.Words.{Words}
 use Rattle.book.specs.Names.{Letter, Text, byteAt, Legal, packed}
+use Rattle.book.specs.Words.{Words}
 
 letter-small : (b : ℕ) → Letter b → b ≤ 90
 unfolding Letter
@@ -23,11 +23,6 @@ module _ (m n : ℕ) (s : List ℕ) (T : Text m n s) where
     | yes h ↦ omega (arith, letter-small (getD s i 0) (T .2 i h))
     | no h ↦ let z : getD s i 0 ≡ 0 = List·getD-eq-default s 0 (omega arith) in omega arith
   ]
-
-  -- word j of the packed form fits a word
-  pub packed-small : (j : ℕ) → packed s j < 65536
-  unfolding packed
-  packed-small j = omega (arith, text-small (2 * j), text-small (2 * j + 1))
 
   module _ (w : Words) (k : ℕ) (e : (i : ℕ) → i < n → w (k + i / 2) ≡ packed s (i / 2)) where
     byte : (i : ℕ) → i < n → byteAt w k i ≡ getD s i 0

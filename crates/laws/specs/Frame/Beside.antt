@@ -1,11 +1,11 @@
--- What a step leaves: all that entries and trees say (Still), or all but one file and its owner's used count (Beside). Assumes nothing.
+-- Nothing changed but one file and its owner's used count (Beside). Assumes nothing.
 use mathlib.Core.Path.{_≡_, refl, ap, _∙_, subst}
 use mathlib.Core.Logic.{_≢_}
 use Prim.Native.Nat.{ℕ, _+_, _/_, _<_, _*_, _%_}
 use native.Mathlib.Omega.{arith}
 use Rattle.sums.specs.Sum.{sum-change, sum-none}
 use Rattle.book.specs.Bits.{bit}
-use Rattle.book.specs.Entries.{Table, user, object, used, given, usedPages}
+use Rattle.book.specs.Entries.{Table, user, object, used, usedPages}
 use Rattle.book.specs.Files.{fileAt}
 use Rattle.book.specs.Holders.{hit, all, some, mine}
 use Rattle.book.specs.Rules.{Rule6, Rule10}
@@ -16,7 +16,6 @@ use Rattle.laws.specs.Frame.Edit.{Change, c-users, c-objs, c-file, file-
 use Rattle.laws.specs.Frame.Roots.{pageAt-frame}
 use Rattle.laws.specs.Frame.Still.{SamePlaces, Still, places-refl, places-trans, places-frame}
 use Rattle.laws.specs.Tree.Pointer.{used-ext}
-use Rattle.laws.specs.Tree.Slot.{two-ext}
 
 -- nothing changed but what the file at e is, and the used count of user a
 pub record Beside (P : ℕ) (v v′ : Vol) (a e : ℕ) : Type 0 where
@@ -69,10 +68,6 @@ beside-bits P v v′ a e G H B p h = omega (arith, G .held p h, H .held p h, B .
 module _ (P : ℕ) (v v′ : Vol) (a e : ℕ) (B : Beside P v v′ a e) where
   pub beside-used : used (user v′ a) ≡ used (user v a)
   beside-used = used-ext (user v′ a) (user v a) (B .owner 0 (omega arith) (omega arith) (omega arith))
-
-  pub beside-given : given (user v′) a ≡ given (user v) a
-  unfolding given
-  beside-given = two-ext (user v′ a) (user v a) 14 (B .owner 14 (omega arith) (omega arith) (omega arith)) (B .owner 15 (omega arith) (omega arith) (omega arith))
 
 module _ (P : ℕ) (v : Vol) (hand : ℕ → ℕ) (G : Good P v hand) (pos : 0 < P) (a f : ℕ) (ha : a < 256) (hf : f < 256) (D : ℕ → ℕ) (v′ : Vol)
     (E : Change P v hand G pos a f ha hf D v′) where

@@ -1,4 +1,4 @@
--- A field written into words that were just written in a row: as if the row had been written with that field. Assumes nothing.
+-- An entry is written into its page, and fields into the words just written: what is read there afterwards. Assumes nothing.
 use mathlib.Core.Path.{_≡_, sym, ap, _∙_, fun-ext, subst}
 use mathlib.Core.Logic.{_≢_, inl, inr}
 use Prim.Native.Nat.{ℕ, suc, _+_, _-_, _/_, _%_, _≤_, _<_}

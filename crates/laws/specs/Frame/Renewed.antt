@@ -1,4 +1,4 @@
--- Rules 1 to 7 after a change of at most one user's entry and at most one file's. Assumes nothing.
+-- Rules 1 to 7 after a change of at most one user's entry and at most one file's (UserNew, FileNew). Assumes nothing.
 use mathlib.Core.Path.{_≡_, refl, sym, ap, ap₂, _∙_, subst, subst₂}
 use mathlib.Core.Logic.{_≢_, _⊎_, inl, inr}
 use Prim.Native.Nat.{ℕ, zero, suc, _+_, _-_, _*_, _/_, _≤_, _<_}

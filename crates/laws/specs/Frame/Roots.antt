@@ -1,4 +1,4 @@
--- What a change of some pages leaves alone, over the whole volume. Assumes nothing.
+-- The trees at roots: what a change of some pages leaves alone, where the pointers of the master page stay (Roots). Assumes nothing.
 use mathlib.Core.Path.{_≡_, refl, sym, ap, ap₂, _∙_, subst}
 use mathlib.Core.Logic.{_≢_}
 use Prim.Native.Nat.{ℕ, zero, suc, _+_, _-_, _*_, _/_, _%_, _^_, _≤_, _<_, zero-le}

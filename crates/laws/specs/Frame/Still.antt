@@ -1,4 +1,4 @@
--- A change of pages that are no block of any tree: entries elsewhere and every file's pages stay. Assumes nothing.
+-- No entry and no tree changed (Still): so it is where the pages that change are no block of any tree. Assumes nothing.
 use mathlib.Core.Path.{_≡_, sym, ap, _∙_, subst, fun-ext, refl}
 use mathlib.Core.Logic.{_≢_}
 use Prim.Native.Nat.{ℕ, _/_, _%_, _<_}
@@ -146,11 +146,3 @@ module _ (v v′ : Vol) (L : SamePlaces v v′) where
   pub places-unreserved : unreserved v′ ≡ unreserved v
   unfolding unreserved
   places-unreserved = two-ext (v′ 0) (v 0) 1022 (L .master 1022) (L .master 1023)
-
-  pub places-users : userFile v′ ≡ userFile v
-  unfolding Roots
-  places-users = users-root v v′ (λ k i j. L .master k)
-
-  pub places-objects : objectFile v′ ≡ objectFile v
-  unfolding Roots
-  places-objects = objs-root v v′ (λ k i j. L .master k)

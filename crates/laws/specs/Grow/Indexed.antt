@@ -6,24 +6,22 @@ use native.Mathlib.Nat.{le-refl, div-one, mod-one}
 use native.Mathlib.Omega.{arith}
 use Rattle.sums.specs.Sum.{sum, is}
 use Rattle.book.specs.Entries.{userFile, objectFile, user, object, used, given, usedPages}
-use Rattle.book.specs.Files.{fileAt, Shape, FileShape, need}
+use Rattle.book.specs.Files.{fileAt, Shape, need}
 use Rattle.book.specs.Grow.{finish}
 use Rattle.book.specs.Holders.{hit, all}
 use Rattle.book.specs.Pointers.{slot, flags, page, pointer, setSlot}
-use Rattle.book.specs.Rules.{Rule7}
-use Rattle.book.specs.Trees.{Root, tree, run, weigh, blocks, weighR, pageAt, indexAt, subindexOf, upto, leaf, rootAt, rootBy, Fill, Below}
+use Rattle.book.specs.Trees.{Root, tree, run, weigh, blocks, weighR, pageAt, indexAt, subindexOf, upto, leaf, rootBy, Fill, Below}
 use Rattle.book.specs.Words.{Vol, two}
-use Rattle.laws.specs.Count.Good.{Good, bit-le}
+use Rattle.laws.specs.Count.Good.{Good}
 use Rattle.laws.specs.File.Around.{AroundNew, Needs, SlotOf, CountsOf, only-slot, Longer}
 use Rattle.laws.specs.File.Finish.{Blocks, Regrown}
 use Rattle.laws.specs.File.Finished.{Finished, finished}
+use Rattle.laws.specs.File.Own.{own, loose, root-is, shape-is}
 use Rattle.laws.specs.Frame.Beside.{Beside}
 use Rattle.laws.specs.Frame.Places.{only-trans, Places, Either, OnlyAt, only-wider}
-use Rattle.laws.specs.Frame.Rest.{rest, all-rest, file-le}
 use Rattle.laws.specs.Frame.Roots.{upto-in}
 use Rattle.laws.specs.Grow.Grown.{Grown, grown-page, grown-block, grown-up, part-old}
 use Rattle.laws.specs.Tree.Levels.{last, last-mid, last-block, need-mid, need-block, index-1}
-use Rattle.laws.specs.Tree.Pointer.{file-used}
 use Rattle.laws.specs.Tree.Slot.{slot-here, slot-other, setSlot-page, setSlot-agree, hit-zero, hit-same, some-pos, hit-sym}
 use Rattle.laws.specs.Tree.Weigh.{weigh-none}
 
@@ -100,27 +98,6 @@ module _ (P : ℕ) (v : Vol) (hand : ℕ → ℕ) (G : Good P v hand) (pos : 0 <
   abbrev t : ℕ
   t = page (object v e) 30
 
-  -- a page of the file is held by it alone
-  pub own : (q : ℕ) → q < P → 1 ≤ weighR v (fileAt v e) (hit q) → (all P v (hit q) ≡ weighR v (fileAt v e) (hit q)) × (weighR v (fileAt v e) (hit q) ≡ 1)
-  unfolding rest
-  own q h i = (
-    omega (arith, G .held q h, bit-le P v q, all-rest P v (hit q), file-le v (hit q) a f ha hf),
-    omega (arith, G .held q h, bit-le P v q, all-rest P v (hit q), file-le v (hit q) a f ha hf),
-  )
-
-  -- a page in hand is held by nobody
-  pub loose : (q : ℕ) → q < P → 1 ≤ hand q → (all P v (hit q) ≡ 0) × (weighR v (fileAt v e) (hit q) ≡ 0) × (hand q ≡ 1)
-  unfolding rest
-  loose q h i = (omega (arith, G .held q h, bit-le P v q), omega (arith, G .held q h, bit-le P v q, all-rest P v (hit q), file-le v (hit q) a f ha hf), omega (arith, G .held q h, bit-le P v q))
-
-  pub root-is : (x : ℕ) → flags (object v e) 30 ≡ x → fileAt v e ≡ rootBy x t n
-  unfolding rootAt
-  root-is x h = file-used v e uf ∙ ap (λ (y : ℕ). rootBy y t n) h
-
-  pub shape-is : (x : ℕ) → flags (object v e) 30 ≡ x → Shape P v x t n
-  unfolding Rule7 FileShape
-  shape-is x h = subst (λ (y : ℕ). Shape P v y t n) h (G .most .r7 e (omega arith) uf .0)
-
   -- ---- an empty file: index block b with its first page
   module _ (d b : ℕ) (hd : d < P) (hb : b < P) (pd : 0 < d) (pb : 0 < b) (hand-is : (p : ℕ) → hand p ≡ hit d p + hit b p) (bare : (j : ℕ) → slot v b j ≡ 0)
       (fl : flags (object v e) 30 ≡ 0) (n0 : n ≡ 0) (le : usedPages (user v) a + 2 ≤ given (user v) a) where
@@ -136,7 +113,7 @@ module _ (P : ℕ) (v : Vol) (hand : ℕ → ℕ) (G : Good P v hand) (pos : 0 <
         v₂ = setSlot v b 0 d
 
         lo : (all P v (hit b) ≡ 0) × (weighR v (fileAt v e) (hit b) ≡ 0) × (hand b ≡ 1)
-        lo = loose b hb (omega (arith, hand-is b, hit-same b pb))
+        lo = loose P v hand G pos big a f ha hf uf b hb (omega (arith, hand-is b, hit-same b pb))
 
         K : Blocks P v hand G pos big a f ha hf uf (hit b) v₂
         K = record { none = hit-zero b; only = omega (arith, lo); agree = setSlot-agree v b 0 d; master = λ k. setSlot-page v b 0 d 0 k (omega arith) }
@@ -146,7 +123,7 @@ module _ (P : ℕ) (v : Vol) (hand : ℕ → ℕ) (G : Good P v hand) (pos : 0 <
 
         R : Regrown P v hand G pos big a f ha hf uf (hit b) v₂ K 1 1 b (usedPages (user v) a + 2) (λ g. 0) (λ g. g b + g d) (λ p. 0)
         R = record {
-          weight = λ g g0. omega (arith, ap (λ (r : Root). weighR v r g) (root-is 0 fl) ∙ ap (λ (k : ℕ). weighR v (run t k) g) n0, W .weight g g0, weigh-none v g g0 1);
+          weight = λ g g0. omega (arith, ap (λ (r : Root). weighR v r g) (root-is P v hand G pos big a f ha hf uf 0 fl) ∙ ap (λ (k : ℕ). weighR v (run t k) g) n0, W .weight g g0, weigh-none v g g0 1);
           shape = (omega arith, omega arith, W .fill, W .inside);
           top = hb;
           hands = λ p h. omega (arith, hand-is p, hit-sym p d, hit-sym p b);
@@ -169,11 +146,11 @@ module _ (P : ℕ) (v : Vol) (hand : ℕ → ℕ) (G : Good P v hand) (pos : 0 <
     caseB = grew P v v₂ _ a e n d 1 t _ (suc n) (λ g. g d) hand
         (finished P v hand G pos big a f ha hf uf (hit t) v₂ K (suc n) 1 t (usedPages (user v) a + 1) (λ g. 0) (λ g. g d) (λ p. 0) R)
         refl refl (ap (λ (k : ℕ). usedPages (user v) a + k) (sym (need-mid n mid)))
-        (λ m h. ap (upto m 512) (W .old m h) ∙ sym (ap (λ (r : Root). pageAt v r m) (root-is 1 fl))) at (λ g. last-mid v₂ (tree 1 t) n g mid ∙ ap g at)
+        (λ m h. ap (upto m 512) (W .old m h) ∙ sym (ap (λ (r : Root). pageAt v r m) (root-is P v hand G pos big a f ha hf uf 1 fl))) at (λ g. last-mid v₂ (tree 1 t) n g mid ∙ ap g at)
         (λ p. omega (arith, hand-is p, hit-sym p d)) (only-slot _ v t n d (λ p j h. inr (inl (mid, (h .0 ∙ sym ix, omega (arith, h .1, lt), omega (arith, h .2, lt))))))
       where
         S : Shape P v 1 t n
-        S = shape-is 1 fl
+        S = shape-is P v hand G pos big a f ha hf uf 1 fl
 
         v₂ : Vol
         v₂ = setSlot v t n d
@@ -184,7 +161,7 @@ module _ (P : ℕ) (v : Vol) (hand : ℕ → ℕ) (G : Good P v hand) (pos : 0 <
         K : Blocks P v hand G pos big a f ha hf uf (hit t) v₂
         K = record {
           none = hit-zero t;
-          only = own t (S .3 .0) (omega (arith, ap (λ (r : Root). weighR v r (hit t)) (root-is 1 fl), hit-same t pt)) .0;
+          only = own P v hand G pos big a f ha hf uf t (S .3 .0) (omega (arith, ap (λ (r : Root). weighR v r (hit t)) (root-is P v hand G pos big a f ha hf uf 1 fl), hit-same t pt)) .0;
           agree = setSlot-agree v t n d;
           master = λ k. setSlot-page v t n d 0 k (omega (arith, pt));
         }
@@ -194,7 +171,7 @@ module _ (P : ℕ) (v : Vol) (hand : ℕ → ℕ) (G : Good P v hand) (pos : 0 <
 
         R : Regrown P v hand G pos big a f ha hf uf (hit t) v₂ K (suc n) 1 t (usedPages (user v) a + 1) (λ g. 0) (λ g. g d) (λ p. 0)
         R = record {
-          weight = λ g g0. omega (arith, ap (λ (r : Root). weighR v r g) (root-is 1 fl), W .weight g g0);
+          weight = λ g g0. omega (arith, ap (λ (r : Root). weighR v r g) (root-is P v hand G pos big a f ha hf uf 1 fl), W .weight g g0);
           shape = (omega arith, lt, W .fill, W .inside);
           top = S .3 .0;
           hands = λ p h. omega (arith, hand-is p, hit-sym p d);

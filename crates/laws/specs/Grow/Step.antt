@@ -20,11 +20,12 @@ use Rattle.laws.specs.Bits.Marked.{claim-still}
 use Rattle.laws.specs.Count.Good.{Good, good, sound, free, free-count, room}
 use Rattle.laws.specs.File.Around.{AroundNew, Needs, only-take, longer-still}
 use Rattle.laws.specs.File.Kinds.{kind-empty, kind-low, kind-high}
+use Rattle.laws.specs.File.Own.{root-is, shape-is}
 use Rattle.laws.specs.Frame.Beside.{Beside, still-beside, beside-trans}
 use Rattle.laws.specs.Frame.Places.{only-trans, OnlyAt}
 use Rattle.laws.specs.Frame.Rest.{all-rest, file-le, rest}
 use Rattle.laws.specs.Frame.Still.{SamePlaces, Still, places-sym, places-trans, still-trans}
-use Rattle.laws.specs.Grow.Indexed.{Grew, caseA, caseB, root-is, shape-is}
+use Rattle.laws.specs.Grow.Indexed.{Grew, caseA, caseB}
 use Rattle.laws.specs.Grow.Subindexed.{caseC, caseD, caseE}
 use Rattle.laws.specs.Tree.Slot.{hit-same, slot-same, slot-bare}
 use Rattle.laws.specs.Tree.Weigh.{full-count}

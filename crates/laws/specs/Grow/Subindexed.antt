@@ -17,11 +17,12 @@ use Rattle.laws.specs.Count.Good.{Good}
 use Rattle.laws.specs.File.Around.{Needs, only-slot}
 use Rattle.laws.specs.File.Finish.{Blocks, Regrown}
 use Rattle.laws.specs.File.Finished.{finished}
+use Rattle.laws.specs.File.Own.{own, loose, root-is, shape-is}
 use Rattle.laws.specs.Frame.Places.{only-trans}
 use Rattle.laws.specs.Frame.Rest.{all-add}
 use Rattle.laws.specs.Frame.Roots.{weighR-add, upto-in}
 use Rattle.laws.specs.Grow.Grown.{Grown, grown-page, grown-block, grown-up, raise-weight, raise-fill, raise-below, raise-old, raise-at, part-old}
-use Rattle.laws.specs.Grow.Indexed.{Grew, grew, grown-leaf, own, loose, root-is, shape-is}
+use Rattle.laws.specs.Grow.Indexed.{Grew, grew, grown-leaf}
 use Rattle.laws.specs.Tree.Levels.{last, last-mid, last-block, last-raise, need-mid, need-block, need-raise, index-2}
 use Rattle.laws.specs.Tree.Slot.{slot-here, slot-other, setSlot-page, setSlot-agree, hit-sym, Agree-comp, Agree-mono, Agree, hit-zero, hit-same, some-pos, slot-same}
 use Rattle.laws.specs.Tree.Weigh.{blocks-le}

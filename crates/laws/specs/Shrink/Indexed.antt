@@ -16,10 +16,10 @@ use Rattle.laws.specs.Count.Good.{Good}
 use Rattle.laws.specs.File.Around.{Around, Needs, SlotOf, only-slot, Longer}
 use Rattle.laws.specs.File.Finish.{Blocks, owner-used}
 use Rattle.laws.specs.File.Finished.{Finished, finished}
+use Rattle.laws.specs.File.Own.{own, root-is, shape-is}
 use Rattle.laws.specs.Frame.Beside.{Beside}
 use Rattle.laws.specs.Frame.Places.{only-trans, OnlyAt, only-wider}
 use Rattle.laws.specs.Frame.Roots.{weighR-nobody}
-use Rattle.laws.specs.Grow.Indexed.{own, root-is, shape-is}
 use Rattle.laws.specs.Shrink.Shrunk.{Shrunk, shrunk-page, shrunk-block, shrunk-leaf, all-zero}
 use Rattle.laws.specs.Tree.Levels.{last, last-mid, last-block, need-mid, need-block, page-1, index-1}
 use Rattle.laws.specs.Tree.Slot.{setSlot-page, setSlot-agree, Agree, hit-zero, hit-same, some-pos}

@@ -17,10 +17,10 @@ use Rattle.laws.specs.Bits.Marked.{alone, mark-still}
 use Rattle.laws.specs.Count.Good.{Good, good, sound}
 use Rattle.laws.specs.File.Around.{Around, only-mark, longer-still}
 use Rattle.laws.specs.File.Kinds.{kind-low, kind-high}
+use Rattle.laws.specs.File.Own.{shape-is}
 use Rattle.laws.specs.Frame.Beside.{still-beside, beside-trans}
 use Rattle.laws.specs.Frame.Places.{only-trans}
 use Rattle.laws.specs.Frame.Still.{Still, still-sym, bitPage-same}
-use Rattle.laws.specs.Grow.Indexed.{shape-is}
 use Rattle.laws.specs.Shrink.Indexed.{Lost, Real, shrinkA, shrinkB}
 use Rattle.laws.specs.Shrink.Subindexed.{shrinkC, shrinkD, shrinkE}
 use Rattle.laws.specs.Tree.Slot.{hit-sym}

@@ -17,9 +17,9 @@ use Rattle.laws.specs.Count.Good.{Good}
 use Rattle.laws.specs.File.Around.{only-slot}
 use Rattle.laws.specs.File.Finish.{Blocks}
 use Rattle.laws.specs.File.Finished.{finished}
+use Rattle.laws.specs.File.Own.{own, root-is, shape-is}
 use Rattle.laws.specs.Frame.Roots.{weighR-nobody}
 use Rattle.laws.specs.Grow.Grown.{part-here}
-use Rattle.laws.specs.Grow.Indexed.{own, root-is, shape-is}
 use Rattle.laws.specs.Shrink.Indexed.{Lost, Real, lost, paid, within}
 use Rattle.laws.specs.Shrink.Shrunk.{Shrunk, shrunk-page, shrunk-block, shrunk-up, shrunk-leaf, all-zero}
 use Rattle.laws.specs.Tree.Levels.{last, last-mid, last-block, last-raise, need-mid, need-block, need-raise, page-1, page-2, index-2}

@@ -48,7 +48,7 @@ pub zero-page : (w : ℕ → ℕ) (k : ℕ) → Zero w k → page w k ≡ 0
 unfolding Zero page
 zero-page w k z = omega (arith, z .0, z .1)
 
--- ---- what the rules say of the trees
+-- ---- roots
 
 pub root-0 : (w : ℕ → ℕ) (k n : ℕ) → flags w k ≡ 0 → rootAt w k n ≡ run (page w k) n
 unfolding rootAt rootBy

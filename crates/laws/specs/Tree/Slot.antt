@@ -10,7 +10,7 @@ use Rattle.book.specs.Pointers.{slot, setSlot}
 use Rattle.book.specs.Words.{Vol, two, word, put, put2}
 use Rattle.book.specs.Written.{word-pos, word-ext, put2-page, put2-word, put2-two}
 
--- ---- weights
+-- ---- hits: a page met or not
 
 pub hit-zero : (p : ℕ) → hit p 0 ≡ 0
 unfolding hit
@@ -92,7 +92,7 @@ pub slot-bare : (v : Vol) (q : ℕ) → ((k : ℕ) → word v q k ≡ 0) → (j 
 unfolding slot two
 slot-bare v q h j = omega (arith, h (2 * j), h (suc (2 * j)))
 
--- ---- what a tree reads: only its blocks
+-- ---- volumes that agree off some pages
 
 -- pages at which C is 0 are as they were
 unfoldable pub Agree : (ℕ → ℕ) → Vol → Vol → Type 0

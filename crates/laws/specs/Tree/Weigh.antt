@@ -1,4 +1,4 @@
--- Laws of a tree of pages, over its level. Assumes nothing.
+-- A tree of pages, over its level: its pages weighed, its blocks, its leaves; a page linked into a block. Assumes nothing.
 use mathlib.Core.Path.{_≡_, refl, sym, ap, ap₂, _∙_, subst, subst₂}
 use mathlib.Core.Logic.{_≢_}
 use Prim.Native.Nat.{ℕ, zero, suc, _+_, _-_, _*_, _/_, _%_, _^_, _≤_, _<_, zero-le, min}
