@@ -18,7 +18,7 @@ use Rattle.book.specs.Create.{extend, started, raised, raises, withUserPage, wi
 use Rattle.laws.specs.Bits.Choose.{lowest-chooser}
 use Rattle.laws.specs.Create.Join.{SlotWords}
 use Rattle.laws.specs.Create.Placed.{Placed, extend-pos, extend-master, extend-slot, extend-bare, extend-placed}
-use Rattle.laws.specs.Create.Vacant.{Vacant, Reached, reached-kept, index-one, index-two, object-slot, object-none, user-vacant, top-vacant}
+use Rattle.laws.specs.Create.Vacant.{Vacant, Reached, reached-kept, object-one, object-two, object-slot, object-none, user-vacant, top-vacant}
 use Rattle.laws.specs.Frame.Places.{UnreservedWords, Either}
 use Rattle.laws.specs.Tree.Pointer.{flags-ext, page-ext}
 use Rattle.making.proofs.Ready.{same-pages, ready-next}
@@ -152,11 +152,11 @@ module _ (P : ℕ) (v : Vol) (e : ℕ) where
       two = go (R .kind)
         where
           go : ((flags (v 0) 1016 ≡ 1) × (e < 16384)) ⊎ ((flags (v 0) 1016 ≡ 2) × (e < 65536)) → flags (v 0) 1016 ≡ 2
-          go (inl h) = absurd (let r : ⊥ = omega (arith, z, index-one P v S e R (h .0), R .real) in r)
+          go (inl h) = absurd (let r : ⊥ = omega (arith, z, object-one P v S e R (h .0), R .real) in r)
           go (inr h) = h .0
 
       index₁ : objectIndex w e ≡ lowestFree P v
-      index₁ = index-two P w (T .sound) e R₁ (flags-ext (w 0) (v 0) 1016 (mast 1016 (omega arith)) ∙ two)
+      index₁ = object-two P w (T .sound) e R₁ (flags-ext (w 0) (v 0) 1016 (mast 1016 (omega arith)) ∙ two)
           ∙ ap (λ (t : ℕ). slot w t i) (page-ext (w 0) (v 0) 1016 (mast 1016 (omega arith)) (mast 1017 (omega arith)))
           ∙ extend-slot (lowestFree P) P (lowest-chooser P) v S pos o i N (need-one z)
 

@@ -18,7 +18,7 @@ use Rattle.laws.specs.Call.After.{after-call}
 use Rattle.laws.specs.Call.Open.{users-open, objects-open, addresses-open}
 use Rattle.laws.specs.Call.Sequence.{Calling, formats, createsUser, deletesUser, gives, takes, createsIndexed, createsContiguous, grows, shrinks, deletesFile, writes, opens}
 use Rattle.laws.specs.Call.Write.{users-write, objects-write, addresses-write}
-use Rattle.laws.specs.Create.Created.{FileBeside}
+use Rattle.laws.specs.Create.Created.{BesideNew}
 use Rattle.laws.specs.Create.FileCall.{beside-create-indexed, beside-create-contiguous}
 use Rattle.laws.specs.Create.User.{new-unused}
 use Rattle.laws.specs.Create.UserCall.{users-create-user, objects-create-user, addresses-create-user}
@@ -65,7 +65,7 @@ module _ (u x : ℕ) (hu : u < 256) (ne : u ≢ x) where
     addresses = λ f h m. b .address (fileEntry u f) (omega arith) (apart f g h i) m;
   }
 
-  file-beside : (v v′ : Vol) (g : ℕ) → g < 256 → FileBeside v v′ x (fileEntry x g) → Untouched u v v′
+  file-beside : (v v′ : Vol) (g : ℕ) → g < 256 → BesideNew v v′ x (fileEntry x g) → Untouched u v v′
   file-beside v v′ g i b = record {
     own = b .users u ne;
     files = λ f h k j. b .objects (fileEntry u f) (apart f g h i) k j;

@@ -38,21 +38,21 @@ pub record FileWanted (P : ℕ) (v : Vol) (u : ℕ) (name type : List ℕ) : Typ
   pub room : fileNeed v (fileEntry u (newFile v u)) ≤ unreserved v
 
 -- what stands beside the file at e and the used pages of user u is as it was: entries, and the pages of files
-pub record FileBeside (v v′ : Vol) (u e : ℕ) : Type 0 where
+pub record BesideNew (v v′ : Vol) (u e : ℕ) : Type 0 where
   pub owner : (i : ℕ) → i < 32 → i ≢ 16 → i ≢ 17 → user v′ u i ≡ user v u i
   pub users : (z : ℕ) → z ≢ u → (i : ℕ) → i < 32 → user v′ z i ≡ user v z i
   pub objects : (z : ℕ) → z ≢ e → (i : ℕ) → i < 32 → object v′ z i ≡ object v z i
   pub address : (z : ℕ) → z < 65536 → z ≢ e → (m : ℕ) → pageAt v′ (fileAt v′ z) m ≡ pageAt v (fileAt v z) m
 
-pub file-beside-same : (v : Vol) (u e : ℕ) → FileBeside v v u e
-file-beside-same v u e = record { owner = λ i h a b. refl; users = λ z n i h. refl; objects = λ z n i h. refl; address = λ z h n m. refl }
+pub beside-new-same : (v : Vol) (u e : ℕ) → BesideNew v v u e
+beside-new-same v u e = record { owner = λ i h a b. refl; users = λ z n i h. refl; objects = λ z n i h. refl; address = λ z h n m. refl }
 
 -- v′ is v with a file of n pages from s on at entry e of user u; k pages were taken for its place, and only words of F are other beside those pages
 pub record Created (P : ℕ) (v v′ : Vol) (u e : ℕ) (E : Words) (n s k : ℕ) (F : Places) : Type 0 where
   pub sound : Sound P v′
   pub words : (i : ℕ) → i < 32 → object v′ e i ≡ E i
   pub root : fileAt v′ e ≡ run s n
-  pub beside : FileBeside v v′ u e
+  pub beside : BesideNew v v′ u e
   pub spent : usedPages (user v′) u ≡ usedPages (user v) u + n
   pub paid : unreserved v′ + k ≡ unreserved v
   pub taken : free P v′ + (k + n) ≡ free P v

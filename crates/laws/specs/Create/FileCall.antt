@@ -18,7 +18,7 @@ use Rattle.laws.specs.Bits.Choose.{lowest-chooser}
 use Rattle.laws.specs.Bits.Taking.{TakenWords}
 use Rattle.laws.specs.Call.After.{after-call, kept-call}
 use Rattle.laws.specs.Call.Done.{done}
-use Rattle.laws.specs.Create.Created.{FileWanted, FileBeside, file-beside-same, Created}
+use Rattle.laws.specs.Create.Created.{FileWanted, BesideNew, beside-new-same, Created}
 use Rattle.laws.specs.Create.File.{indexed-created, indexed-users, contiguous-created}
 use Rattle.laws.specs.Create.FilePlace.{FilePlaceWords}
 use Rattle.laws.specs.Frame.Places.{Places, EntryOf, FieldOf, Either, OnlyAt}
@@ -60,10 +60,10 @@ module _ (img : List ℕ) (u : ℕ) (name type : List ℕ) (created : ℕ) where
     kept-create-indexed = kept-call img _ _ 0 _ _ r img′ o (λ W A S c. indexed-step W S (wanted (A .0) (A .1) (A .2) (c .0) (c .1 .0) (c .1 .1 .0) (c .1 .1 .1 .0)) .sound)
 
     -- done or refused: only these words differ, all beside the file stays, and so do all users
-    indexed-left : OnlyAt (IndexedWords P v v′ e) v v′ × FileBeside v v′ u e × ((z k : ℕ) → k < 32 → user v′ z k ≡ user v z k)
+    indexed-left : OnlyAt (IndexedWords P v v′ e) v v′ × BesideNew v v′ u e × ((z k : ℕ) → k < 32 → user v′ z k ≡ user v z k)
     unfolding createIndexedCall call Clear
-    indexed-left = after-call img _ _ 0 _ _ r img′ o (λ w. OnlyAt (IndexedWords P v w e) v w × FileBeside v w u e × ((z k : ℕ) → k < 32 → user w z k ≡ user v z k))
-        ((λ p k h. refl), file-beside-same v u e, (λ z k h. refl))
+    indexed-left = after-call img _ _ 0 _ _ r img′ o (λ w. OnlyAt (IndexedWords P v w e) v w × BesideNew v w u e × ((z k : ℕ) → k < 32 → user w z k ≡ user v z k))
+        ((λ p k h. refl), beside-new-same v u e, (λ z k h. refl))
         (λ W A S c.
         let a : FileWanted P v u name type = wanted (A .0) (A .1) (A .2) (c .0) (c .1 .0) (c .1 .1 .0) (c .1 .1 .1 .0) in
         let s = indexed-step W S a in (s .only, s .beside, indexed-users (lowestFree P) P (lowest-chooser P) v S (omega (arith, W .least)) u name type created a))
@@ -71,7 +71,7 @@ module _ (img : List ℕ) (u : ℕ) (name type : List ℕ) (created : ℕ) where
     pub frame-create-indexed : OnlyAt (IndexedWords P v v′ e) v v′
     frame-create-indexed = indexed-left .0
 
-    pub beside-create-indexed : FileBeside v v′ u e
+    pub beside-create-indexed : BesideNew v v′ u e
     beside-create-indexed = indexed-left .1
 
     pub users-create-indexed : (z k : ℕ) → k < 32 → user v′ z k ≡ user v z k
@@ -120,15 +120,15 @@ module _ (img : List ℕ) (u : ℕ) (name type : List ℕ) (created : ℕ) where
       kept-create-contiguous = kept-call img _ _ 0 _ _ r img′ o (λ W A S c.
           contiguous-step W S (A .3) (wanted (A .0) (A .1) (A .2) (c .0) (c .1 .0) (c .1 .1 .0) (c .1 .1 .1 .1 .0)) (c .1 .1 .1 .0) (c .1 .1 .1 .1 .1 .0) .sound)
 
-      contiguous-left : OnlyAt (ContiguousWords P v y u e) v y × FileBeside v y u e
+      contiguous-left : OnlyAt (ContiguousWords P v y u e) v y × BesideNew v y u e
       unfolding createContiguousCall call Clear
-      contiguous-left = after-call img _ _ 0 _ _ r img′ o (λ w. OnlyAt (ContiguousWords P v w u e) v w × FileBeside v w u e) ((λ p k h. refl), file-beside-same v u e)
+      contiguous-left = after-call img _ _ 0 _ _ r img′ o (λ w. OnlyAt (ContiguousWords P v w u e) v w × BesideNew v w u e) ((λ p k h. refl), beside-new-same v u e)
           (λ W A S c. let s = contiguous-step W S (A .3) (wanted (A .0) (A .1) (A .2) (c .0) (c .1 .0) (c .1 .1 .0) (c .1 .1 .1 .1 .0)) (c .1 .1 .1 .0) (c .1 .1 .1 .1 .1 .0) in (s .only, s .beside))
 
       pub frame-create-contiguous : OnlyAt (ContiguousWords P v y u e) v y
       frame-create-contiguous = contiguous-left .0
 
-      pub beside-create-contiguous : FileBeside v y u e
+      pub beside-create-contiguous : BesideNew v y u e
       beside-create-contiguous = contiguous-left .1
 
       module _ (z : r .number ≡ 0) where

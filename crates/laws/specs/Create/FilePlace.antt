@@ -16,7 +16,7 @@ use Rattle.laws.specs.Bits.Taking.{TakenWords, NoWords}
 use Rattle.laws.specs.Count.Good.{bit-le}
 use Rattle.laws.specs.Create.Join.{SlotWords}
 use Rattle.laws.specs.Create.Placed.{Placed, placed-none, placed-then, extend-pos, extend-master, extend-slot, extend-bare, extend-keeps, extend-taken, extend-placed, placed-wider}
-use Rattle.laws.specs.Create.Vacant.{Vacant, Reached, reached-kept, once, index-one, index-two, top-held, under, object-slot, object-none, index-vacant, top-vacant}
+use Rattle.laws.specs.Create.Vacant.{Vacant, Reached, reached-kept, once, object-one, object-two, top-held, under, object-slot, object-none, index-vacant, top-vacant}
 use Rattle.laws.specs.Frame.Places.{Places, UnreservedWords, Either}
 use Rattle.laws.specs.Tree.Pointer.{flags-ext, page-ext}
 use Rattle.laws.specs.Tree.Slot.{hit-same, slot-same}
@@ -65,15 +65,15 @@ module _ (choose : Vol → ℕ) (P : ℕ) (ch : Chooser P choose) (e : ℕ) wher
     index-same = go (R .kind)
       where
         go : ((flags (v 0) 1016 ≡ 1) × (e < 16384)) ⊎ ((flags (v 0) 1016 ≡ 2) × (e < 65536)) → objectIndex v′ e ≡ objectIndex v e
-        go (inl h) = index-one P v′ (page-placed .sound) e R′ (flags-same ∙ h .0) ∙ top-same ∙ sym (index-one P v S e R (h .0))
+        go (inl h) = object-one P v′ (page-placed .sound) e R′ (flags-same ∙ h .0) ∙ top-same ∙ sym (object-one P v S e R (h .0))
         go (inr h) =
             let b = under P v S e R (h .0) (h .1) p in
             let o : ℕ = page (v 0) 1016 in
-            index-two P v′ (page-placed .sound) e R′ (flags-same ∙ h .0) ∙ ap (λ (t : ℕ). slot v′ t (entryPage e / 512)) top-same
+            object-two P v′ (page-placed .sound) e R′ (flags-same ∙ h .0) ∙ ap (λ (t : ℕ). slot v′ t (entryPage e / 512)) top-same
             ∙ slot-same v v′ o (extend-keeps choose P ch v S pos X j N have o
             (λ q. omega (arith, b .1, once P v S (objectIndex v e) (b .0), subst (λ (y : ℕ). hit (objectIndex v e) y ≡ 1) (sym q) (hit-same (objectIndex v e) p)))
             (top-held P v S e R (h .0))) (entryPage e / 512)
-            ∙ sym (index-two P v S e R (h .0))
+            ∙ sym (object-two P v S e R (h .0))
 
     page-there : 0 < objectPage v′ e
     page-there = omega (
@@ -138,7 +138,7 @@ module _ (choose : Vol → ℕ) (P : ℕ) (ch : Chooser P choose) (e : ℕ) wher
       two = go (R .kind)
         where
           go : ((flags (v 0) 1016 ≡ 1) × (e < 16384)) ⊎ ((flags (v 0) 1016 ≡ 2) × (e < 65536)) → flags (v 0) 1016 ≡ 2
-          go (inl h) = absurd (let r : ⊥ = omega (arith, z, index-one P v S e R (h .0), R .real) in r)
+          go (inl h) = absurd (let r : ⊥ = omega (arith, z, object-one P v S e R (h .0), R .real) in r)
           go (inr h) = h .0
 
       mast : (k : ℕ) → k < 1022 → w 0 k ≡ v 0 k
@@ -148,7 +148,7 @@ module _ (choose : Vol → ℕ) (P : ℕ) (ch : Chooser P choose) (e : ℕ) wher
       R₁ = reached-kept P v w e (mast 1016 (omega arith)) (mast 1017 (omega arith)) R
 
       index₁ : objectIndex w e ≡ choose v
-      index₁ = index-two P w (T₁ .sound) e R₁ (flags-ext (w 0) (v 0) 1016 (mast 1016 (omega arith)) ∙ two)
+      index₁ = object-two P w (T₁ .sound) e R₁ (flags-ext (w 0) (v 0) 1016 (mast 1016 (omega arith)) ∙ two)
           ∙ ap (λ (t : ℕ). slot w t i) (page-ext (w 0) (v 0) 1016 (mast 1016 (omega arith)) (mast 1017 (omega arith))) ∙ extend-slot choose P ch v S pos o i N₁ have₁
 
       p₁ : 0 < objectIndex w e

@@ -20,7 +20,7 @@ use Rattle.laws.specs.Frame.Renewed.{Master, master-roots}
 use Rattle.laws.specs.Frame.Rest.{rest, all-rest}
 use Rattle.laws.specs.Frame.Roots.{upto-in, upto-out, users-root, objs-root, blocksR-le}
 use Rattle.laws.specs.Tree.Slot.{slot-here, slot-other, setSlot-page, slot-bare, some-pos, slot-same}
-use Rattle.laws.specs.Tree.Weigh.{leaf-none, Link}
+use Rattle.laws.specs.Tree.Weigh.{leaf-zero, Link}
 
 -- ---- what payment leaves, and what it writes
 
@@ -58,7 +58,7 @@ module _ (v v′ : Vol) (X k d : ℕ) (L : Link v v′ X k d) where
         | no ne ↦ slot-same v v′ t (L .rest t ne) i
         | yes e ↦ elim (ℕ-discrete i k) [
           | no ne ↦ subst (λ (x : ℕ). slot v′ x i ≡ slot v x i) (sym e) (L .others i ne)
-          | yes q ↦ absurd (let r : ⊥ = omega (arith, h, ap (λ (x : ℕ). leaf v l x m) (ap₂ (slot v) e q ∙ L .was) ∙ leaf-none v l m) in r)
+          | yes q ↦ absurd (let r : ⊥ = omega (arith, h, ap (λ (x : ℕ). leaf v l x m) (ap₂ (slot v) e q ∙ L .was) ∙ leaf-zero v l m) in r)
         ]
       ] in
       ap (λ (x : ℕ). leaf v′ l x m) same ∙ leaf-there l (slot v t i) m h

@@ -23,13 +23,13 @@ use Rattle.laws.specs.Frame.Rest.{rest, all-rest, file-le}
 use Rattle.laws.specs.Frame.Roots.{weighR-nobody, upto-in, upto-out, pageAt-le, pageAt-frame, weighR-frame, entry-frame, Roots, bits-root, users-root, objs-root, blocksR-le}
 use Rattle.laws.specs.Tree.Pointer.{root-1, root-2, zero-flags, flags-ext, page-ext, rootAt-ext}
 use Rattle.laws.specs.Tree.Slot.{Agree, some-zero, some-pos, hit-zero, hit-same, word-zero, slot-zero, slot-same}
-use Rattle.laws.specs.Tree.Weigh.{weigh-nobody, below-zero, Link, weigh-link, weigh-none, Below-frame, blocks-le, pow-pos, slot-lt, leaf-none}
+use Rattle.laws.specs.Tree.Weigh.{weigh-nobody, below-zero, Link, weigh-link, weigh-none, Below-frame, blocks-le, pow-pos, slot-lt, leaf-zero}
 
 -- under a page of zeros there are only zeros
 leaf-bare : (v : Vol) (d : ℕ) → ((j : ℕ) → word v d j ≡ 0) → ((j : ℕ) → slot v d j ≡ 0) → (l n j : ℕ) → word v (leaf v l d n) j ≡ 0
 unfolding leaf
 leaf-bare v d z s zero n j = z j
-leaf-bare v d z s (suc l) n j = ap (λ (x : ℕ). word v x j) (ap (λ (x : ℕ). leaf v l x (n % 512 ^ l)) (s (n / 512 ^ l)) ∙ leaf-none v l (n % 512 ^ l)) ∙ word-zero v j
+leaf-bare v d z s (suc l) n j = ap (λ (x : ℕ). word v x j) (ap (λ (x : ℕ). leaf v l x (n % 512 ^ l)) (s (n / 512 ^ l)) ∙ leaf-zero v l (n % 512 ^ l)) ∙ word-zero v j
 
 module _ (v v′ : Vol) (X k d : ℕ) (L : Link v v′ X k d) (z : (j : ℕ) → word v′ d j ≡ 0) (zs : (j : ℕ) → slot v′ d j ≡ 0) where
   -- the words at each position stay, if X is no page at the bottom
@@ -51,7 +51,7 @@ module _ (v v′ : Vol) (X k d : ℕ) (L : Link v v′ X k d) (z : (j : ℕ) →
               let now : slot v′ t i ≡ d = ap₂ (slot v′) e q ∙ L .now in
               let was : slot v t i ≡ 0 = ap₂ (slot v) e q ∙ L .was in
               ap (λ (x : ℕ). word v′ (leaf v′ l x m) j) now ∙ leaf-bare v′ d z zs l m j
-              ∙ sym (ap (λ (x : ℕ). word v (leaf v l x m) j) was ∙ ap (λ (x : ℕ). word v x j) (leaf-none v l m) ∙ word-zero v j)
+              ∙ sym (ap (λ (x : ℕ). word v (leaf v l x m) j) was ∙ ap (λ (x : ℕ). word v x j) (leaf-zero v l m) ∙ word-zero v j)
         ]
       ]
 

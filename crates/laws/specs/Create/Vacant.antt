@@ -123,21 +123,21 @@ module _ (P : ℕ) (v : Vol) (S : Sound P v) (e : ℕ) (R : Reached P v e) where
   unfolding objectIndex
   index-is x h = ap (λ (y : ℕ). indexOf v y (page (v 0) 1016) (entryPage e)) h
 
-  pub index-one : flags (v 0) 1016 ≡ 1 → objectIndex v e ≡ o
+  pub object-one : flags (v 0) 1016 ≡ 1 → objectIndex v e ≡ o
   unfolding indexOf
-  index-one = index-is 1
+  object-one = index-is 1
 
-  pub index-two : flags (v 0) 1016 ≡ 2 → objectIndex v e ≡ slot v o (entryPage e / 512)
+  pub object-two : flags (v 0) 1016 ≡ 2 → objectIndex v e ≡ slot v o (entryPage e / 512)
   unfolding indexOf
-  index-two = index-is 2
+  object-two = index-is 2
 
   pub object-slot : objectPage v e ≡ slot v (objectIndex v e) (entryPage e % 512)
   unfolding objectPage objectFile rootAt
   object-slot = go (R .kind)
     where
       go : ((flags (v 0) 1016 ≡ 1) × (e < 16384)) ⊎ ((flags (v 0) 1016 ≡ 2) × (e < 65536)) → pageAt v (rootAt (v 0) 1016 0) (e / 32) ≡ slot v (objectIndex v e) (e / 32 % 512)
-      go (inl h) = root-one v (flags (v 0) 1016) o 0 (e / 32) (h .0) (omega (arith, h .1)) ∙ ap₂ (slot v) (sym (index-one (h .0))) (let q : e / 32 ≡ e / 32 % 512 = omega (arith, h .1) in q)
-      go (inr h) = root-two v (flags (v 0) 1016) o 0 (e / 32) (h .0) (omega (arith, h .1)) ∙ ap (λ (x : ℕ). slot v x (e / 32 % 512)) (sym (index-two (h .0)))
+      go (inl h) = root-one v (flags (v 0) 1016) o 0 (e / 32) (h .0) (omega (arith, h .1)) ∙ ap₂ (slot v) (sym (object-one (h .0))) (let q : e / 32 ≡ e / 32 % 512 = omega (arith, h .1) in q)
+      go (inr h) = root-two v (flags (v 0) 1016) o 0 (e / 32) (h .0) (omega (arith, h .1)) ∙ ap (λ (x : ℕ). slot v x (e / 32 % 512)) (sym (object-two (h .0)))
 
   -- no block, no page
   pub object-none : objectIndex v e ≡ 0 → objectPage v e ≡ 0
@@ -160,7 +160,7 @@ module _ (P : ℕ) (v : Vol) (S : Sound P v) (e : ℕ) (R : Reached P v e) where
       → (objectIndex v e < P) × (hit (objectIndex v e) o + 1 ≤ blocksR v (objectFile v) (hit (objectIndex v e)))
   unfolding Rule5 Rule5By Below objectFile blocksR
   under x h p =
-      let q : slot v o (entryPage e / 512) ≡ objectIndex v e = sym (index-two x) in
+      let q : slot v o (entryPage e / 512) ≡ objectIndex v e = sym (object-two x) in
       let b = subst (λ (y : ℕ). Rule5By P v y o) x (S .r5) .0 .1 (entryPage e / 512) (omega arith) .0 in (
         omega (arith, b, q),
         subst (λ (r : Root). hit (objectIndex v e) o + 1 ≤ blocksR v r (hit (objectIndex v e))) (sym (root-2 (v 0) 1016 0 x))
@@ -175,12 +175,12 @@ module _ (P : ℕ) (v : Vol) (S : Sound P v) (e : ℕ) (R : Reached P v e) where
       go : ((flags (v 0) 1016 ≡ 1) × (e < 16384)) ⊎ ((flags (v 0) 1016 ≡ 2) × (e < 65536)) → Vacant P v (objectIndex v e) (entryPage e % 512)
       go (inl h) =
           let b : 1 ≤ blocksR v (objectFile v) (hit o) = top-block 0 (root-1 (v 0) 1016 0 (h .0)) in
-          subst (λ (x : ℕ). Vacant P v x (entryPage e % 512)) (sym (index-one (h .0))) (record {
+          subst (λ (x : ℕ). Vacant P v x (entryPage e % 512)) (sym (object-one (h .0))) (record {
             below = R .below;
             real = R .real;
             block = omega (arith, b);
             room = omega arith;
-            was = ap (λ (x : ℕ). slot v x (entryPage e % 512)) (sym (index-one (h .0))) ∙ sym object-slot ∙ z;
+            was = ap (λ (x : ℕ). slot v x (entryPage e % 512)) (sym (object-one (h .0))) ∙ sym object-slot ∙ z;
             eight = λ q. absurd (user-index o (R .below) (R .real) b q);
             four = λ x q. absurd (let r : ⊥ = omega (arith, h .0) in r);
           })
@@ -202,7 +202,7 @@ module _ (P : ℕ) (v : Vol) (S : Sound P v) (e : ℕ) (R : Reached P v e) where
   top-vacant z = go (R .kind)
     where
       go : ((flags (v 0) 1016 ≡ 1) × (e < 16384)) ⊎ ((flags (v 0) 1016 ≡ 2) × (e < 65536)) → Vacant P v o (entryPage e / 512)
-      go (inl h) = absurd (let r : ⊥ = omega (arith, index-one (h .0), R .real) in r)
+      go (inl h) = absurd (let r : ⊥ = omega (arith, object-one (h .0), R .real) in r)
       go (inr h) =
           let b : 1 ≤ blocksR v (objectFile v) (hit o) = top-block 1 (root-2 (v 0) 1016 0 (h .0)) in
           record {
@@ -210,7 +210,7 @@ module _ (P : ℕ) (v : Vol) (S : Sound P v) (e : ℕ) (R : Reached P v e) where
             real = R .real;
             block = omega (arith, b);
             room = omega (arith, h .1);
-            was = sym (index-two (h .0)) ∙ z;
+            was = sym (object-two (h .0)) ∙ z;
             eight = λ q. absurd (user-index o (R .below) (R .real) b q);
             four = λ x q. omega (arith, h .1);
           }

@@ -20,7 +20,7 @@ use Rattle.book.specs.Written.{putWords-here, put2-page, put2-two}
 use Rattle.laws.specs.Call.After.{after-done, Stepped, Called, called}
 use Rattle.laws.specs.Count.Good.{grant-used}
 use Rattle.laws.specs.Frame.Places.{Places, EntryOf, UnreservedWords, Either, OnlyAt, only-then, only-put2, only-putWords}
-use Rattle.laws.specs.User.Words.{Beside, beside-same, user-has-page, user-now, user-beside, user-sound}
+use Rattle.laws.specs.User.Words.{BesideUser, beside-same, user-has-page, user-now, user-beside, user-sound}
 
 -- user u's entry, and the unreserved words
 abbrev pub UserWordsOf : Vol → ℕ → Places
@@ -65,7 +65,7 @@ module _ (P : ℕ) (v : Vol) (S : Sound P v) (pos : 0 < P) (u : ℕ) (hu : u < 2
   unfolding grant
   no-grant = pick-no (used (user v′ u)) (given (user v′) u) 0 unused
 
-  deleted-step : NoFiles v u → Stepped P (λ w. Beside v w u) (deleteUser v u)
+  deleted-step : NoFiles v u → Stepped P (λ w. BesideUser v w u) (deleteUser v u)
   unfolding v′
   deleted-step none = record {
     sound = user-sound P v S pos u hu uu v′ only
@@ -78,7 +78,7 @@ module _ (P : ℕ) (v : Vol) (S : Sound P v) (pos : 0 < P) (u : ℕ) (hu : u < 2
   }
 
 module _ (img : List ℕ) (u : ℕ) (r : Numbers ℕ) (img′ : List ℕ) (o : Outcome (deleteUserCall img u) img r img′) where
-  delete : Called img (UserWordsOf (vol img) u) (λ w. Beside (vol img) w u) img′
+  delete : Called img (UserWordsOf (vol img) u) (λ w. BesideUser (vol img) w u) img′
   unfolding deleteUserCall Clear
   delete = called img _ _ _ _ _ (deleted-only (vol img) u) (beside-same (vol img) u)
       (λ W A S c. deleted-step (pages img) (vol img) S (omega arith) u (omega (arith, A)) (c .0) (c .1 .0)) r img′ o

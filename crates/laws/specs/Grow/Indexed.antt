@@ -101,9 +101,9 @@ module _ (P : ℕ) (v : Vol) (hand : ℕ → ℕ) (G : Good P v hand) (pos : 0 <
   -- ---- an empty file: index block b with its first page
   module _ (d b : ℕ) (hd : d < P) (hb : b < P) (pd : 0 < d) (pb : 0 < b) (hand-is : (p : ℕ) → hand p ≡ hit d p + hit b p) (bare : (j : ℕ) → slot v b j ≡ 0)
       (fl : flags (object v e) 30 ≡ 0) (n0 : n ≡ 0) (le : usedPages (user v) a + 2 ≤ given (user v) a) where
-    pub caseA : Grew P v (finish (setSlot v b 0 d) U O a e 1 (pointer 1 b) (usedPages (user v) a + 2)) a e n d hand
+    pub grew-first : Grew P v (finish (setSlot v b 0 d) U O a e 1 (pointer 1 b) (usedPages (user v) a + 2)) a e n d hand
     unfolding Shape rootBy weighR sum Below pageAt
-    caseA = grew P v v₂ _ a e n d 1 b _ 1 (λ g. g b + g d) hand
+    grew-first = grew P v v₂ _ a e n d 1 b _ 1 (λ g. g b + g d) hand
         (finished P v hand G pos big a f ha hf uf (hit b) v₂ K 1 1 b (usedPages (user v) a + 2) (λ g. 0) (λ g. g b + g d) (λ p. 0) R)
         refl (sym (ap suc n0)) (ap (λ (k : ℕ). usedPages (user v) a + k) (sym (need-block n (omega (arith, n0)) (omega (arith, n0)))))
         (λ m h. absurd (let r : ⊥ = omega (arith, n0) in r)) pg
@@ -141,9 +141,9 @@ module _ (P : ℕ) (v : Vol) (hand : ℕ → ℕ) (G : Good P v hand) (pos : 0 <
   -- ---- within one index block: position n of page t
   module _ (d : ℕ) (hd : d < P) (pd : 0 < d) (hand-is : (p : ℕ) → hand p ≡ hit d p) (fl : flags (object v e) 30 ≡ 1) (lt : n < 512)
       (le : usedPages (user v) a + 1 ≤ given (user v) a) where
-    pub caseB : Grew P v (finish (setSlot v t n d) U O a e (suc n) (pointer 1 t) (usedPages (user v) a + 1)) a e n d hand
+    pub grew-onward : Grew P v (finish (setSlot v t n d) U O a e (suc n) (pointer 1 t) (usedPages (user v) a + 1)) a e n d hand
     unfolding Shape rootBy weighR Fill Below weigh pageAt
-    caseB = grew P v v₂ _ a e n d 1 t _ (suc n) (λ g. g d) hand
+    grew-onward = grew P v v₂ _ a e n d 1 t _ (suc n) (λ g. g d) hand
         (finished P v hand G pos big a f ha hf uf (hit t) v₂ K (suc n) 1 t (usedPages (user v) a + 1) (λ g. 0) (λ g. g d) (λ p. 0) R)
         refl refl (ap (λ (k : ℕ). usedPages (user v) a + k) (sym (need-mid n mid)))
         (λ m h. ap (upto m 512) (W .old m h) ∙ sym (ap (λ (r : Root). pageAt v r m) (root-is P v hand G pos big a f ha hf uf 1 fl))) at (λ g. last-mid v₂ (tree 1 t) n g mid ∙ ap g at)

@@ -25,8 +25,8 @@ use Rattle.laws.specs.Frame.Beside.{Beside, still-beside, beside-trans}
 use Rattle.laws.specs.Frame.Places.{only-trans, OnlyAt}
 use Rattle.laws.specs.Frame.Rest.{all-rest, file-le, rest}
 use Rattle.laws.specs.Frame.Still.{SamePlaces, Still, places-sym, places-trans, still-trans}
-use Rattle.laws.specs.Grow.Indexed.{Grew, caseA, caseB}
-use Rattle.laws.specs.Grow.Subindexed.{caseC, caseD, caseE}
+use Rattle.laws.specs.Grow.Indexed.{Grew, grew-first, grew-onward}
+use Rattle.laws.specs.Grow.Subindexed.{grew-raise, grew-onward-sub, grew-block}
 use Rattle.laws.specs.Tree.Slot.{hit-same, slot-same, slot-bare}
 use Rattle.laws.specs.Tree.Weigh.{full-count}
 
@@ -211,18 +211,18 @@ module _ (choose : Vol → ℕ) (P : ℕ) (ch : Chooser P choose) (v : Vol) (S :
         raised : n ≡ 512 → Grew P v (growTo choose P v a f raise) a e n (choose v) (λ p. 0)
         unfolding growTo entered
         raised n5 = rebase (growTo choose P v a f raise) v₃ (λ p. 0 + hit d p + hit b p + hit s p) S3
-            (λ L t. words₃ _ L (t d (omega (arith, hit-same d pd))) (t b (omega (arith, hit-same b pb))) (t s (omega (arith, hit-same s ps)))) (caseC P v₃ (λ p. 0 + hit d p + hit b p + hit s p) G3 pos (omega arith) a f ha hf (subst (λ (O : Table). 0 < used (O e)) (sym o3) uf)
+            (λ L t. words₃ _ L (t d (omega (arith, hit-same d pd))) (t b (omega (arith, hit-same b pb))) (t s (omega (arith, hit-same s ps)))) (grew-raise P v₃ (λ p. 0 + hit d p + hit b p + hit s p) G3 pos (omega arith) a f ha hf (subst (λ (O : Table). 0 < used (O e)) (sym o3) uf)
             d b s (dOk .0) (bOk .0) (sOk .0) pd pb ps (λ p. omega arith) kept₃ bare₃
             (ap (λ (O : Table). flags (O e) 30) o3 ∙ flag-low (omega arith) (omega arith)) (ap (λ (O : Table). two (O e) 26) o3 ∙ n5) (subst (λ (U : Table). usedPages U a + 3 ≤ given U a) (sym u3) (omega (arith, le, most))))
 
       firsted : n ≡ 0 → Grew P v (growTo choose P v a f first) a e n (choose v) (λ p. 0)
       unfolding growTo entered
-      firsted n0 = rebase (growTo choose P v a f first) v₂ (λ p. 0 + hit d p + hit b p) S2 (λ L t. words₂ _ L (t d (omega (arith, hit-same d pd))) (t b (omega (arith, hit-same b pb)))) (caseA P v₂ (λ p. 0 + hit d p + hit b p) G2 pos (omega arith) a f ha hf (subst (λ (O : Table). 0 < used (O e)) (sym o2) uf)
+      firsted n0 = rebase (growTo choose P v a f first) v₂ (λ p. 0 + hit d p + hit b p) S2 (λ L t. words₂ _ L (t d (omega (arith, hit-same d pd))) (t b (omega (arith, hit-same b pb)))) (grew-first P v₂ (λ p. 0 + hit d p + hit b p) G2 pos (omega arith) a f ha hf (subst (λ (O : Table). 0 < used (O e)) (sym o2) uf)
           d b (dOk .0) (bOk .0) pd pb (λ p. omega arith) bare₂ (ap (λ (O : Table). flags (O e) 30) o2 ∙ flag-first n0) (ap (λ (O : Table). two (O e) 26) o2 ∙ n0) (subst (λ (U : Table). usedPages U a + 2 ≤ given U a) (sym u2) (omega (arith, le, more))))
 
       blocked : n % 512 ≡ 0 → 512 < n → Grew P v (growTo choose P v a f block) a e n (choose v) (λ p. 0)
       unfolding growTo entered
-      blocked z hn = rebase (growTo choose P v a f block) v₂ (λ p. 0 + hit d p + hit b p) S2 (λ L t. words₂ _ L (t d (omega (arith, hit-same d pd))) (t b (omega (arith, hit-same b pb)))) (caseE P v₂ (λ p. 0 + hit d p + hit b p) G2 pos (omega arith) a f ha hf (subst (λ (O : Table). 0 < used (O e)) (sym o2) uf)
+      blocked z hn = rebase (growTo choose P v a f block) v₂ (λ p. 0 + hit d p + hit b p) S2 (λ L t. words₂ _ L (t d (omega (arith, hit-same d pd))) (t b (omega (arith, hit-same b pb)))) (grew-block P v₂ (λ p. 0 + hit d p + hit b p) G2 pos (omega arith) a f ha hf (subst (λ (O : Table). 0 < used (O e)) (sym o2) uf)
           d b (dOk .0) (bOk .0) pd pb (λ p. omega arith) bare₂ (ap (λ (O : Table). flags (O e) 30) o2 ∙ flag-high hn) (subst (λ (O : Table). two (O e) 26 < 262144) (sym o2) (small hn)) (ap (λ (O : Table). two (O e) 26 % 512) o2 ∙ z) (subst (λ (U : Table). usedPages U a + 2 ≤ given U a) (sym u2) (omega (arith, le, more))))
 
     plained : 0 < n % 512 → Grew P v (growTo choose P v a f onward) a e n (choose v) (λ p. 0)
@@ -251,8 +251,8 @@ module _ (choose : Vol → ℕ) (P : ℕ) (ch : Chooser P choose) (v : Vol) (S :
             let lt : n < 512 = omega (arith, at 1 q .1) in
             subst (λ (k : ℕ). Grew P v₁ (entered a f v₁ (setSlot v₁ (page (object v₁ e) 30) k d) (suc (two (object v₁ e) 26)) (pointer 1 (page (object v₁ e) 30)) (usedPages (user v₁) a + 1)) a e (two (object v₁ e) 26) d (λ p. 0 + hit d p))
             (let r : two (object v₁ e) 26 ≡ two (object v₁ e) 26 % 512 = omega (arith, n₁, lt) in r)
-            (caseB P v₁ (λ p. 0 + hit d p) G1 pos (omega arith) a f ha hf uf₁ d (dOk .0) pd (λ p. omega arith) q (omega (arith, n₁, lt)) le₁)
-        go (suc (suc zero)) q = caseD P v₁ (λ p. 0 + hit d p) G1 pos (omega arith) a f ha hf uf₁ d (dOk .0) pd (λ p. omega arith) q (omega (arith, n₁, small (at 2 q .0))) (omega (arith, n₁)) le₁
+            (grew-onward P v₁ (λ p. 0 + hit d p) G1 pos (omega arith) a f ha hf uf₁ d (dOk .0) pd (λ p. omega arith) q (omega (arith, n₁, lt)) le₁)
+        go (suc (suc zero)) q = grew-onward-sub P v₁ (λ p. 0 + hit d p) G1 pos (omega arith) a f ha hf uf₁ d (dOk .0) pd (λ p. omega arith) q (omega (arith, n₁, small (at 2 q .0))) (omega (arith, n₁)) le₁
         go (suc (suc (suc x))) q = absurd (at (suc (suc (suc x))) q)
 
     need-block : n % 512 ≡ 0 → 2 ≤ need n

@@ -50,9 +50,9 @@ module _ (P : ℕ) (v : Vol) (hand : ℕ → ℕ) (G : Good P v hand) (pos : 0 <
     abbrev X : ℕ
     X = slot v t (n / 512)
 
-    pub caseD : Grew P v (finish (setSlot v X (n % 512) d) U O a e (suc n) (pointer 2 t) (usedPages (user v) a + 1)) a e n d hand
+    pub grew-onward-sub : Grew P v (finish (setSlot v X (n % 512) d) U O a e (suc n) (pointer 2 t) (usedPages (user v) a + 1)) a e n d hand
     unfolding Shape rootBy weighR Fill Below weigh blocks pageAt
-    caseD = grew P v v₂ _ a e n d 2 t _ (suc n) (λ g. g d) hand
+    grew-onward-sub = grew P v v₂ _ a e n d 2 t _ (suc n) (λ g. g d) hand
         (finished P v hand G pos big a f ha hf uf (hit X) v₂ K (suc n) 2 t (usedPages (user v) a + 1) (λ g. 0) (λ g. g d) (λ p. 0) R)
         refl refl (ap (λ (k : ℕ). usedPages (user v) a + k) (sym (need-mid n mid)))
         (λ m h. ap (upto m 262144) (W .old m h) ∙ sym (ap (λ (r : Root). pageAt v r m) (root-is P v hand G pos big a f ha hf uf 2 fl))) pg (λ g. last-mid v₂ (tree 2 t) n g mid ∙ ap g pg)
@@ -122,9 +122,9 @@ module _ (P : ℕ) (v : Vol) (hand : ℕ → ℕ) (G : Good P v hand) (pos : 0 <
   -- ---- a new index block under the subindex
   module _ (d b : ℕ) (hd : d < P) (hb : b < P) (pd : 0 < d) (pb : 0 < b) (hand-is : (p : ℕ) → hand p ≡ hit d p + hit b p) (bare : (j : ℕ) → slot v b j ≡ 0)
       (fl : flags (object v e) 30 ≡ 2) (lt : n < 262144) (start : n % 512 ≡ 0) (le : usedPages (user v) a + 2 ≤ given (user v) a) where
-    pub caseE : Grew P v (finish (setSlot (setSlot v t (n / 512) b) b 0 d) U O a e (suc n) (pointer 2 t) (usedPages (user v) a + 2)) a e n d hand
+    pub grew-block : Grew P v (finish (setSlot (setSlot v t (n / 512) b) b 0 d) U O a e (suc n) (pointer 2 t) (usedPages (user v) a + 2)) a e n d hand
     unfolding Shape rootBy weighR Fill Below weigh blocks pageAt subindexOf
-    caseE = grew P v v₂ _ a e n d 2 t _ (suc n) (λ g. g b + g d) hand
+    grew-block = grew P v v₂ _ a e n d 2 t _ (suc n) (λ g. g b + g d) hand
         (finished P v hand G pos big a f ha hf uf D v₂ K (suc n) 2 t (usedPages (user v) a + 2) (λ g. 0) (λ g. g b + g d) (λ p. 0) R)
         refl refl (ap (λ (k : ℕ). usedPages (user v) a + k) (sym (need-block n start (omega (arith, S .0)))))
         (λ m h. ap (upto m 262144) (W .old m h) ∙ sym (ap (λ (r : Root). pageAt v r m) (root-is P v hand G pos big a f ha hf uf 2 fl))) pg
@@ -218,9 +218,9 @@ module _ (P : ℕ) (v : Vol) (hand : ℕ → ℕ) (G : Good P v hand) (pos : 0 <
   module _ (d b s : ℕ) (hd : d < P) (hb : b < P) (hs : s < P) (pd : 0 < d) (pb : 0 < b) (ps : 0 < s) (hand-is : (p : ℕ) → hand p ≡ hit d p + hit b p + hit s p)
       (bare : (j : ℕ) → slot v b j ≡ 0) (bare′ : (j : ℕ) → slot v s j ≡ 0)
       (fl : flags (object v e) 30 ≡ 1) (full : n ≡ 512) (le : usedPages (user v) a + 3 ≤ given (user v) a) where
-    pub caseC : Grew P v (finish (setSlot (setSlot (setSlot v s 0 t) s 1 b) b 0 d) U O a e 513 (pointer 2 s) (usedPages (user v) a + 3)) a e n d hand
+    pub grew-raise : Grew P v (finish (setSlot (setSlot (setSlot v s 0 t) s 1 b) b 0 d) U O a e 513 (pointer 2 s) (usedPages (user v) a + 3)) a e n d hand
     unfolding Shape rootBy weighR Fill Below weigh blocks pageAt subindexOf
-    caseC = grew P v v₃ _ a e n d 2 s _ 513 (λ g. g s + (g b + g d)) hand
+    grew-raise = grew P v v₃ _ a e n d 2 s _ 513 (λ g. g s + (g b + g d)) hand
         (finished P v hand G pos big a f ha hf uf D v₃ K 513 2 s (usedPages (user v) a + 3) (λ g. 0) (λ g. g s + (g b + g d)) (λ p. 0) R)
         refl (sym (ap suc full)) (ap (λ (k : ℕ). usedPages (user v) a + k) (sym (need-raise n full)))
         (λ m h. upto-in m 262144 (leaf v₃ 2 s m) (omega (arith, full)) ∙ raise-old P v v₃ D agree 1 t s b d (λ g. g b + g d) pos ps hs s0 s1 so bz F B W m (omega (arith, full))

@@ -88,9 +88,9 @@ module _ (P : ℕ) (v : Vol) (G : Good P v (λ p. 0)) (pos : 0 < P) (big : P ≤
     abbrev d₁ : ℕ
     d₁ = slot v t 0
 
-    pub shrinkA : Lost P v (finish v U O a e 0 (pointer 0 0) (usedPages (user v) a - 2)) a e 0 (λ p. hit p t + hit p d₁) × Real P v e 0 t × Real P v e 0 d₁
+    pub lost-first : Lost P v (finish v U O a e 0 (pointer 0 0) (usedPages (user v) a - 2)) a e 0 (λ p. hit p t + hit p d₁) × Real P v e 0 t × Real P v e 0 d₁
     unfolding Shape rootBy weighR Fill Below weigh Agree
-    shrinkA = (
+    lost-first = (
       lost P v v _ a e 0 0 0 _ (λ g. g t + g d₁) (λ p. hit p t + hit p d₁)
           (finished P v (λ p. 0) G pos big a f ha hf uf (λ x. 0) v K 0 0 0 (usedPages (user v) a - 2) (λ g. g t + g d₁) (λ g. 0) (λ p. hit p t + hit p d₁) record {
             weight = λ g g0. omega (arith, ap (λ (r : Root). weighR v r g) (root-is P v (λ p. 0) G pos big a f ha hf uf 1 fl), W .weight g g0, weigh-none v g g0 1, sum-zero (λ i. g (0 + i)));
@@ -144,9 +144,9 @@ module _ (P : ℕ) (v : Vol) (G : Good P v (λ p. 0)) (pos : 0 < P) (big : P ≤
     abbrev d : ℕ
     d = slot v t m
 
-    pub shrinkB : Lost P v (finish (setSlot v t m 0) U O a e m (pointer 1 t) (usedPages (user v) a - 1)) a e m (λ p. hit p d) × Real P v e m d
+    pub lost-onward : Lost P v (finish (setSlot v t m 0) U O a e m (pointer 1 t) (usedPages (user v) a - 1)) a e m (λ p. hit p d) × Real P v e m d
     unfolding Shape rootBy weighR Fill Below weigh pageAt
-    shrinkB = (
+    lost-onward = (
       lost P v v₂ _ a e m 1 t _ (λ g. g d) (λ p. hit p d)
           (finished P v (λ p. 0) G pos big a f ha hf uf (hit t) v₂ K m 1 t (usedPages (user v) a - 1) (λ g. g d) (λ g. 0) (λ p. hit p d) record {
             weight = λ g g0. omega (arith, ap (λ (r : Root). weighR v r g) (root-is P v (λ p. 0) G pos big a f ha hf uf 1 fl), W .weight g g0);

@@ -50,9 +50,9 @@ module _ (P : ℕ) (v : Vol) (G : Good P v (λ p. 0)) (pos : 0 < P) (big : P ≤
     abbrev d₂ : ℕ
     d₂ = slot v X (m % 512)
 
-    pub shrinkD : Lost P v (finish (setSlot v X (m % 512) 0) U O a e m (pointer 2 t) (usedPages (user v) a - 1)) a e m (λ p. hit p d₂) × Real P v e m d₂
+    pub lost-onward-sub : Lost P v (finish (setSlot v X (m % 512) 0) U O a e m (pointer 2 t) (usedPages (user v) a - 1)) a e m (λ p. hit p d₂) × Real P v e m d₂
     unfolding Shape rootBy weighR Fill Below weigh blocks pageAt
-    shrinkD = (
+    lost-onward-sub = (
       lost P v v₂ _ a e m 2 t _ (λ g. g d₂) (λ p. hit p d₂)
           (finished P v (λ p. 0) G pos big a f ha hf uf (hit X) v₂ K m 2 t (usedPages (user v) a - 1) (λ g. g d₂) (λ g. 0) (λ p. hit p d₂) record {
             weight = λ g g0. omega (arith, whole g, W .weight g g0);
@@ -147,9 +147,9 @@ module _ (P : ℕ) (v : Vol) (G : Good P v (λ p. 0)) (pos : 0 < P) (big : P ≤
     abbrev d₃ : ℕ
     d₃ = slot v b₃ 0
 
-    pub shrinkE : Lost P v (finish (setSlot v t (m / 512) 0) U O a e m (pointer 2 t) (usedPages (user v) a - 2)) a e m (λ p. hit p b₃ + hit p d₃) × Real P v e m b₃ × Real P v e m d₃
+    pub lost-block : Lost P v (finish (setSlot v t (m / 512) 0) U O a e m (pointer 2 t) (usedPages (user v) a - 2)) a e m (λ p. hit p b₃ + hit p d₃) × Real P v e m b₃ × Real P v e m d₃
     unfolding Shape rootBy weighR Fill Below weigh blocks pageAt subindexOf
-    shrinkE = (
+    lost-block = (
       lost P v v₂ _ a e m 2 t _ (λ g. g b₃ + g d₃) (λ p. hit p b₃ + hit p d₃)
           (finished P v (λ p. 0) G pos big a f ha hf uf (hit t) v₂ K m 2 t (usedPages (user v) a - 2) (λ g. g b₃ + g d₃) (λ g. 0) (λ p. hit p b₃ + hit p d₃) record {
             weight = λ g g0. omega (arith, whole g, W .weight g g0);
@@ -238,9 +238,9 @@ module _ (P : ℕ) (v : Vol) (G : Good P v (λ p. 0)) (pos : 0 < P) (big : P ≤
     abbrev d₄ : ℕ
     d₄ = slot v b₄ 0
 
-    pub shrinkC : Lost P v (finish v U O a e 512 (pointer 1 t₄) (usedPages (user v) a - 3)) a e 512 (λ p. hit p t + (hit p b₄ + hit p d₄)) × Real P v e 512 t × Real P v e 512 b₄ × Real P v e 512 d₄
+    pub lost-raise : Lost P v (finish v U O a e 512 (pointer 1 t₄) (usedPages (user v) a - 3)) a e 512 (λ p. hit p t + (hit p b₄ + hit p d₄)) × Real P v e 512 t × Real P v e 512 b₄ × Real P v e 512 d₄
     unfolding Shape rootBy weighR Fill Below weigh Agree subindexOf
-    shrinkC = (
+    lost-raise = (
       lost P v v _ a e 512 1 t₄ _ (λ g. g t + (g b₄ + g d₄)) (λ p. hit p t + (hit p b₄ + hit p d₄))
           (finished P v (λ p. 0) G pos big a f ha hf uf (λ x. 0) v K 512 1 t₄ (usedPages (user v) a - 3) (λ g. g t + (g b₄ + g d₄)) (λ g. 0) (λ p. hit p t + (hit p b₄ + hit p d₄)) record {
             weight = λ g g0. omega (arith, whole g, two-children g g0);

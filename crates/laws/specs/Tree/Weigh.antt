@@ -179,10 +179,10 @@ module _ (v v′ : Vol) (X k d : ℕ) (L : Link v v′ X k d) (g : ℕ → ℕ) 
             omega (arith, mid, h, s, at, no)
       ]
 
-pub leaf-none : (v : Vol) (l n : ℕ) → leaf v l 0 n ≡ 0
+pub leaf-zero : (v : Vol) (l n : ℕ) → leaf v l 0 n ≡ 0
 unfolding leaf
-leaf-none v zero n = refl
-leaf-none v (suc l) n = ap (λ (x : ℕ). leaf v l x (n % 512 ^ l)) (slot-zero v (n / 512 ^ l)) ∙ leaf-none v l (n % 512 ^ l)
+leaf-zero v zero n = refl
+leaf-zero v (suc l) n = ap (λ (x : ℕ). leaf v l x (n % 512 ^ l)) (slot-zero v (n / 512 ^ l)) ∙ leaf-zero v l (n % 512 ^ l)
 
 pub weigh-nobody : (v : Vol) (g : ℕ → ℕ) → ((x : ℕ) → g x ≡ 0) → (l t : ℕ) → weigh v l t g ≡ 0
 unfolding weigh

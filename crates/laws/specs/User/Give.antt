@@ -17,7 +17,7 @@ use Rattle.book.specs.Words.{Vol, vol}
 use Rattle.laws.specs.Call.After.{Called, called}
 use Rattle.laws.specs.Frame.Places.{Places, FieldOf, UnreservedWords, Either, OnlyAt}
 use Rattle.laws.specs.User.Move.{moved-only, moved-step}
-use Rattle.laws.specs.User.Words.{Beside, beside-same}
+use Rattle.laws.specs.User.Words.{BesideUser, beside-same}
 
 -- words 14 and 15 of user u's entry, and the unreserved words
 abbrev pub GivenWords : Vol → ℕ → Places
@@ -26,7 +26,7 @@ GivenWords v u = Either (FieldOf (userPage v u) u 14 2) UnreservedWords
 -- ---- give: unreserved pages become the user's
 
 module _ (img : List ℕ) (u n : ℕ) (r : Numbers ℕ) (img′ : List ℕ) (o : Outcome (giveCall img u n) img r img′) where
-  give : Called img (GivenWords (vol img) u) (λ w. Beside (vol img) w u) img′
+  give : Called img (GivenWords (vol img) u) (λ w. BesideUser (vol img) w u) img′
   unfolding giveCall Clear Rule4
   give = called img _ _ _ _ _ (moved-only (vol img) u _ _) (beside-same (vol img) u)
       (λ W A S c. let h : u < 256 = omega (arith, A .0) in
@@ -51,7 +51,7 @@ module _ (img : List ℕ) (u n : ℕ) (r : Numbers ℕ) (img′ : List ℕ) (o :
 -- ---- take: they go back
 
 module _ (img : List ℕ) (u n : ℕ) (r : Numbers ℕ) (img′ : List ℕ) (o : Outcome (takeCall img u n) img r img′) where
-  take : Called img (GivenWords (vol img) u) (λ w. Beside (vol img) w u) img′
+  take : Called img (GivenWords (vol img) u) (λ w. BesideUser (vol img) w u) img′
   unfolding takeCall Clear Rule4 spare
   take = called img _ _ _ _ _ (moved-only (vol img) u _ _) (beside-same (vol img) u)
       (λ W A S c. let h : u < 256 = omega (arith, A .0) in let w = S .r4 .0 u h (c .0) .within in

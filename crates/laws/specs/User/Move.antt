@@ -16,7 +16,7 @@ use Rattle.laws.specs.Frame.Places.{EntryOf, FieldOf, UnreservedWords, E
 use Rattle.laws.specs.Frame.Renewed.{UserNew}
 use Rattle.laws.specs.Tree.Pointer.{used-ext}
 use Rattle.laws.specs.Tree.Slot.{two-ext}
-use Rattle.laws.specs.User.Words.{Beside, user-has-page, user-now, user-beside, user-sound}
+use Rattle.laws.specs.User.Words.{BesideUser, user-has-page, user-now, user-beside, user-sound}
 
 -- words 14 and 15 of his entry and the unreserved words alone
 pub moved-only : (v : Vol) (u g s : ℕ) → OnlyAt (Either (FieldOf (userPage v u) u 14 2) UnreservedWords) v (moved v u g s)
@@ -77,7 +77,7 @@ module _ (P : ℕ) (v : Vol) (S : Sound P v) (pos : 0 < P) (u : ℕ) (hu : u < 2
   unfolding usedPages
   spent-now = two-ext (user v′ u) (user v u) 16 (kept 16 (omega arith) (omega arith)) (kept 17 (omega arith) (omega arith))
 
-  beside : Beside v v′ u
+  beside : BesideUser v v′ u
   beside = user-beside P v S pos u hu uu v′ only
 
   ok : UserOk (user v) u
@@ -98,7 +98,7 @@ module _ (P : ℕ) (v : Vol) (S : Sound P v) (pos : 0 < P) (u : ℕ) (hu : u < 2
           (SameName-ext (user v x) (user v u) (user v′ x) (user v′ u) (λ k l. else (1 + k) (omega arith)) (λ k l. kept (1 + k) (omega arith) (omega arith)) q));
     }
 
-    pub moved-step : Stepped P (λ w. Beside v w u) (moved v u g s)
+    pub moved-step : Stepped P (λ w. BesideUser v w u) (moved v u g s)
     unfolding v′ Rule10
     moved-step = record {
       sound = user-sound P v S pos u hu uu v′ only new (λ h i q. omega (arith, used-now)) (λ q i. used-now ∙ high-unused P v (S .r5) q u i hu)

@@ -21,13 +21,13 @@ use Rattle.laws.specs.Tree.Slot.{Agree, hit-zero}
 use Rattle.laws.specs.User.Only.{user-there, users-else, user-good}
 
 -- what stands beside user u's entry is as it was: other users, all objects, the pages of their files
-pub record Beside (v v′ : Vol) (u : ℕ) : Type 0 where
+pub record BesideUser (v v′ : Vol) (u : ℕ) : Type 0 where
   pub users : (x : ℕ) → x ≢ u → (k : ℕ) → k < 32 → user v′ x k ≡ user v x k
   pub objects : object v′ ≡ object v
   pub addresses : (e : ℕ) → e < 65536 → (m : ℕ) → pageAt v′ (fileAt v′ e) m ≡ pageAt v (fileAt v e) m
   pub root : objectFile v′ ≡ objectFile v
 
-pub beside-same : (v : Vol) (u : ℕ) → Beside v v u
+pub beside-same : (v : Vol) (u : ℕ) → BesideUser v v u
 beside-same v u = record { users = λ x n k h. refl; objects = refl; addresses = λ e h m. refl; root = refl }
 
 module _ (P : ℕ) (v : Vol) (S : Sound P v) (pos : 0 < P) (u : ℕ) (hu : u < 256) (uu : 0 < used (user v u)) (v′ : Vol)
@@ -70,7 +70,7 @@ module _ (P : ℕ) (v : Vol) (S : Sound P v) (pos : 0 < P) (u : ℕ) (hu : u < 2
   objects : object v′ ≡ object v
   objects = objects-still v v′ roots (hit _) (hit-zero _) agree (user-page P v (λ p. 0) G pos (u / 32) .1)
 
-  pub user-beside : Beside v v′ u
+  pub user-beside : BesideUser v v′ u
   user-beside = record {
     users = λ x n k h. users-else P v (λ p. 0) G pos u hu v′ agree master off x n k h;
     objects = objects;
