@@ -1,5 +1,5 @@
 -- The numbers that each call can be refused with, and the ten rules, in the paper's order: rows of a table, each with the numbers of our table beside the paper's. Assumes nothing.
-use mathlib.Core.Path.{_≡_, refl}
+use mathlib.Core.Path.{refl}
 use mathlib.Core.List.{List, [], _∷_}
 use Prim.Native.Nat.{ℕ}
 use Rattle.book.specs.Words.{Vol}
