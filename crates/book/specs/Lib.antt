@@ -20,6 +20,7 @@ pub mod Delete
 pub mod Format
 pub mod Calls
 pub mod Yard
+pub mod Orders
 pub mod Written
 pub mod Coincide
 pub mod Gate

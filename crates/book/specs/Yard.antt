@@ -11,11 +11,12 @@ use Rattle.book.specs.Bits.{digit, bitWord, bitPlace}
 use Rattle.book.specs.Entries.{entryPage, entryWord, fileEntry, oneMore}
 use Rattle.book.specs.Files.{cost, need}
 
+-- numbers of our definitions beside the paper's
 pub record Row : Type 0 where
   pub ours : List ℕ
   pub paper : List ℕ
 
-abbrev example : List ℕ → List ℕ → Row
+abbrev pub example : List ℕ → List ℕ → Row
 example a b = record { ours = a; paper = b }
 
 -- the two words of a pointer

@@ -9,7 +9,7 @@ use Rattle.book.specs.Words.{vol}
 use Rattle.book.specs.Trees.{pageAt}
 use Rattle.book.specs.Entries.{fileEntry}
 use Rattle.book.specs.Files.{fileAt}
-use Rattle.book.specs.Rows.{Lowest, Above, applies-above, lowest-applies}
+use Rattle.book.specs.Rows.{Lowest, Counted, lowest-counted}
 use Rattle.book.specs.Answers.{Numbers}
 use Rattle.book.specs.Outcome.{asking, call, judged, Outcome, RefusedAs, DoneAs, Gives}
 use Rattle.book.specs.Calls.{addressCall, readCall, positionRows, partAt}
@@ -22,10 +22,9 @@ wordsOf img r = take (r .length) (drop (r .offset) img)
 
 -- a refusal's number is not 0
 refused-above : (img : List ℕ) (u f n m : ℕ) → Lowest (addressCall img u f n .table) m → 0 < m
-unfolding addressCall call asking judged positionRows Above
+unfolding addressCall call asking judged positionRows Counted
 refused-above img u f n m l =
-    applies-above (addressCall img u f n .table) 0 m (omega arith, (omega arith, (omega arith, (omega arith, tt))))
-    (lowest-applies (addressCall img u f n .table) m l)
+    lowest-counted (addressCall img u f n .table) m (omega arith, (omega arith, (omega arith, (omega arith, tt)))) l
 
 empty-part : (img : List ℕ) (r : Part) → r .offset ≡ 0 → r .length ≡ 0 → wordsOf img r ≡ []
 empty-part img r o l = ap (λ (k : ℕ). take k (drop (r .offset) img)) l

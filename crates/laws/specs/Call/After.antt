@@ -7,7 +7,7 @@ use native.Mathlib.Omega.{arith}
 use Rattle.book.specs.Answers.{Numbers}
 use Rattle.book.specs.Image.{pages, Whole}
 use Rattle.book.specs.Outcome.{Call, asking, judged, Outcome, RefusedAs, DoneAs, call}
-use Rattle.book.specs.Rows.{Rows, Clear, Above, lowest-applies, applies-above}
+use Rattle.book.specs.Rows.{Rows, Clear, Counted, lowest-counted}
 use Rattle.book.specs.Rules.{Sound}
 use Rattle.book.specs.Words.{Vol, vol}
 use Rattle.laws.specs.Frame.Places.{Places, OnlyAt}
@@ -31,12 +31,12 @@ module _ {A : Type 0} (img : List ℕ) (args : Type 0) (rest : Rows) (none : A) 
       go (inr x) = step-done s x
 
   -- with number 0 the step was taken: no refusal has it
-  pub after-done : Above rest 3 → r .number ≡ 0 → (Whole img → args → Sound (pages img) (vol img) → Clear rest → Q after) → Q (vol img′)
-  unfolding Outcome asking judged Above
+  pub after-done : Counted rest → r .number ≡ 0 → (Whole img → args → Sound (pages img) (vol img) → Clear rest → Q after) → Q (vol img′)
+  unfolding Outcome asking judged Counted
   after-done a z s = go o
     where
       go : (RefusedAs C img r img′ ⊎ DoneAs C img r img′) → Q (vol img′)
-      go (inl x) = absurd (let h : 0 < r .number = applies-above (C .table) 0 (r .number) (omega arith, (omega arith, (omega arith, a))) (lowest-applies (C .table) (r .number) (x .number)) in omega arith)
+      go (inl x) = absurd (let h : 0 < r .number = lowest-counted (C .table) (r .number) (omega arith, (omega arith, (omega arith, a))) (x .number) in omega arith)
       go (inr x) = step-done s x
 
 module _ {A : Type 0} (img : List ℕ) (args : Type 0) (rest : Rows) (none : A) (gives : A → Type 0) (after : Vol) (r : Numbers A) (img′ : List ℕ)

@@ -1,22 +1,24 @@
 -- A call on another user leaves a user's entry, his files' entries and the addresses of their pages: so it cannot bring about a want of space. Assumes nothing.
-use mathlib.Core.Path.{_≡_, refl, ap, _∙_}
-use mathlib.Core.Logic.{_≢_}
-use mathlib.Core.List.{List}
-use Prim.Native.Nat.{ℕ, suc, _+_, _-_, _*_, _<_}
-use native.Mathlib.Decide.{ℕ-discrete, decLt}
+use mathlib.Core.Path.{_≡_, refl, sym, ap, subst, _∙_}
+use mathlib.Core.Logic.{_≢_, _↔_}
+use mathlib.Core.List.{List, [], _∷_}
+use Prim.Native.Nat.{ℕ, _/_, _<_}
+use native.Mathlib.Decide.{decLt}
 use native.Mathlib.Omega.{arith}
-use Rattle.sums.specs.Search.{lowest-is}
-use Rattle.book.specs.Words.{Vol, vol, two}
+use Rattle.book.specs.Words.{Vol, vol}
 use Rattle.book.specs.Trees.{pageAt}
 use Rattle.book.specs.Entries.{user, object, used, given, usedPages, spare, pageCount, fileEntry, newUser, newFile}
-use Rattle.book.specs.Files.{fileAt}
+use Rattle.book.specs.Files.{fileAt, need}
+use Rattle.book.specs.Image.{pages, Whole, IndexArg}
+use Rattle.book.specs.Pointers.{flags}
+use Rattle.book.specs.Rules.{Sound}
 use Rattle.book.specs.Answers.{Numbers}
 use Rattle.book.specs.Rows.{Clear}
 use Rattle.book.specs.Outcome.{Outcome, call}
-use Rattle.book.specs.Calls.{openCall, growCall, shrinkCall, deleteFileCall, createIndexedCall, createContiguousCall}
+use Rattle.book.specs.Calls.{openCall, growCall, shrinkCall, deleteFileCall, createIndexedCall, createContiguousCall, HasFile, Grows}
 use Rattle.laws.specs.Call.After.{after-call}
 use Rattle.laws.specs.Call.Open.{users-open, objects-open, addresses-open}
-use Rattle.laws.specs.Call.Sequence.{Calling, formats, createsUser, deletesUser, gives, takes, createsIndexed, createsContiguous, grows, shrinks, deletesFile, writes, opens}
+use Rattle.laws.specs.Call.Passes.{whole-all}
 use Rattle.laws.specs.Call.Write.{users-write, objects-write, addresses-write}
 use Rattle.laws.specs.Create.Created.{BesideNew}
 use Rattle.laws.specs.Create.FileCall.{beside-create-indexed, beside-create-contiguous}
@@ -26,9 +28,32 @@ use Rattle.laws.specs.Delete.FileCall.{beside-delete-file}
 use Rattle.laws.specs.Delete.User.{users-delete-user, objects-delete-user, addresses-delete-user}
 use Rattle.laws.specs.Frame.Beside.{Beside}
 use Rattle.laws.specs.Grow.Call.{beside-grow}
+use Rattle.laws.specs.Grow.Space.{space-refused}
 use Rattle.laws.specs.Shrink.Call.{beside-shrink}
+use Rattle.laws.specs.Tree.Pointer.{used-ext}
 use Rattle.laws.specs.Tree.Slot.{two-ext}
 use Rattle.laws.specs.User.Give.{users-give, objects-give, addresses-give, users-take, objects-take, addresses-take}
+use Rattle.laws.specs.Call.Sequence.{
+  Step,
+  asks,
+  formats,
+  formatsDefault,
+  createsUser,
+  deletesUser,
+  gives,
+  takes,
+  createsIndexed,
+  createsContiguous,
+  grows,
+  shrinks,
+  deletesFile,
+  writes,
+  opens,
+  Calling,
+  Calls,
+  asks-left,
+  kept-all,
+}
 
 -- user u's entry, his files' entries and their pages are as they were
 pub record Untouched (u : ℕ) (v v′ : Vol) : Type 0 where
@@ -39,20 +64,27 @@ pub record Untouched (u : ℕ) (v v′ : Vol) : Type 0 where
 same : (u : ℕ) (v : Vol) → Untouched u v v
 same u v = record { own = λ k h. refl; files = λ f i k h. refl; addresses = λ f i m. refl }
 
--- the call is on another user; a format is on all, and a create user on one that is not there yet
-unfoldable pub Aside : {img img′ : List ℕ} → ℕ → Calling img img′ → Type 0
-Aside u (formats name b r o) = ⊥
-Aside u (createsUser name r o) = Unit {0}
-Aside u (deletesUser x r o) = u ≢ x
-Aside u (gives x n r o) = u ≢ x
-Aside u (takes x n r o) = u ≢ x
-Aside u (createsIndexed x name type created r o) = u ≢ x
-Aside u (createsContiguous x name type created n r o) = u ≢ x
-Aside u (grows x g r o) = u ≢ x
-Aside u (shrinks x g r o) = u ≢ x
-Aside u (deletesFile x g r o) = u ≢ x
-Aside u (writes x g n d r o) = u ≢ x
-Aside u (opens x g r o) = u ≢ x
+-- the call is on another user, or only asks; a format is on all, and a create user on one that is not there yet
+unfoldable pub Aside : ℕ → Step → Type 0
+Aside u (asks q) = Unit {0}
+Aside u (formats name b) = ⊥
+Aside u (formatsDefault name) = ⊥
+Aside u (createsUser name) = Unit {0}
+Aside u (deletesUser x) = u ≢ x
+Aside u (gives x n) = u ≢ x
+Aside u (takes x n) = u ≢ x
+Aside u (createsIndexed x name type created) = u ≢ x
+Aside u (createsContiguous x name type created n) = u ≢ x
+Aside u (grows x g) = u ≢ x
+Aside u (shrinks x g) = u ≢ x
+Aside u (deletesFile x g) = u ≢ x
+Aside u (writes x g n d) = u ≢ x
+Aside u (opens x g) = u ≢ x
+
+-- all calls of a list are
+unfoldable pub AllAside : ℕ → List Step → Type 0
+AllAside u [] = Unit {0}
+AllAside u (s ∷ l) = Aside u s × AllAside u l
 
 module _ (u x : ℕ) (hu : u < 256) (ne : u ≢ x) where
   apart : (f g : ℕ) → f < 256 → g < 256 → fileEntry u f ≢ fileEntry x g
@@ -73,10 +105,15 @@ module _ (u x : ℕ) (hu : u < 256) (ne : u ≢ x) where
   }
 
 module _ (u : ℕ) (hu : u < 256) where
-  pub aside : {img img′ : List ℕ} (c : Calling img img′) → 0 < used (user (vol img) u) → Aside u c → Untouched u (vol img) (vol img′)
+  left : (img img′ : List ℕ) → img′ ≡ img → Untouched u (vol img) (vol img′)
+  left img img′ e = subst (λ (i : List ℕ). Untouched u (vol img) (vol i)) (sym e) (same u (vol img))
+
+  pub aside : (s : Step) (img img′ : List ℕ) → Calling s img img′ → 0 < used (user (vol img) u) → Aside u s → Untouched u (vol img) (vol img′)
   unfolding Aside openCall growCall shrinkCall deleteFileCall createIndexedCall createContiguousCall call Clear
-  aside (formats name b r o) q a = absurd a
-  aside {img} {img′} (createsUser name r o) q a = record {
+  aside (asks x) img img′ c q a = left img img′ (asks-left x img img′ c)
+  aside (formats name b) img img′ c q a = absurd a
+  aside (formatsDefault name) img img′ c q a = absurd a
+  aside (createsUser name) img img′ (r, o) q a = record {
     own = users-create-user img name r img′ o u other;
     files = λ f h k j. ap (λ (O : ℕ → ℕ → ℕ). O (fileEntry u f) k) (objects-create-user img name r img′ o);
     addresses = λ f h m. addresses-create-user img name r img′ o (fileEntry u f) (omega arith) m;
@@ -87,47 +124,47 @@ module _ (u : ℕ) (hu : u < 256) where
         | yes h ↦ let z : ⊥ = omega (arith, q, new-unused (vol img) h, ap (λ (y : ℕ). used (user (vol img) y)) e) in z
         | no h ↦ let z : ⊥ = omega arith in z
       ]
-  aside {img} {img′} (deletesUser x r o) q a = record {
+  aside (deletesUser x) img img′ (r, o) q a = record {
     own = users-delete-user img x r img′ o u a;
     files = λ f h k j. ap (λ (w : ℕ → ℕ). w k) (objects-delete-user img x r img′ o (fileEntry u f));
     addresses = λ f h m. addresses-delete-user img x r img′ o (fileEntry u f) (omega arith) m;
   }
-  aside {img} {img′} (gives x n r o) q a = record {
+  aside (gives x n) img img′ (r, o) q a = record {
     own = users-give img x n r img′ o u a;
     files = λ f h k j. ap (λ (w : ℕ → ℕ). w k) (objects-give img x n r img′ o (fileEntry u f));
     addresses = λ f h m. addresses-give img x n r img′ o (fileEntry u f) (omega arith) m;
   }
-  aside {img} {img′} (takes x n r o) q a = record {
+  aside (takes x n) img img′ (r, o) q a = record {
     own = users-take img x n r img′ o u a;
     files = λ f h k j. ap (λ (w : ℕ → ℕ). w k) (objects-take img x n r img′ o (fileEntry u f));
     addresses = λ f h m. addresses-take img x n r img′ o (fileEntry u f) (omega arith) m;
   }
-  aside {img} {img′} (createsIndexed x name type created r o) q a = elim (decLt (newFile (vol img) x) 256) [
+  aside (createsIndexed x name type created) img img′ (r, o) q a = elim (decLt (newFile (vol img) x) 256) [
     | yes h ↦ file-beside u x hu a (vol img) (vol img′) (newFile (vol img) x) h (beside-create-indexed img x name type created r img′ o)
     | no h ↦ after-call img _ _ 0 _ _ r img′ o (Untouched u (vol img)) (same u (vol img)) (λ W b S c. absurd (h (c .1 .1 .0)))
   ]
-  aside {img} {img′} (createsContiguous x name type created n r o) q a = elim (decLt (newFile (vol img) x) 256) [
+  aside (createsContiguous x name type created n) img img′ (r, o) q a = elim (decLt (newFile (vol img) x) 256) [
     | yes h ↦ file-beside u x hu a (vol img) (vol img′) (newFile (vol img) x) h (beside-create-contiguous img x name type created n r img′ o)
     | no h ↦ after-call img _ _ 0 _ _ r img′ o (Untouched u (vol img)) (same u (vol img)) (λ W b S c. absurd (h (c .1 .1 .0)))
   ]
-  aside {img} {img′} (grows x g r o) q a = elim (decLt g 256) [
+  aside (grows x g) img img′ (r, o) q a = elim (decLt g 256) [
     | yes h ↦ beside u x hu a _ (vol img) (vol img′) g h (beside-grow img x g r img′ o)
     | no h ↦ after-call img _ _ 0 _ _ r img′ o (Untouched u (vol img)) (same u (vol img)) (λ W b S c. absurd (let z : ⊥ = omega (arith, b .1) in z))
   ]
-  aside {img} {img′} (shrinks x g r o) q a = elim (decLt g 256) [
+  aside (shrinks x g) img img′ (r, o) q a = elim (decLt g 256) [
     | yes h ↦ beside u x hu a _ (vol img) (vol img′) g h (beside-shrink img x g r img′ o)
     | no h ↦ after-call img _ _ 0 _ _ r img′ o (Untouched u (vol img)) (same u (vol img)) (λ W b S c. absurd (let z : ⊥ = omega (arith, b .1) in z))
   ]
-  aside {img} {img′} (deletesFile x g r o) q a = elim (decLt g 256) [
+  aside (deletesFile x g) img img′ (r, o) q a = elim (decLt g 256) [
     | yes h ↦ beside u x hu a _ (vol img) (vol img′) g h (beside-delete-file img x g r img′ o)
     | no h ↦ after-call img _ _ 0 _ _ r img′ o (Untouched u (vol img)) (same u (vol img)) (λ W b S c. absurd (let z : ⊥ = omega (arith, b .1) in z))
   ]
-  aside {img} {img′} (writes x g n d r o) q a = record {
+  aside (writes x g n d) img img′ (r, o) q a = record {
     own = λ k h. ap (λ (w : ℕ → ℕ). w k) (users-write img x g n d r img′ o u);
     files = λ f h k j. ap (λ (w : ℕ → ℕ). w k) (objects-write img x g n d r img′ o (fileEntry u f));
     addresses = λ f h m. addresses-write img x g n d r img′ o (fileEntry u f) (omega arith) m;
   }
-  aside {img} {img′} (opens x g r o) q a = elim (decLt g 256) [
+  aside (opens x g) img img′ (r, o) q a = elim (decLt g 256) [
     | yes i ↦ record {
       own = λ k h. ap (λ (w : ℕ → ℕ). w k) (users-open img x g r img′ o u);
       files = λ f h k j. objects-open img x g r img′ o (fileEntry u f) k j (λ e. absurd (apart u x hu a f g h i e));
@@ -136,14 +173,73 @@ module _ (u : ℕ) (hu : u < 256) where
     | no h ↦ after-call img _ _ 0 _ _ r img′ o (Untouched u (vol img)) (same u (vol img)) (λ W b S c. absurd (let z : ⊥ = omega (arith, b .1) in z))
   ]
 
--- so what growing a file of his asks for, and what he has left, stay
-pub space-others : (u : ℕ) → u < 256 → {img img′ : List ℕ} (c : Calling img img′) → 0 < used (user (vol img) u) → Aside u c
-    → (spare (vol img′) u ≡ spare (vol img) u) × ((f : ℕ) → f < 256 → pageCount (object (vol img′) (fileEntry u f)) ≡ pageCount (object (vol img) (fileEntry u f)))
-unfolding spare given usedPages
-space-others u hu {img} {img′} c q a =
-    let t : Untouched u (vol img) (vol img′) = aside u hu c q a in
-    let g = two-ext (user (vol img′) u) (user (vol img) u) 14 (t .own 14 (omega arith)) (t .own 15 (omega arith)) in
-    let s = two-ext (user (vol img′) u) (user (vol img) u) 16 (t .own 16 (omega arith)) (t .own 17 (omega arith)) in (
-      omega (arith, g, s),
-      (λ f h. two-ext (object (vol img′) (fileEntry u f)) (object (vol img) (fileEntry u f)) 26 (t .files f h 26 (omega arith)) (t .files f h 27 (omega arith))),
+  then : (a b c : Vol) → Untouched u a b → Untouched u b c → Untouched u a c
+  then a b c s t = record {
+    own = λ k h. t .own k h ∙ s .own k h;
+    files = λ f i k h. t .files f i k h ∙ s .files f i k h;
+    addresses = λ f i m. t .addresses f i m ∙ s .addresses f i m;
+  }
+
+  -- and so does any sequence of such calls
+  pub aside-all : (l : List Step) (img img′ : List ℕ) → Calls l img img′ → 0 < used (user (vol img) u) → AllAside u l → Untouched u (vol img) (vol img′)
+  unfolding Calls AllAside
+  aside-all [] img img′ e q a = left img img′ e
+  aside-all (s ∷ l) img img′ (next, c, cs) q a =
+      let t : Untouched u (vol img) (vol next) = aside s img next c q (a .0) in
+      then (vol img) (vol next) (vol img′) t (aside-all l next img′ cs (subst (λ (x : ℕ). 0 < x) (sym (used-ext _ _ (t .own 0 (omega arith)))) q) (a .1))
+
+-- ---- so what growing a file of his asks for, and what he has left, stay
+
+module _ (u : ℕ) (v v′ : Vol) (t : Untouched u v v′) where
+  spare-stays : spare v′ u ≡ spare v u
+  unfolding spare given usedPages
+  spare-stays =
+      let g = two-ext (user v′ u) (user v u) 14 (t .own 14 (omega arith)) (t .own 15 (omega arith)) in
+      let s = two-ext (user v′ u) (user v u) 16 (t .own 16 (omega arith)) (t .own 17 (omega arith)) in
+      omega (arith, g, s)
+
+  module _ (f : ℕ) (hf : f < 256) where
+    pages-stay : pageCount (object v′ (fileEntry u f)) ≡ pageCount (object v (fileEntry u f))
+    pages-stay = two-ext (object v′ (fileEntry u f)) (object v (fileEntry u f)) 26 (t .files f hf 26 (omega arith)) (t .files f hf 27 (omega arith))
+
+    file-stays : HasFile v u f → HasFile v′ u f
+    file-stays h = (
+      subst (λ (x : ℕ). 0 < x) (sym (used-ext _ _ (t .own 0 (omega arith)))) (h .0),
+      subst (λ (x : ℕ). 0 < x) (sym (used-ext _ _ (t .files f hf 0 (omega arith)))) (h .1),
     )
+
+    kind-stays : Grows v (fileEntry u f) → Grows v′ (fileEntry u f)
+    unfolding flags
+    kind-stays k r = k (sym (ap (λ (x : ℕ). x / 16384) (t .files f hf 30 (omega arith))) ∙ r .0, omega (arith, r .1, pages-stay))
+
+pub space-others : (u : ℕ) → u < 256 → (l : List Step) (img img′ : List ℕ) → Calls l img img′ → 0 < used (user (vol img) u) → AllAside u l
+    → (spare (vol img′) u ≡ spare (vol img) u) × ((f : ℕ) → f < 256 → pageCount (object (vol img′) (fileEntry u f)) ≡ pageCount (object (vol img) (fileEntry u f)))
+space-others u hu l img img′ cs q a =
+    let t : Untouched u (vol img) (vol img′) = aside-all u hu l img img′ cs q a in (spare-stays u _ _ t, pages-stay u _ _ t)
+
+-- growing an existing indexed file is refused for space after any calls on others exactly if it is before them
+module _ (u f : ℕ) (A : IndexArg u × IndexArg f) (img img′ : List ℕ) (W : Whole img) (S : Sound (pages img) (vol img)) (H : HasFile (vol img) u f) (K : Grows (vol img) (fileEntry u f))
+    (l : List Step) (cs : Calls l img img′) (a : AllAside u l) where
+  pub space-stays : (r s : Numbers ℕ) (i j : List ℕ) → Outcome (growCall img u f) img r i → Outcome (growCall img′ u f) img′ s j → (r .number ≡ 9) ↔ (s .number ≡ 9)
+  space-stays r s i j o p = (
+    (λ q. later .1 (omega (arith, now .0 q, spare-same, need-same))),
+    (λ q. now .1 (omega (arith, later .0 q, spare-same, need-same))),
+  )
+    where
+      hf : f < 256
+      hf = omega (arith, A .1)
+
+      t : Untouched u (vol img) (vol img′)
+      t = aside-all u (omega (arith, A .0)) l img img′ cs (H .0) a
+
+      spare-same : spare (vol img′) u ≡ spare (vol img) u
+      spare-same = spare-stays u (vol img) (vol img′) t
+
+      need-same : need (pageCount (object (vol img′) (fileEntry u f))) ≡ need (pageCount (object (vol img) (fileEntry u f)))
+      need-same = ap need (pages-stay u (vol img) (vol img′) t f hf)
+
+      now : (r .number ≡ 9) ↔ (spare (vol img) u < need (pageCount (object (vol img) (fileEntry u f))))
+      now = space-refused img u f W A S H K r i o
+
+      later : (s .number ≡ 9) ↔ (spare (vol img′) u < need (pageCount (object (vol img′) (fileEntry u f))))
+      later = space-refused img′ u f (whole-all l img img′ cs W) A (kept-all l img img′ cs S) (file-stays u (vol img) (vol img′) t f hf H) (kind-stays u (vol img) (vol img′) t f hf K) s j p

@@ -6,12 +6,12 @@ use Prim.Native.Nat.{ℕ, _<_}
 use native.Mathlib.Omega.{arith}
 use Rattle.book.specs.Answers.{Numbers}
 use Rattle.book.specs.Outcome.{Call, Outcome, DoneAs, RefusedAs}
-use Rattle.book.specs.Rows.{Clear, Above, lowest-applies, applies-above, clear-none, Rows, end, row, Applies, Lowest, lowest-one}
+use Rattle.book.specs.Rows.{Clear, Counted, lowest-applies, lowest-counted, clear-none, Rows, end, row, Applies, Lowest, lowest-one}
 
 -- no refusal has number 0
-pub done : {A : Type 0} (C : Call A) (img : List ℕ) (r : Numbers A) (img′ : List ℕ) → Above (C .table) 0 → Outcome C img r img′ → r .number ≡ 0 → DoneAs C img r img′
+pub done : {A : Type 0} (C : Call A) (img : List ℕ) (r : Numbers A) (img′ : List ℕ) → Counted (C .table) → Outcome C img r img′ → r .number ≡ 0 → DoneAs C img r img′
 unfolding Outcome
-done C img r img′ a (inl x) z = absurd (let h : 0 < r .number = applies-above (C .table) 0 (r .number) a (lowest-applies (C .table) (r .number) (x .number)) in omega arith)
+done C img r img′ a (inl x) z = absurd (let h : 0 < r .number = lowest-counted (C .table) (r .number) a (x .number) in omega arith)
 done C img r img′ a (inr x) z = x
 
 pub clear-done : {A : Type 0} (C : Call A) (img : List ℕ) (r : Numbers A) (img′ : List ℕ) → Clear (C .table) → Outcome C img r img′ → DoneAs C img r img′

@@ -1,7 +1,7 @@
 -- From an image that check passes, any sequence of calls leaves one that check passes. Assumes nothing.
-use mathlib.Core.Path.{_≡_, refl, sym, ap, _∙_, subst}
-use mathlib.Core.Logic.{_⊎_, inl, inr}
-use mathlib.Core.List.{List}
+use mathlib.Core.Path.{_≡_, ap, _∙_}
+use mathlib.Core.Logic.{inl, inr}
+use mathlib.Core.List.{List, [], _∷_}
 use Prim.Native.Nat.{ℕ, _/_, _%_}
 use native.Mathlib.Omega.{arith}
 use lib.ListN.{length}
@@ -10,9 +10,9 @@ use Rattle.book.specs.Rules.{Sound}
 use Rattle.book.specs.Rows.{end, Lowest, Clear, lowest-applies, clear-none}
 use Rattle.book.specs.Answers.{Numbers}
 use Rattle.book.specs.Image.{pages, Whole}
-use Rattle.book.specs.Outcome.{Call, call, asking, judged, Outcome, RefusedAs, DoneAs}
+use Rattle.book.specs.Outcome.{Call, call, asking, judged, Outcome}
 use Rattle.book.specs.Calls.{checkCall}
-use Rattle.laws.specs.Call.Sequence.{Calling, formats, createsUser, deletesUser, gives, takes, createsIndexed, createsContiguous, grows, shrinks, deletesFile, writes, opens, Calls, none, more, kept-all}
+use Rattle.laws.specs.Call.Sequence.{Step, made, Calls, kept-all}
 
 -- ---- no call changes the length
 
@@ -21,23 +21,16 @@ unfolding Outcome
 outcome-size C img img′ r (inl x) = ap length (x .image)
 outcome-size C img img′ r (inr x) = x .size
 
-size-one : {img img′ : List ℕ} → Calling img img′ → length img′ ≡ length img
-size-one {img} {img′} (formats name b r o) = outcome-size _ img img′ r o
-size-one {img} {img′} (createsUser name r o) = outcome-size _ img img′ r o
-size-one {img} {img′} (deletesUser u r o) = outcome-size _ img img′ r o
-size-one {img} {img′} (gives u n r o) = outcome-size _ img img′ r o
-size-one {img} {img′} (takes u n r o) = outcome-size _ img img′ r o
-size-one {img} {img′} (createsIndexed u name type created r o) = outcome-size _ img img′ r o
-size-one {img} {img′} (createsContiguous u name type created n r o) = outcome-size _ img img′ r o
-size-one {img} {img′} (grows u f r o) = outcome-size _ img img′ r o
-size-one {img} {img′} (shrinks u f r o) = outcome-size _ img img′ r o
-size-one {img} {img′} (deletesFile u f r o) = outcome-size _ img img′ r o
-size-one {img} {img′} (writes u f n d r o) = outcome-size _ img img′ r o
-size-one {img} {img′} (opens u f r o) = outcome-size _ img img′ r o
+pub size-all : (l : List Step) (img img′ : List ℕ) → Calls l img img′ → length img′ ≡ length img
+unfolding Calls
+size-all [] img img′ e = ap length e
+size-all (s ∷ l) img img′ (next, c, cs) = size-all l next img′ cs ∙ outcome-size (made s img .1) img next (c .0) (c .1)
 
-pub size-all : {img img′ : List ℕ} → Calls img img′ → length img′ ≡ length img
-size-all none = refl
-size-all (more c cs) = size-all cs ∙ size-one c
+pub whole-all : (l : List Step) (img img′ : List ℕ) → Calls l img img′ → Whole img → Whole img′
+whole-all l img img′ cs W =
+    let e : length img′ ≡ length img = size-all l img img′ cs in
+    let p : pages img′ ≡ pages img = ap (λ (n : ℕ). n / 1024) e in
+    record { even = ap (λ (n : ℕ). n % 1024) e ∙ W .even; least = omega (arith, W .least, p); most = omega (arith, W .most, p) }
 
 -- ---- check passes exactly when the image is whole and sound
 
@@ -58,8 +51,5 @@ sound-passes img r (inr x) w s = x .number
 sound-passes img r (inl x) w s = absurd (clear-none (checkCall img .table) (w, (tt, (s, tt))) (r .number) (lowest-applies (checkCall img .table) (r .number) (x .number)))
 
 -- whatever the two checks came back with, by their contracts
-pub checked-all : {img img′ : List ℕ} → Calls img img′ → (r s : Numbers ℕ) → Outcome (checkCall img) img r img → Outcome (checkCall img′) img′ s img′ → r .number ≡ 0 → s .number ≡ 0
-checked-all {img} {img′} cs r s a b z =
-    let p = passes-sound img r a z in let l : length img′ ≡ length img = size-all cs in
-    sound-passes img′ s b (record { even = ap (λ (n : ℕ). n % 1024) l ∙ p .0 .even; least = omega (arith, p .0 .least, ap (λ (n : ℕ). n / 1024) l); most = omega (arith, p .0 .most, ap (λ (n : ℕ). n / 1024) l) })
-    (kept-all cs (p .1))
+pub checked-all : (l : List Step) (img img′ : List ℕ) → Calls l img img′ → (r s : Numbers ℕ) → Outcome (checkCall img) img r img → Outcome (checkCall img′) img′ s img′ → r .number ≡ 0 → s .number ≡ 0
+checked-all l img img′ cs r s a b z = let p = passes-sound img r a z in sound-passes img′ s b (whole-all l img img′ cs (p .0)) (kept-all l img img′ cs (p .1))

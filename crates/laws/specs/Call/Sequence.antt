@@ -1,13 +1,37 @@
 -- Any sequence of calls, with any arguments, keeps a sound image sound. Assumes nothing.
-use mathlib.Core.Path.{_≡_}
-use mathlib.Core.List.{List}
+use mathlib.Core.Path.{_≡_, refl, sym, subst, _∙_}
+use mathlib.Core.Logic.{inl, inr}
+use mathlib.Core.List.{List, [], _∷_}
 use Prim.Native.Nat.{ℕ}
 use Rattle.book.specs.Words.{vol}
 use Rattle.book.specs.Rules.{Sound}
 use Rattle.book.specs.Answers.{Numbers}
 use Rattle.book.specs.Image.{pages}
-use Rattle.book.specs.Outcome.{Outcome}
-use Rattle.book.specs.Calls.{formatCall, createUserCall, deleteUserCall, giveCall, takeCall, createIndexedCall, createContiguousCall, growCall, shrinkCall, deleteFileCall, writeCall, openCall}
+use Rattle.book.specs.Outcome.{Call, call, asking, Outcome}
+use Rattle.book.specs.Coincide.{vol-ext}
+use Rattle.book.specs.Format.{middle}
+use Rattle.book.specs.Calls.{
+  checkCall,
+  findUserCall,
+  findFileCall,
+  addressCall,
+  whoCall,
+  readCall,
+  formatCall,
+  formatDefaultCall,
+  createUserCall,
+  deleteUserCall,
+  giveCall,
+  takeCall,
+  createIndexedCall,
+  createContiguousCall,
+  growCall,
+  shrinkCall,
+  deleteFileCall,
+  writeCall,
+  openCall,
+}
+use Rattle.book.specs.declared.Holder.{Holder}
 use Rattle.laws.specs.Call.Open.{kept-open}
 use Rattle.laws.specs.Call.Write.{kept-write}
 use Rattle.laws.specs.Create.FileCall.{kept-create-indexed, kept-create-contiguous}
@@ -19,40 +43,104 @@ use Rattle.laws.specs.Grow.Call.{kept-grow}
 use Rattle.laws.specs.Shrink.Call.{kept-shrink}
 use Rattle.laws.specs.User.Give.{kept-give, kept-take}
 
--- from an image to the image after one call, whatever it came back with; calls that change nothing leave the image, by their outcome
-pub data Calling (img img′ : List ℕ) : Type 0 where
-  formats : (name : List ℕ) (b : ℕ) (r : Numbers ℕ) → Outcome (formatCall img name b) img r img′ → Calling img img′
-  createsUser : (name : List ℕ) (r : Numbers ℕ) → Outcome (createUserCall img name) img r img′ → Calling img img′
-  deletesUser : (u : ℕ) (r : Numbers ℕ) → Outcome (deleteUserCall img u) img r img′ → Calling img img′
-  gives : (u n : ℕ) (r : Numbers ℕ) → Outcome (giveCall img u n) img r img′ → Calling img img′
-  takes : (u n : ℕ) (r : Numbers ℕ) → Outcome (takeCall img u n) img r img′ → Calling img img′
-  createsIndexed : (u : ℕ) (name type : List ℕ) (created : ℕ) (r : Numbers ℕ) → Outcome (createIndexedCall img u name type created) img r img′ → Calling img img′
-  createsContiguous : (u : ℕ) (name type : List ℕ) (created n : ℕ) (r : Numbers ℕ) → Outcome (createContiguousCall img u name type created n) img r img′ → Calling img img′
-  grows : (u f : ℕ) (r : Numbers ℕ) → Outcome (growCall img u f) img r img′ → Calling img img′
-  shrinks : (u f : ℕ) (r : Numbers ℕ) → Outcome (shrinkCall img u f) img r img′ → Calling img img′
-  deletesFile : (u f : ℕ) (r : Numbers ℕ) → Outcome (deleteFileCall img u f) img r img′ → Calling img img′
-  writes : (u f n : ℕ) (d : List ℕ) (r : Numbers ℕ) → Outcome (writeCall img u f n d) img r img′ → Calling img img′
-  opens : (u f : ℕ) (r : Numbers ℕ) → Outcome (openCall img u f) img r img′ → Calling img img′
+-- the six calls that only ask, with their arguments
+pub data Question : Type 0 where
+  check : Question
+  findUser : (name : List ℕ) → Question
+  findFile : (u : ℕ) (name type : List ℕ) → Question
+  address : (u f n : ℕ) → Question
+  whoHolds : (p : ℕ) → Question
+  readPage : (u f n : ℕ) → Question
+
+-- the eighteen calls, with their arguments; a format by default too
+pub data Step : Type 0 where
+  asks : Question → Step
+  formats : (name : List ℕ) (b : ℕ) → Step
+  formatsDefault : (name : List ℕ) → Step
+  createsUser : (name : List ℕ) → Step
+  deletesUser : (u : ℕ) → Step
+  gives : (u n : ℕ) → Step
+  takes : (u n : ℕ) → Step
+  createsIndexed : (u : ℕ) (name type : List ℕ) (created : ℕ) → Step
+  createsContiguous : (u : ℕ) (name type : List ℕ) (created n : ℕ) → Step
+  grows : (u f : ℕ) → Step
+  shrinks : (u f : ℕ) → Step
+  deletesFile : (u f : ℕ) → Step
+  writes : (u f n : ℕ) (d : List ℕ) → Step
+  opens : (u f : ℕ) → Step
+
+-- the book's call on an image, after the type of its value
+abbrev pub asked : Question → List ℕ → (A : Type 0) × Call A
+asked check img = (ℕ, checkCall img)
+asked (findUser name) img = (ℕ, findUserCall img name)
+asked (findFile u name type) img = (ℕ, findFileCall img u name type)
+asked (address u f n) img = (ℕ, addressCall img u f n)
+asked (whoHolds p) img = (Holder, whoCall img p)
+asked (readPage u f n) img = (List ℕ, readCall img u f n)
+
+abbrev pub made : Step → List ℕ → (A : Type 0) × Call A
+made (asks q) img = asked q img
+made (formats name b) img = (ℕ, formatCall img name b)
+made (formatsDefault name) img = (ℕ, formatDefaultCall img name)
+made (createsUser name) img = (ℕ, createUserCall img name)
+made (deletesUser u) img = (ℕ, deleteUserCall img u)
+made (gives u n) img = (ℕ, giveCall img u n)
+made (takes u n) img = (ℕ, takeCall img u n)
+made (createsIndexed u name type created) img = (ℕ, createIndexedCall img u name type created)
+made (createsContiguous u name type created n) img = (ℕ, createContiguousCall img u name type created n)
+made (grows u f) img = (ℕ, growCall img u f)
+made (shrinks u f) img = (ℕ, shrinkCall img u f)
+made (deletesFile u f) img = (ℕ, deleteFileCall img u f)
+made (writes u f n d) img = (ℕ, writeCall img u f n d)
+made (opens u f) img = (ℕ, openCall img u f)
+
+-- from an image to the image after one call, whatever it came back with
+abbrev pub Calling : Step → List ℕ → List ℕ → Type 0
+Calling s img img′ = (r : Numbers (made s img .0)) × Outcome (made s img .1) img r img′
 
 -- one call after the other
-pub data Calls : List ℕ → List ℕ → Type 0 where
-  none : {img : List ℕ} → Calls img img
-  more : {a b c : List ℕ} → Calling a b → Calls b c → Calls a c
+unfoldable pub Calls : List Step → List ℕ → List ℕ → Type 0
+Calls [] img img′ = img′ ≡ img
+Calls (s ∷ l) img img′ = (next : List ℕ) × Calling s img next × Calls l next img′
 
-pub kept-one : {img img′ : List ℕ} → Calling img img′ → Sound (pages img) (vol img) → Sound (pages img′) (vol img′)
-kept-one {img} {img′} (formats name b r o) = kept-format img name b r img′ o
-kept-one {img} {img′} (createsUser name r o) = kept-create-user img name r img′ o
-kept-one {img} {img′} (deletesUser u r o) = kept-delete-user img u r img′ o
-kept-one {img} {img′} (gives u n r o) = kept-give img u n r img′ o
-kept-one {img} {img′} (takes u n r o) = kept-take img u n r img′ o
-kept-one {img} {img′} (createsIndexed u name type created r o) = kept-create-indexed img u name type created r img′ o
-kept-one {img} {img′} (createsContiguous u name type created n r o) = kept-create-contiguous img u name type created n r img′ o
-kept-one {img} {img′} (grows u f r o) = kept-grow img u f r img′ o
-kept-one {img} {img′} (shrinks u f r o) = kept-shrink img u f r img′ o
-kept-one {img} {img′} (deletesFile u f r o) = kept-delete-file img u f r img′ o
-kept-one {img} {img′} (writes u f n d r o) = kept-write img u f n d r img′ o
-kept-one {img} {img′} (opens u f r o) = kept-open img u f r img′ o
+-- ---- laws
 
-pub kept-all : {img img′ : List ℕ} → Calls img img′ → Sound (pages img) (vol img) → Sound (pages img′) (vol img′)
-kept-all none S = S
-kept-all (more c cs) S = kept-all cs (kept-one c S)
+-- a call that leaves the volume leaves the image
+left : {A : Type 0} (C : Call A) (img img′ : List ℕ) (r : Numbers A) → C .after ≡ vol img → Outcome C img r img′ → img′ ≡ img
+unfolding Outcome
+left C img img′ r e (inl x) = x .image
+left C img img′ r e (inr x) = vol-ext img′ img (x .size) (x .image ∙ e)
+
+-- so asking does
+pub asks-left : (q : Question) (img img′ : List ℕ) → Calling (asks q) img img′ → img′ ≡ img
+unfolding checkCall findUserCall findFileCall addressCall whoCall readCall call asking
+asks-left check img img′ (r, o) = left (checkCall img) img img′ r refl o
+asks-left (findUser name) img img′ (r, o) = left (findUserCall img name) img img′ r refl o
+asks-left (findFile u name type) img img′ (r, o) = left (findFileCall img u name type) img img′ r refl o
+asks-left (address u f n) img img′ (r, o) = left (addressCall img u f n) img img′ r refl o
+asks-left (whoHolds p) img img′ (r, o) = left (whoCall img p) img img′ r refl o
+asks-left (readPage u f n) img img′ (r, o) = left (readCall img u f n) img img′ r refl o
+
+kept-left : (img img′ : List ℕ) → img′ ≡ img → Sound (pages img) (vol img) → Sound (pages img′) (vol img′)
+kept-left img img′ e = subst (λ (i : List ℕ). Sound (pages i) (vol i)) (sym e)
+
+pub kept-one : (s : Step) (img img′ : List ℕ) → Calling s img img′ → Sound (pages img) (vol img) → Sound (pages img′) (vol img′)
+kept-one (asks q) img img′ c = kept-left img img′ (asks-left q img img′ c)
+kept-one (formats name b) img img′ (r, o) = kept-format img name b r img′ o
+kept-one (formatsDefault name) img img′ (r, o) = kept-format img name (middle (pages img)) r img′ o
+kept-one (createsUser name) img img′ (r, o) = kept-create-user img name r img′ o
+kept-one (deletesUser u) img img′ (r, o) = kept-delete-user img u r img′ o
+kept-one (gives u n) img img′ (r, o) = kept-give img u n r img′ o
+kept-one (takes u n) img img′ (r, o) = kept-take img u n r img′ o
+kept-one (createsIndexed u name type created) img img′ (r, o) = kept-create-indexed img u name type created r img′ o
+kept-one (createsContiguous u name type created n) img img′ (r, o) = kept-create-contiguous img u name type created n r img′ o
+kept-one (grows u f) img img′ (r, o) = kept-grow img u f r img′ o
+kept-one (shrinks u f) img img′ (r, o) = kept-shrink img u f r img′ o
+kept-one (deletesFile u f) img img′ (r, o) = kept-delete-file img u f r img′ o
+kept-one (writes u f n d) img img′ (r, o) = kept-write img u f n d r img′ o
+kept-one (opens u f) img img′ (r, o) = kept-open img u f r img′ o
+
+pub kept-all : (l : List Step) (img img′ : List ℕ) → Calls l img img′ → Sound (pages img) (vol img) → Sound (pages img′) (vol img′)
+unfolding Calls
+kept-all [] img img′ e S = kept-left img img′ e S
+kept-all (s ∷ l) img img′ (next, c, cs) S = kept-all l next img′ cs (kept-one s img next c S)

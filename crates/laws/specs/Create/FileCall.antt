@@ -11,7 +11,7 @@ use Rattle.book.specs.Entries.{user, userPage, objectPage, fileEntry, newFile, 
 use Rattle.book.specs.Image.{pages, Whole, IndexArg, CountArg}
 use Rattle.book.specs.Names.{NameText, TypeText}
 use Rattle.book.specs.Outcome.{Outcome, DoneAs, call, asking, judged}
-use Rattle.book.specs.Rows.{Clear, Above}
+use Rattle.book.specs.Rows.{Clear, Counted}
 use Rattle.book.specs.Rules.{Sound}
 use Rattle.book.specs.Words.{Vol, vol}
 use Rattle.laws.specs.Bits.Choose.{lowest-chooser}
@@ -80,7 +80,7 @@ module _ (img : List ℕ) (u : ℕ) (name type : List ℕ) (created : ℕ) where
     -- done: the index returned is the lowest unused one, and the file is there
     module _ (z : r .number ≡ 0) where
       pub create-indexed-done : DoneAs (createIndexedCall img u name type created) img r img′
-      unfolding createIndexedCall call asking judged Above
+      unfolding createIndexedCall call asking judged Counted
       create-indexed-done = done (createIndexedCall img u name type created) img r img′ (omega arith, (omega arith, (omega arith, (omega arith, (omega arith, (omega arith, (omega arith, tt))))))) o z
 
       pub create-indexed-value : r .value ≡ newFile v u
@@ -133,7 +133,7 @@ module _ (img : List ℕ) (u : ℕ) (name type : List ℕ) (created : ℕ) where
 
       module _ (z : r .number ≡ 0) where
         pub create-contiguous-done : DoneAs (createContiguousCall img u name type created n) img r img′
-        unfolding createContiguousCall call asking judged Above
+        unfolding createContiguousCall call asking judged Counted
         create-contiguous-done = done (createContiguousCall img u name type created n) img r img′
             (omega arith, (omega arith, (omega arith, (omega arith, (omega arith, (omega arith, (omega arith, (omega arith, (omega arith, tt))))))))) o z
 

@@ -13,7 +13,7 @@ use Rattle.book.specs.Files.{fileAt}
 use Rattle.book.specs.Image.{pages, Whole}
 use Rattle.book.specs.Names.{NameText}
 use Rattle.book.specs.Outcome.{Outcome, DoneAs, call, asking, judged}
-use Rattle.book.specs.Rows.{Clear, Above}
+use Rattle.book.specs.Rows.{Clear, Counted}
 use Rattle.book.specs.Rules.{Sound}
 use Rattle.book.specs.Trees.{pageAt}
 use Rattle.book.specs.Words.{Vol, vol}
@@ -66,7 +66,7 @@ module _ (img : List ℕ) (name : List ℕ) where
     -- done: the index returned is the lowest unused one, and he is there
     module _ (z : r .number ≡ 0) where
       pub create-user-done : DoneAs (createUserCall img name) img r img′
-      unfolding createUserCall call asking judged Above
+      unfolding createUserCall call asking judged Counted
       create-user-done = done (createUserCall img name) img r img′ (omega arith, (omega arith, (omega arith, (omega arith, (omega arith, (omega arith, tt)))))) o z
 
       pub user-created : UserCreated P v v′ (r .value) name

@@ -15,7 +15,7 @@ use Rattle.book.specs.Files.{fileAt}
 use Rattle.book.specs.Holders.{hit, some}
 use Rattle.book.specs.Image.{pages, Whole, IndexArg}
 use Rattle.book.specs.Outcome.{Outcome, DoneAs, call, asking, judged}
-use Rattle.book.specs.Rows.{Clear, Above}
+use Rattle.book.specs.Rows.{Clear, Counted}
 use Rattle.book.specs.Rules.{Sound}
 use Rattle.book.specs.Trees.{Root, weighR}
 use Rattle.book.specs.Words.{Vol, vol}
@@ -62,7 +62,7 @@ module _ (img : List ℕ) (u f : ℕ) where
     -- done: the file is gone
     module _ (z : r .number ≡ 0) where
       pub delete-done : DoneAs (deleteFileCall img u f) img r img′
-      unfolding deleteFileCall call asking judged Above
+      unfolding deleteFileCall call asking judged Counted
       delete-done = done (deleteFileCall img u f) img r img′ (omega arith, (omega arith, (omega arith, (omega arith, tt)))) o z
 
       pub deleted-call : Deleted P v v′ u e

@@ -12,7 +12,7 @@ use Rattle.book.specs.Entries.{Table, user, object, objectFile, used, given, gr
 use Rattle.book.specs.Files.{fileAt}
 use Rattle.book.specs.Image.{pages}
 use Rattle.book.specs.Outcome.{call, Outcome}
-use Rattle.book.specs.Rows.{Clear, Above}
+use Rattle.book.specs.Rows.{Clear, Counted}
 use Rattle.book.specs.Rules.{Sound}
 use Rattle.book.specs.Trees.{pageAt}
 use Rattle.book.specs.Words.{Vol, vol, zeros}
@@ -100,7 +100,7 @@ module _ (img : List ℕ) (u : ℕ) (r : Numbers ℕ) (img′ : List ℕ) (o : O
 
   -- going back: his given pages go to unreserved, and a subindexed object file stays so
   pub delete-user-back : r .number ≡ 0 → (unreserved (vol img′) ≡ unreserved (vol img) + given (user (vol img)) u) × (objectFile (vol img′) ≡ objectFile (vol img))
-  unfolding deleteUserCall call Above
+  unfolding deleteUserCall call Counted
   delete-user-back z = (
     after-done img _ _ 0 _ _ r img′ o (λ w. unreserved w ≡ unreserved (vol img) + given (user (vol img)) u) (omega arith, (omega arith, tt)) z (λ W A S c. deleted-back (vol img) u),
     delete .leaves .root,

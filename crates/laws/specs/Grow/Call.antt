@@ -13,7 +13,7 @@ use Rattle.book.specs.Holders.{hit}
 use Rattle.book.specs.Image.{pages, Whole, IndexArg}
 use Rattle.book.specs.Outcome.{Outcome, DoneAs, call, asking, judged}
 use Rattle.book.specs.Pointers.{flags}
-use Rattle.book.specs.Rows.{Clear, Above}
+use Rattle.book.specs.Rows.{Clear, Counted}
 use Rattle.book.specs.Rules.{Rule4, Sound}
 use Rattle.book.specs.Trees.{pageAt}
 use Rattle.book.specs.Words.{Vol, vol}
@@ -77,7 +77,7 @@ module _ (img : List ℕ) (u f : ℕ) where
     -- done: the file has one page more, which is the page returned, the lowest free
     module _ (z : r .number ≡ 0) where
       pub grow-done : DoneAs (growCall img u f) img r img′
-      unfolding growCall call asking judged Above
+      unfolding growCall call asking judged Counted
       grow-done = done (growCall img u f) img r img′ (omega arith, (omega arith, (omega arith, (omega arith, (omega arith, (omega arith, tt)))))) o z
 
       pub grew-call : Grew P v v′ u e n (r .value) (λ p. 0)

@@ -12,7 +12,7 @@ use Rattle.book.specs.Holders.{hit}
 use Rattle.book.specs.Image.{pages, Whole, IndexArg}
 use Rattle.book.specs.Outcome.{Outcome, DoneAs, call, asking, judged}
 use Rattle.book.specs.Pointers.{flags}
-use Rattle.book.specs.Rows.{Clear, Above}
+use Rattle.book.specs.Rows.{Clear, Counted}
 use Rattle.book.specs.Rules.{Sound}
 use Rattle.book.specs.Shrink.{shrink}
 use Rattle.book.specs.Trees.{pageAt}
@@ -72,7 +72,7 @@ module _ (img : List ℕ) (u f : ℕ) where
     -- done: the file has one page less
     module _ (z : r .number ≡ 0) where
       pub shrink-done : DoneAs (shrinkCall img u f) img r img′
-      unfolding shrinkCall call asking judged Above
+      unfolding shrinkCall call asking judged Counted
       shrink-done = done (shrinkCall img u f) img r img′ (omega arith, (omega arith, (omega arith, (omega arith, (omega arith, tt))))) o z
 
       pub shrunk-call : Lost P v v′ u e (n - 1) (λ p. 0)
