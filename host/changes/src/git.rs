@@ -80,13 +80,7 @@ impl Repository {
 
     pub fn commit(&self, name: &str) -> io::Result<Commit> {
         let unknown = |_| io::Error::other(format!("there is no commit {name} in this repository"));
-        let hash = self.said(&[
-            "rev-parse",
-            "--verify",
-            "--quiet",
-            "--end-of-options",
-            &format!("{name}^{{commit}}"),
-        ]);
+        let hash = self.said(&["rev-parse", "--verify", "--quiet", &format!("{name}^{{commit}}")]);
         let hash = hash.map_err(unknown)?.trim_end().to_string();
         let told = self.said(&["log", "-1", "--no-show-signature", "--date=short", "--format=%h%n%cd%n%s", &hash])?;
         let mut lines = told.lines().map(str::to_string);
