@@ -1,9 +1,10 @@
 //! Times and instructions of two builds' checks.
 
+use crate::clock;
 use crate::library::Library;
 use bench::callgrind;
 use bench::scratch::{map_native, words};
-use bench::timing::{race, side, Effort, Spread, QUICK};
+use bench::timing::{race, Effort, Side, Spread, QUICK};
 use bench::volumes::{Volume, LARGEST};
 use proved::Reply;
 use std::hint::black_box;
@@ -71,14 +72,21 @@ fn instructions(library: &Library, image: &Path) -> io::Result<u64> {
     counted.ok_or_else(|| io::Error::other(format!("callgrind did not count the check of {}", library.path.display())))
 }
 
+/// The check of an image by one build, so many times, by the processor's time.
+fn checking<'a>(library: &'a Library, image: &'a [u16]) -> Side<'a> {
+    Box::new(move |repeats| {
+        let start = clock::used();
+        for _ in 0..repeats {
+            black_box(library.check(black_box(image)));
+        }
+        clock::used() - start
+    })
+}
+
 /// Measures the check of one volume, which lies in this file too.
 pub fn measure(both: &[Library; 2], volume: &Volume, image: &Path, effort: Effort) -> io::Result<Figures> {
     let held = answer(both, volume)?;
-    let mut sides = both.each_ref().map(|library| {
-        side(|| {
-            black_box(library.check(black_box(&volume.words)));
-        })
-    });
+    let mut sides = both.each_ref().map(|library| checking(library, &volume.words));
     let times = race(&mut sides, effort);
     Ok(Figures {
         volume: volume.name.clone(),
