@@ -38,7 +38,7 @@ struct Reader {
 
 /// A line without its comment. Two hyphens begin one where a word could begin, outside of quotes.
 fn code(line: &str) -> &str {
-    let begins = |at: usize| (at == 0 || line[..at].ends_with(' ')) && line[..at].matches('"').count() % 2 == 0;
+    let begins = |at: usize| (at == 0 || line[..at].ends_with(' ')) && line[..at].matches('"').count().is_multiple_of(2);
     let comment = line.match_indices("--").map(|(at, _)| at).find(|&at| begins(at));
     line[..comment.unwrap_or(line.len())].trim_end()
 }

@@ -28,6 +28,8 @@ pub struct File {
     pub new: Option<String>,
     pub added: usize,
     pub removed: usize,
+    /// What it uses of other files is all that changed in it.
+    pub uses_alone: bool,
 }
 
 impl File {
@@ -48,20 +50,32 @@ fn fate(old: bool, new: bool, difference: &Difference) -> Fate {
     }
 }
 
+/// Two texts differ in their `use` lines alone.
+fn differ_in_uses(old: Option<&String>, new: Option<&String>) -> bool {
+    let rest = |text: &String| {
+        text.lines()
+            .filter(|line| !line.starts_with("use "))
+            .map(str::to_string)
+            .collect::<Vec<_>>()
+    };
+    old.zip(new).is_some_and(|(old, new)| old != new && rest(old) == rest(new))
+}
+
 /// What became of each file, by the files of both trees and what git says differs.
 pub fn told(before: &Texts, after: &Texts, differences: &[Difference]) -> Vec<File> {
     let mut files = Vec::new();
     let mut met = BTreeSet::new();
     for difference in differences {
-        let (old, new) = (before.contains_key(&difference.old), after.contains_key(&difference.new));
+        let (old, new) = (before.get(&difference.old), after.get(&difference.new));
         met.insert(&difference.old);
         met.insert(&difference.new);
         files.push(File {
-            fate: fate(old, new, difference),
-            old: old.then(|| difference.old.clone()),
-            new: new.then(|| difference.new.clone()),
+            fate: fate(old.is_some(), new.is_some(), difference),
+            old: old.map(|_| difference.old.clone()),
+            new: new.map(|_| difference.new.clone()),
             added: difference.added,
             removed: difference.removed,
+            uses_alone: differ_in_uses(old, new),
         });
     }
     files.extend(before.keys().filter(|path| !met.contains(path)).map(|path| File {
@@ -70,6 +84,7 @@ pub fn told(before: &Texts, after: &Texts, differences: &[Difference]) -> Vec<Fi
         new: Some(path.clone()),
         added: 0,
         removed: 0,
+        uses_alone: false,
     }));
     files.sort_by(|a, b| a.path().cmp(b.path()));
     files

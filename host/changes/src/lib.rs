@@ -5,6 +5,8 @@ pub mod fate;
 pub mod files;
 pub mod git;
 pub mod landing;
+pub mod lists;
 pub mod names;
 pub mod page;
 pub mod promises;
+pub mod tables;

@@ -28,6 +28,14 @@ pub fn counted(groups: &Groups) -> String {
     groups.iter().map(one).collect::<Vec<_>>().join(", ")
 }
 
+/// A whole number with commas.
+pub fn grouped(number: usize) -> String {
+    let digits = number.to_string();
+    let first = (digits.len() + 2) % 3 + 1;
+    let rest = (first..digits.len()).step_by(3).map(|at| &digits[at..at + 3]);
+    [&digits[..first]].into_iter().chain(rest).collect::<Vec<_>>().join(",")
+}
+
 /// The first words of a long text.
 pub fn cut(text: &str, most: usize) -> String {
     let mut short = String::new();
@@ -65,6 +73,14 @@ mod tests {
         let groups = groups(pairs.map(|(group, name)| (group.to_string(), name.to_string())));
         assert_eq!(in_full(&groups), "A: y; B: x, z");
         assert_eq!(counted(&groups), "A 1, B 2");
+    }
+
+    #[test]
+    fn numbers_are_grouped_by_three() {
+        assert_eq!(
+            [7, 16, 154, 1_000, 16_384, 1_234_567].map(grouped),
+            ["7", "16", "154", "1,000", "16,384", "1,234,567"]
+        );
     }
 
     #[test]

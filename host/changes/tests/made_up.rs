@@ -114,6 +114,7 @@ fn before(name: &str) -> (Repository, String) {
     let rows = "| It stays | `A.stays` |\n| It changes | `A.changes` |\n| It moves | `A.moves` |\n| It goes | `A.goes` |\n";
     made.write("docs/PROMISES.md", &format!("# Promises\n\n## One: first\n\n{HEADS}{rows}"));
     made.write("crates/laws/specs/Stays.antt", &proof("stays"));
+    made.write("crates/laws/specs/Uses.antt", &format!("use laws.Moves\n{}", proof("uses")));
     made.write("crates/laws/specs/Moves.antt", &proof("moves"));
     made.write("crates/laws/specs/Bends.antt", &proof("bends"));
     made.write("crates/nord/proofs/ask/goes/Proof.antt", &proof("goes"));
@@ -135,6 +136,7 @@ fn land(made: &Repository) {
     fs::create_dir_all(made.folder.join("crates/laws/specs/Tree")).unwrap();
     let rename = |old: &str, new: &str| fs::rename(made.folder.join(old), made.folder.join(new)).unwrap();
     rename("crates/laws/specs/Moves.antt", "crates/laws/specs/Tree/Moves.antt");
+    made.write("crates/laws/specs/Uses.antt", &format!("use laws.Tree.Moves\n{}", proof("uses")));
     fs::remove_file(made.folder.join("crates/laws/specs/Bends.antt")).unwrap();
     made.write("crates/laws/specs/Tree/Bent.antt", &(proof("bends") + "one line more\n"));
     fs::remove_dir_all(made.folder.join("crates/nord/proofs/ask")).unwrap();
@@ -174,12 +176,16 @@ fn proof_files_are_summed_and_followed() {
     let (made, base) = before("files");
     land(&made);
     let page = made.page(&base);
-    has(&page, "| laws/specs | 3 | 3 | 1 | 0 | 1 | 1 | 0 | 0 | 27 | 28 | 1 | 0 | 16 | 16 |");
+    has(&page, "| laws/specs | 4 | 4 | 1 | 1 | 1 | 1 | 0 | 0 | 37 | 38 | 2 | 1 | 16 | 19 |");
     has(&page, "| nord/proofs | 1 | 1 | 0 | 0 | 0 | 0 | 1 | 1 | 9 | 3 | 3 | 9 | 15 | 5 |");
     has(&page, "- moved (1): `laws/specs` to `laws/specs/Tree`: Moves");
     has(&page, "- moved and changed (1): `laws/specs` to `laws/specs/Tree`: Bends as Bent");
     has(&page, "- came (2): `book/specs`: Steps; `nord/proofs/open`: comes");
     has(&page, "- went (1): `nord/proofs/ask`: goes");
+    has(
+        &page,
+        "- changed (2, 1 of them in `use` lines alone): `book/specs`: Rules; `laws/specs`: Uses",
+    );
     assert!(page.contains(", with changes that are not committed."), "{page}");
 }
 
@@ -204,10 +210,10 @@ fn a_landing_that_is_committed_is_told_the_same() {
 fn nothing_changed_and_no_commit_are_told() {
     let (made, base) = before("same");
     let page = made.page(&base);
-    has(&page, "| proof files | 5 | 5 | 5 | 0 | 0 | 0 | 0 | 0 | 54 | 54 | 0 | 0 |");
+    has(&page, "| proof files | 6 | 6 | 6 | 0 | 0 | 0 | 0 | 0 | 64 | 64 | 0 | 0 |");
     has(
         &page,
-        "| 3 others, as they were | 5 | 5 | 5 | 0 | 0 | 0 | 0 | 0 | 54 | 54 | 0 | 0 | 16 | 16 |",
+        "| 3 others, as they were | 6 | 6 | 6 | 0 | 0 | 0 | 0 | 0 | 64 | 64 | 0 | 0 | 16 | 16 |",
     );
     let refused = |arguments: &[&str]| {
         let output = made.changes(arguments);
