@@ -2,6 +2,7 @@
 
 use crate::calls::{Call, Program};
 use crate::children::COPIES;
+use std::ffi::OsStr;
 use std::path::{Path, PathBuf};
 use std::process::{Command, Stdio};
 use std::sync::atomic::{AtomicUsize, Ordering};
@@ -24,16 +25,13 @@ pub fn is_there() -> bool {
     probe.is_ok_and(|status| status.success())
 }
 
-/// The instructions that callgrind collects of a process with so many calls.
-fn collected(job: &Job, times: usize) -> Option<u64> {
+/// The instructions that callgrind collects of this program with these arguments, the last of which is the number of calls.
+fn collected(arguments: &[&OsStr], times: usize) -> Option<u64> {
     let mut command = Command::new("valgrind");
     command
         .args(["--tool=callgrind", "--callgrind-out-file=/dev/null"])
         .arg(std::env::current_exe().ok()?);
-    command
-        .args(["once", job.call.name()])
-        .arg(&job.image)
-        .args([job.program.name(), &times.to_string()]);
+    command.args(arguments).arg(times.to_string());
     let output = command.output().ok()?;
     let text = String::from_utf8_lossy(&output.stderr).into_owned();
     let line = text.lines().find(|line| line.contains("Collected"))?;
@@ -41,10 +39,20 @@ fn collected(job: &Job, times: usize) -> Option<u64> {
     line.rsplit(' ').next()?.parse().ok()
 }
 
+/// The instructions of one call, which this program makes as often as its last argument says.
+pub fn of_one(arguments: &[&OsStr]) -> Option<u64> {
+    let (one, all) = (collected(arguments, 1)?, collected(arguments, COPIES)?);
+    Some(all.checked_sub(one)? / (COPIES as u64 - 1))
+}
+
 /// The instructions of one call.
 fn instructions(job: &Job) -> Option<u64> {
-    let (one, all) = (collected(job, 1)?, collected(job, COPIES)?);
-    Some(all.checked_sub(one)? / (COPIES as u64 - 1))
+    of_one(&[
+        "once".as_ref(),
+        job.call.name().as_ref(),
+        job.image.as_os_str(),
+        job.program.name().as_ref(),
+    ])
 }
 
 /// Counts all jobs, as many at a time as there are cores: counts do not depend on what else runs.
