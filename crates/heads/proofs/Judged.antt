@@ -6,7 +6,7 @@ use Prim.Native.Nat.{ℕ, _+_, _-_, _*_, _/_, _%_, _≤_, _<_}
 use native.Mathlib.Decide.{decLt, ℕ-discrete}
 use native.Mathlib.Omega.{arith}
 use Rattle.book.specs.Words.{Vol, vol}
-use Rattle.book.specs.Pointers.{flags, page}
+use Rattle.book.specs.Pointers.{flags, page, objectPointer, userPointer}
 use Rattle.book.specs.Trees.{Root, rootBy}
 use Rattle.book.specs.Entries.{Table, entry, user, object, userFile, objectFile, used, fileEntry}
 use Rattle.book.specs.Names.{Same, SameFile, LegalName, LegalType}
@@ -24,13 +24,13 @@ use Rattle.heads.specs.Twins.{Apart, FilesApart}
 
 -- ---- the entries of the user file and of the object file, by flags and page of their pointers
 
-pub users-root : (v : Vol) (x t : ℕ) → x ≡ flags (v 0) 1018 → t ≡ page (v 0) 1018 → entry v (rootBy x t 0) ≡ user v
+pub users-root : (v : Vol) (x t : ℕ) → x ≡ flags (v 0) userPointer → t ≡ page (v 0) userPointer → entry v (rootBy x t 0) ≡ user v
 unfolding user userFile
-users-root v x t a b = fun-ext (λ u. ap (λ (r : Root). entry v r u) (sym (root-read (v 0) 1018 0 x t 0 a b refl)))
+users-root v x t a b = fun-ext (λ u. ap (λ (r : Root). entry v r u) (sym (root-read (v 0) userPointer 0 x t 0 a b refl)))
 
-objects-root : (v : Vol) (x t : ℕ) → x ≡ flags (v 0) 1016 → t ≡ page (v 0) 1016 → entry v (rootBy x t 0) ≡ object v
+objects-root : (v : Vol) (x t : ℕ) → x ≡ flags (v 0) objectPointer → t ≡ page (v 0) objectPointer → entry v (rootBy x t 0) ≡ object v
 unfolding object objectFile
-objects-root v x t a b = fun-ext (λ e. ap (λ (r : Root). entry v r e) (sym (root-read (v 0) 1016 0 x t 0 a b refl)))
+objects-root v x t a b = fun-ext (λ e. ap (λ (r : Root). entry v r e) (sym (root-read (v 0) objectPointer 0 x t 0 a b refl)))
 
 -- ---- no twins: two entries of one name are one
 
@@ -111,7 +111,7 @@ file-by U O e b h o w n l = decides-iff b _ _ (λ t u. record { owner = o; whose
 -- ---- by the pages that the object file has, up to its end: later objects are unused
 
 -- x and t are the flags and the page of the object pointer
-module _ (img : List ℕ) (x t n : ℕ) (d : Ends img n) (a : x ≡ flags (vol img 0) 1016) (c : t ≡ page (vol img 0) 1016) where
+module _ (img : List ℕ) (x t n : ℕ) (d : Ends img n) (a : x ≡ flags (vol img 0) objectPointer) (c : t ≡ page (vol img 0) objectPointer) where
   abbrev v : Vol
   v = vol img
 

@@ -4,7 +4,7 @@ use mathlib.Core.List.{List}
 use Prim.Native.Nat.{ℕ, _+_, _<_}
 use native.Mathlib.Omega.{arith}
 use Rattle.book.specs.Words.{Vol, vol}
-use Rattle.book.specs.Pointers.{flags, page}
+use Rattle.book.specs.Pointers.{flags, page, objectPointer}
 use Rattle.book.specs.Trees.{Root, run, rootAt, rootBy, pageAt}
 use Rattle.book.specs.Entries.{objectFile}
 use Rattle.book.specs.Image.{pages}
@@ -36,6 +36,6 @@ pub page-read : (v : Vol) (r s : Root) (m n x : ℕ) → r ≡ s → m ≡ n →
 page-read v r s m n x e d h = h ∙ ap₂ (pageAt v) (sym e) d
 
 -- the object file, from the flags x and the page t of its pointer
-pub object-root : (v : Vol) (x t : ℕ) → x ≡ flags (v 0) 1016 → t ≡ page (v 0) 1016 → objectFile v ≡ rootBy x t 0
+pub object-root : (v : Vol) (x t : ℕ) → x ≡ flags (v 0) objectPointer → t ≡ page (v 0) objectPointer → objectFile v ≡ rootBy x t 0
 unfolding objectFile
-object-root v x t a b = root-read (v 0) 1016 0 x t 0 a b refl
+object-root v x t a b = root-read (v 0) objectPointer 0 x t 0 a b refl

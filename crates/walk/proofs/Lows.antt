@@ -15,7 +15,7 @@ use Rattle.page.proofs.Deciding.{decides-iff}
 use Rattle.bits.specs.File.{BitsAt}
 use Rattle.bits.proofs.Digits.{digit-is}
 use Rattle.bits.proofs.Places.{bit-at}
-use Rattle.walk.specs.Marks.{marked}
+use Rattle.bits.specs.Marks.{marked}
 
 digit-low : (r j a : ℕ) → j < r → digit j (a % 2 ^ r) ≡ digit j a
 digit-low r j a lt =

@@ -12,14 +12,14 @@ use Rattle.book.specs.Written.{word-pos}
 use Rattle.book.specs.Pointers.{slot}
 use Rattle.book.specs.Trees.{weigh, Below}
 use Rattle.book.specs.Holders.{hit, some}
-use Rattle.book.specs.Image.{pages}
+use Rattle.book.specs.Image.{pages, mostPages}
 use Rattle.laws.specs.Tree.{weigh-none, weigh-count, hit-zero, hit-same, some-zero, some-pos}
 use Rattle.walk.specs.declared.Walk.{Walk}
 use Rattle.walk.specs.declared.Walk.the-variants.{On, Met}
-use Rattle.walk.specs.Marks.{marked, Newly}
+use Rattle.bits.specs.Marks.{marked, Newly}
 use Rattle.walk.specs.Walked.{Weigher, Walking, WalkedOn, Walked, slotOf}
 use Rattle.walk.specs.Short.{Short, share, PointersBelow, Pointers}
-use Rattle.walk.proofs.Marked.{marked-le, marks-more, marks-room}
+use Rattle.bits.proofs.Marked.{marked-le, marks-more, marks-room}
 use Rattle.walk.proofs.Walks.{Counts, rowOf, row-counts, walking-on, walked-none, walked-same, walked-then, row-past}
 
 pub below-top : (v : Vol) (P l t : ℕ) → Below v P l t → t < P
@@ -120,7 +120,7 @@ module _ (img : List ℕ) (P : ℕ) (m : List ℕ) (v l t : ℕ) where
 
 -- after one page is marked
 module _ (img m : List ℕ) (v t : ℕ) (m′ : List ℕ) (d : Newly m t m′) (i : t < pages img) (w : Walking img m v) where
-  pub mark-fits : v + 1 ≤ 16384
+  pub mark-fits : v + 1 ≤ mostPages
   mark-fits = omega (arith, marks-room (pages img) m t m′ d i, w .counted, w .few)
 
   pub mark-walking : Walking img m′ (v + 1)

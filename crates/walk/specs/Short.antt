@@ -6,7 +6,7 @@ use lib.ListN.{length}
 use Rattle.book.specs.Words.{Vol, vol}
 use Rattle.book.specs.Pointers.{slot}
 use Rattle.book.specs.Trees.{Root, tree, run, Below}
-use Rattle.book.specs.Entries.{userFile, objectFile, object, pageCount}
+use Rattle.book.specs.Entries.{userFile, objectFile, object, pageCount, objectPages}
 use Rattle.book.specs.Files.{fileAt}
 use Rattle.book.specs.Image.{pages}
 use Rattle.walk.specs.Walked.{slotOf}
@@ -27,7 +27,7 @@ ShortR v (run s m) n = Unit {0}
 -- the trees of the volume: rules 2, 3, 5 and 7 say so
 pub record Shorts (v : Vol) : Type 0 where
   pub users : ShortR v (userFile v) 8
-  pub objects : ShortR v (objectFile v) 2048
+  pub objects : ShortR v (objectFile v) objectPages
   pub files : (e : ℕ) → e < 65536 → ShortR v (fileAt v e) (pageCount (object v e))
 
 -- ---- the same of a block that was handed over as a part; its pointers are of level l

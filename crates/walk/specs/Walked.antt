@@ -10,7 +10,7 @@ use Rattle.book.specs.Holders.{hit, some}
 use Rattle.book.specs.Image.{pages, mostPages}
 use Rattle.walk.specs.declared.Walk.{Walk}
 use Rattle.walk.specs.declared.Walk.the-variants.{On, Met}
-use Rattle.walk.specs.Marks.{marked}
+use Rattle.bits.specs.Marks.{marked}
 
 abbrev pub Weigher : Type 0
 Weigher = (ℕ → ℕ) → ℕ

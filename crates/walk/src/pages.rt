@@ -1,7 +1,7 @@
 // The pages of a tree: marking a pointer calls marking a block, which marks each of its pointers; the level falls, so the walk ends.
 // Each is told how many positions there may be below it, so that it need not look at the pointers past them.
 use crate::Walk;
-use crate::marks::mark;
+use bits::marks::mark;
 use page::WORDS;
 use page::read::dword;
 ghost use mathlib.Core.Path.{_≡_};

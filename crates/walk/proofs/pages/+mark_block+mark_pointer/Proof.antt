@@ -8,7 +8,7 @@ use Rattle.book.specs.Image.{pages}
 use Rattle.walk.specs.declared.Walk.the-variants.{On, Met}
 use Rattle.walk.specs.Walked.{WalkedOn}
 use Rattle.walk.specs.Short.{PointersBelow}
-use Rattle.walk.proofs.Marked.{marking-new, marking-old}
+use Rattle.bits.proofs.Marked.{marking-new, marking-old}
 use Rattle.walk.proofs.Walks.{rowOf, row-start, row-on, row-met, row-end}
 use Rattle.walk.proofs.Pointers.{below-top, slotsOf, slot-read, slot-below, slot-short, slot-weigh, block-walking, block-below, block-short, block-all, row-level, pointer-none, pointer-met, pointer-block, mark-fits, mark-walking}
 use Rattle.walk.proofs.pages.mark_block.Reads as mark-block
@@ -18,7 +18,7 @@ use Rattle.walk.proofs.pages.mark_pointer.Reads as mark-pointer
 use Rattle.walk.proofs.pages.mark_pointer.Kinds as mark-pointer-kinds
 use Rattle.walk.proofs.pages.+mark_block+mark_pointer.Lts-mark_pointer as mark-pointer-lts
 use Rattle.page.proofs.read.dword.Reads as dword-reads
-use Rattle.walk.proofs.marks.mark.Reads as mark-reads
+use Rattle.bits.proofs.marks.mark.Reads as mark-reads
 use Rattle.walk.proofs.pages.mark_pages.Reads as mark-pages-reads
 use Rattle.walk.proofs.pages.pointers.Reads as pointers-reads
 use Rattle.walk.proofs.pages.under.Reads as under-reads

@@ -9,9 +9,9 @@ use native.Mathlib.Omega.{arith}
 use lib.ListN.{length, getD, set, replicate, length-set, length-replicate}
 use lib.Seq.{getD-set-same, getD-set-other}
 use Rattle.sums.specs.Sum.{sum, is, is-same, is-other, sum-ext, sum-add, sum-is, sum-le-at, sum-const}
-use Rattle.book.specs.Bits.{digit, toDigit}
+use Rattle.book.specs.Bits.{digit, toDigit, pageBits}
 use Rattle.book.specs.Written.{digit-le, digit-same, digit-other}
-use Rattle.walk.specs.Marks.{marked, Unmarked, Newly, Marking}
+use Rattle.bits.specs.Marks.{marked, Unmarked, Newly, Marking}
 
 pub marked-le : (m : List ℕ) (p : ℕ) → marked m p ≤ 1
 unfolding marked
@@ -35,7 +35,7 @@ no-marks n e = record { size = length-replicate n 0 ∙ e; none = λ p. ap (digi
 
 -- ---- one mark
 
-module _ (m : List ℕ) (p w : ℕ) (size : length m ≡ 1024) (small : p < 16384) (new : marked m p ≡ 0) (made : w ≡ toDigit (p % 16) (getD m (p / 16) 0) 1) where
+module _ (m : List ℕ) (p w : ℕ) (size : length m ≡ 1024) (small : p < pageBits) (new : marked m p ≡ 0) (made : w ≡ toDigit (p % 16) (getD m (p / 16) 0) 1) where
   room : p / 16 < length m
   room = omega arith
 
