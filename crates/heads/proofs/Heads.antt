@@ -16,7 +16,7 @@ use Rattle.page.proofs.Deciding.{decides-iff}
 use Rattle.laws.specs.Count.{zero-page}
 use Rattle.laws.specs.Reach.{below-users, below-objects}
 use Rattle.tree.specs.Reach.{Reach}
-use Rattle.tree.proofs.Reach.{reach-same, root-read}
+use Rattle.tree.proofs.Reach.{reach-same, user-root, object-root}
 
 module _ (P : ℕ) (v : Vol) where
   -- a pointer that is all zero leads to no page
@@ -76,8 +76,8 @@ module _ (img : List ℕ) (h : 0 < pages img) where
   -- by the flags x and the page t of their pointers
   pub users-reached : Rule2 (pages img) (vol img) → Rule3 (pages img) (vol img) → (x t : ℕ) → x ≡ flags (vol img 0) userPointer → t ≡ page (vol img 0) userPointer → Reach img (rootBy x t 0)
   unfolding userFile
-  users-reached a b x t e f = reach-same _ _ _ (root-read (vol img 0) userPointer 0 x t 0 e f refl) (users-reach a b)
+  users-reached a b x t e f = reach-same _ _ _ (user-root (vol img) x t e f) (users-reach a b)
 
   pub objects-reached : Rule2 (pages img) (vol img) → Rule5 (pages img) (vol img) → (x t : ℕ) → x ≡ flags (vol img 0) objectPointer → t ≡ page (vol img 0) objectPointer → Reach img (rootBy x t 0)
   unfolding objectFile
-  objects-reached a b x t e f = reach-same _ _ _ (root-read (vol img 0) objectPointer 0 x t 0 e f refl) (objects-reach a b)
+  objects-reached a b x t e f = reach-same _ _ _ (object-root (vol img) x t e f) (objects-reach a b)

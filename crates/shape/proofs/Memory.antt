@@ -10,6 +10,7 @@ use Rattle.sums.specs.Sum.{is-other}
 use Rattle.book.specs.Decides.{Decides, holds, fails}
 use Rattle.book.specs.Image.{pages}
 use Rattle.book.specs.Words.{Vol, vol}
+use Rattle.page.proofs.Deciding.{never}
 use Rattle.bits.specs.Marks.{Unmarked, Newly, Marking}
 use Rattle.bits.proofs.Marked.{marking-old}
 use Rattle.shape.specs.Seen.{Known, Tested}
@@ -38,12 +39,9 @@ module _ (P : ℕ) (v : Vol) where
 
 -- ---- tests with a memory
 
-clash : (A : Type 0) → _≡_ {A = Bool} false true → A
-clash A e = let z : _≡_ {A = ℕ} 0 1 = cc in absurd (omega arith)
-
 module _ (img : List ℕ) (A : Type 0) (after : List ℕ) where
   pub tested-no : (A → ⊥) → Tested img A after false
-  tested-no h = record { decides = h; kept = clash _ }
+  tested-no h = record { decides = h; kept = never }
 
   pub tested-yes : A → Known (pages img) (vol img) after → Tested img A after true
   tested-yes a k = record { decides = a; kept = λ e. k }

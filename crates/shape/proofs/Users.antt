@@ -18,11 +18,10 @@ use Rattle.book.specs.Words.{Words, Vol, vol, two}
 use Rattle.book.specs.Pointers.{unreservedCount}
 use Rattle.laws.specs.Charge.{mine-pages}
 use Rattle.laws.specs.Reach.{below-users}
-use Rattle.page.proofs.Deciding.{decides-iff}
+use Rattle.page.proofs.Deciding.{decides-iff, decides-eq}
 use Rattle.tree.specs.Reach.{Reach, entryIn}
 use Rattle.tree.proofs.Entries.{user-in, absent-word}
 use Rattle.shape.specs.Counts.{pagesOf, countIn, CountRight, UsersRight}
-use Rattle.shape.proofs.Deciding.{decides-eq}
 use Rattle.shape.proofs.Sums.{pages-none}
 
 pub reach-users : (img : List ℕ) → Whole img → Rule2 (pages img) (vol img) → Rule3 (pages img) (vol img) → Reach img (userFile (vol img))

@@ -10,9 +10,9 @@ ghost use lib.ListN.{length};
 ghost use Rattle.book.specs.Decides.{Decides};
 ghost use Rattle.book.specs.Image.{pages, Whole};
 ghost use Rattle.book.specs.Words.{vol};
-ghost use Rattle.tree.specs.Blocks.{Unlinked};
+ghost use Rattle.tree.specs.Blocks.{Unlinked, share as shareOf};
 ghost use Rattle.shape.specs.Seen.{Testing, Tested};
-ghost use Rattle.shape.specs.Shapes.{Filled, Indexes, shareOf};
+ghost use Rattle.shape.specs.Shapes.{Filled, Indexes};
 
 // Whether page b is an index block of n pages.
 pub fn index_ok(img: &[u16], total: usize, b: usize, n: usize) -> bool
@@ -33,7 +33,7 @@ pub fn index_ok(img: &[u16], total: usize, b: usize, n: usize) -> bool
 // Of n positions, those under slot k of a subindex block.
 fn share(n: usize, k: usize) -> usize
     requires { ⌜ (k < 512) × (k * 512 < n) ⌝ }
-    ensures { λ r. ⌜ (r ≡ shareOf n k) × (0 < r) × (r ≤ 512) ⌝ }
+    ensures { λ r. ⌜ (r ≡ shareOf 1 n k) × (0 < r) × (r ≤ 512) ⌝ }
 {
     let rest = n - k * 512;
     if rest < 512 {

@@ -15,7 +15,6 @@ use Rattle.book.specs.Holders.{hit, some, mine, system, all, holders}
 use Rattle.book.specs.Image.{pages}
 use Rattle.laws.specs.Count.{BelowR, sys-count}
 use Rattle.tree.specs.Reach.{Reach}
-use Rattle.tree.proofs.Reach.{root-read}
 use Rattle.walk.specs.declared.Walk.{Walk}
 use Rattle.walk.specs.declared.Walk.the-variants.{On, Met}
 use Rattle.bits.specs.Marks.{marked, Unmarked, Newly, Marking}
@@ -42,10 +41,6 @@ module _ (P : ℕ) (v : Vol) (s n : ℕ) (es : s ≡ page (v 0) bitPointer) (en 
   walked-bits m x m′ r k = walked-same P m x (rowOf (runOf s) n) (weighR v (bitFile P v)) (λ g. ap (λ (y : Root). weighR v y g) (sym root)) m′ r k
 
 -- ---- the user file and the object file
-
-pub user-root : (v : Vol) (x t : ℕ) → x ≡ flags (v 0) userPointer → t ≡ page (v 0) userPointer → userFile v ≡ rootBy x t 0
-unfolding userFile
-user-root v x t a b = root-read (v 0) userPointer 0 x t 0 a b refl
 
 pub below-same : (v : Vol) (P : ℕ) (r s : Root) → r ≡ s → BelowR v P r → BelowR v P s
 below-same v P r s e b = subst (λ (x : Root). BelowR v P x) e b

@@ -17,7 +17,8 @@ use Rattle.laws.specs.Reach.{file-used}
 use Rattle.laws.specs.Positions.{root-one}
 use Rattle.laws.specs.Tree.{slot-zero}
 use Rattle.tree.specs.Ends.{Ends}
-use Rattle.walk.specs.Short.{Short, ShortR, Shorts, share}
+use Rattle.tree.specs.Blocks.{share}
+use Rattle.walk.specs.Short.{Short, ShortR, Shorts}
 
 pub short-same : (v : Vol) (r s : Root) (n : ℕ) → r ≡ s → ShortR v r n → ShortR v s n
 short-same v r s n e d = subst (λ (x : Root). ShortR v x n) e d

@@ -1,4 +1,4 @@
-use Rattle.shape.proofs.Deciding.{decides-eq}
+use Rattle.page.proofs.Deciding.{decides-eq}
 use borrow.Author.Needs.{needs}
 use Rattle.shape.proofs.file.bytes_ok.Statement.{statement}
 use Rattle.shape.proofs.file.bytes_ok.Tie as tie
