@@ -29,7 +29,7 @@ use Rattle.growth.proofs.Held.{held-le, held-more}
 use Rattle.growth.proofs.Blocks.{top-in, index-lt, page-lt, index-pos, slot-one, slot-two}
 use Rattle.tree.proofs.Ready.{ready-some}
 
-module _ (img : List ℕ) (u f : ℕ) (h : Head) (a : FileHead img u f h) where
+module _ {img : List ℕ} {u f : ℕ} {h : Head} (a : FileHead img u f h) where
   abbrev P : ℕ
   P = pages img
 

@@ -63,7 +63,7 @@ phase-block m zero z h = absurd (not-suc-le-zero h)
 phase-block m (suc zero) z h = absurd (let r : ⊥ = omega arith in r)
 phase-block m (suc (suc q)) z h = ap (λ (x : ℕ). phaseBy x (suc (suc q))) z
 
-module _ (img : List ℕ) (u f : ℕ) (h : Head) (g : Growing img u f h) where
+module _ {img : List ℕ} {u f : ℕ} {h : Head} (g : Growing img u f h) where
   abbrev P : ℕ
   P = pages img
 
@@ -80,7 +80,7 @@ module _ (img : List ℕ) (u f : ℕ) (h : Head) (g : Growing img u f h) where
   args = (omega (arith, g .at .user), omega (arith, g .at .file))
 
   has : HasFile v u f
-  has = (file-owner img u f h (g .at), g .at .there)
+  has = (file-owner (g .at), g .at .there)
 
   -- ---- the volumes on the way
 
@@ -193,12 +193,12 @@ module _ (img : List ℕ) (u f : ℕ) (h : Head) (g : Growing img u f h) where
   C q = hit (bitPage P v d) q + hit d q
 
   quiet : weighR v (rootBy (h .flags) (h .top) (h .count)) C ≡ 0
-  quiet = ap (λ (r : Root). weighR v r C) (sym (file-root img u f h (g .at)))
+  quiet = ap (λ (r : Root). weighR v r C) (sym (file-root (g .at)))
       ∙ q-file v v₁ (claim-roots P v (λ p. 0) G0 d (dOk .0) (dOk .1)) C (claim-none P v (λ p. 0) G0 d (dOk .0) (dOk .1)) (claim-agree P v (λ p. 0) G0 d (dOk .0) (dOk .1)) (claim-quiet P v (λ p. 0) G0 d (dOk .0) (dOk .1)) u f (g .at .user) (g .at .file)
 
   index-kept : (m : ℕ) → indexOf v₁ (h .flags) (h .top) m ≡ indexOf v (h .flags) (h .top) m
   unfolding indexOf rootBy weighR weigh Agree Shape
-  index-kept m = go (h .flags) quiet (file-shape img u f h (g .at))
+  index-kept m = go (h .flags) quiet (file-shape (g .at))
     where
       go : (x : ℕ) → weighR v (rootBy x (h .top) (h .count)) C ≡ 0 → Shape P v x (h .top) (h .count) → indexOf v₁ x (h .top) m ≡ indexOf v x (h .top) m
       go zero q s = refl

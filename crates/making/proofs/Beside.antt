@@ -1,17 +1,18 @@
 -- The bits after a place is made: those of before, with the lowest free pages taken. Assumes nothing.
 use mathlib.Core.Path.{_≡_, refl, sym, ap, _∙_, subst}
 use mathlib.Core.Logic.{_≢_, _⊎_, inl, inr}
-use Prim.Native.Nat.{ℕ, _*_, _/_, _%_, _≤_, _<_}
+use Prim.Native.Nat.{ℕ, _*_, _/_, _%_, _≤_, _<_, suc}
 use native.Mathlib.Decide.{ℕ-discrete}
 use native.Mathlib.Omega.{arith}
 use Rattle.book.specs.Words.{Vol}
 use Rattle.book.specs.Written.{put2-page}
-use Rattle.book.specs.Pointers.{page, setSlot}
+use Rattle.book.specs.Pointers.{page, setSlot, bitPointer, objectPointer}
 use Rattle.book.specs.Bits.{bit, digit, lowestFree, claim}
 use Rattle.book.specs.Entries.{userFile, objectFile, unreserved, objectPage, entryPage}
 use Rattle.book.specs.Holders.{hit}
 use Rattle.book.specs.Rules.{Sound}
 use Rattle.book.specs.Create.{extend, objectIndex, fileNeed, filePlace}
+use Rattle.book.specs.Image.{mostPages}
 use Rattle.laws.specs.Choose.{lowest-chooser}
 use Rattle.laws.specs.Claim.{bitPage-rest, claim-bit, claim-bit-other}
 use Rattle.laws.specs.Count.{good}
@@ -47,12 +48,12 @@ beside-then P v w z x y A B = record {
     both p h (inl e) = elim (ℕ-discrete p y) [ yes f ↦ B .taken p h (inl f) | no n ↦ B .other p h n n ∙ A .taken p h (inl e) ]
     both p h (inr e) = B .taken p h (inl e)
 
-module _ (P : ℕ) (most : P ≤ 16384) (v : Vol) (S : Sound P v) (pos : 0 < P) (X k : ℕ) (N : Vacant P v X k) (have : 1 ≤ unreserved v) where
+module _ (P : ℕ) (most : P ≤ mostPages) (v : Vol) (S : Sound P v) (pos : 0 < P) (X k : ℕ) (N : Vacant P v X k) (have : 1 ≤ unreserved v) where
   abbrev d : ℕ
   d = lowestFree P v
 
   abbrev b : ℕ
-  b = page (v 0) 1020
+  b = page (v 0) bitPointer
 
   abbrev v₁ : Vol
   v₁ = claim P v d
@@ -70,8 +71,8 @@ module _ (P : ℕ) (most : P ≤ 16384) (v : Vol) (S : Sound P v) (pos : 0 < P) 
   B₁ = bits-claim P v b d (extend-pos (lowestFree P) P (lowest-chooser P) v S pos X k N have) (free .0) B₀
 
   B₂ : BitsAt P v′ b
-  B₂ = bits-kept P v v′ b (extend-master (lowestFree P) P (lowest-chooser P) v S pos X k N have 1020 (omega arith))
-      (extend-master (lowestFree P) P (lowest-chooser P) v S pos X k N have 1021 (omega arith)) B₀
+  B₂ = bits-kept P v v′ b (extend-master (lowestFree P) P (lowest-chooser P) v S pos X k N have bitPointer (omega arith))
+      (extend-master (lowestFree P) P (lowest-chooser P) v S pos X k N have (suc bitPointer) (omega arith)) B₀
 
   -- the bit page is no block
   apart : b ≢ X
@@ -99,7 +100,7 @@ module _ (P : ℕ) (most : P ≤ 16384) (v : Vol) (S : Sound P v) (pos : 0 < P) 
 
 -- ---- the place of a file
 
-module _ (P : ℕ) (most : P ≤ 16384) (v : Vol) (S : Sound P v) (pos : 0 < P) (e : ℕ) (R : Reached P v e) (have : fileNeed v e ≤ unreserved v) where
+module _ (P : ℕ) (most : P ≤ mostPages) (v : Vol) (S : Sound P v) (pos : 0 < P) (e : ℕ) (R : Reached P v e) (have : fileNeed v e ≤ unreserved v) where
   -- no page
   pub beside-zero : fileNeed v e ≡ 0 → Beside P v (filePlace (lowestFree P) P v e) P P
   unfolding fileNeed
@@ -124,7 +125,7 @@ module _ (P : ℕ) (most : P ≤ 16384) (v : Vol) (S : Sound P v) (pos : 0 < P) 
     none = omega (arith, two)
 
     abbrev o : ℕ
-    o = page (v 0) 1016
+    o = page (v 0) objectPointer
 
     abbrev i : ℕ
     i = entryPage e / 512
