@@ -1,22 +1,21 @@
 -- Deleting a file as the code writes it: once its entry is cleared, its blocks are those of before. Assumes nothing.
-use mathlib.Core.Path.{_≡_, refl, sym, ap, ap₂, _∙_, subst, subst₂, fun-ext}
+use mathlib.Core.Path.{_≡_, sym, ap, ap₂, _∙_, subst₂, fun-ext}
 use mathlib.Core.Logic.{_≢_, inl, inr}
 use mathlib.Core.List.{List}
-use Prim.Native.Nat.{ℕ, zero, suc, _+_, _-_, _*_, _/_, _≤_, _<_}
-use native.Mathlib.Nat.{not-suc-le-zero}
+use Prim.Native.Nat.{ℕ, zero, suc, _+_, _-_, _/_, _<_}
 use native.Mathlib.Omega.{arith}
 use lib.ListN.{length}
 use Rattle.sums.specs.Sum.{sum}
-use Rattle.book.specs.Words.{Vol, vol, word, put2, putWords, zeros}
+use Rattle.book.specs.Words.{Vol, vol, put2, zeros}
 use Rattle.book.specs.Written.{word-ext, put2-page, putWords-page}
 use Rattle.book.specs.Pointers.{page, bitPointer}
-use Rattle.book.specs.Trees.{Root, tree, run, weighR, blocksR, rootBy, pageAt}
+use Rattle.book.specs.Trees.{Root, tree, run, weighR, blocksR, rootBy}
 use Rattle.book.specs.Bits.{bitPage, freed}
 use Rattle.book.specs.Delete.{deleteFile}
-use Rattle.book.specs.Entries.{user, userPage, objectPage, putEntry, entryWord, entryPage, usedPages, objectFile, userFile, fileEntry}
+use Rattle.book.specs.Entries.{user, userPage, objectPage, putEntry, entryWord, entryPage, usedPages, fileEntry}
 use Rattle.book.specs.Files.{fileAt, Shape}
 use Rattle.book.specs.Holders.{hit, some, mine}
-use Rattle.book.specs.Image.{pages, Whole}
+use Rattle.book.specs.Image.{pages}
 use Rattle.book.specs.Rules.{Rule1}
 use Rattle.laws.specs.Claim.{bitPage-is, bitPage-rest, pair-zero}
 use Rattle.laws.specs.Count.{BelowR, Good, good}

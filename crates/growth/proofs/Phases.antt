@@ -1,17 +1,16 @@
 -- Growing as the code writes it: the pages taken, then the slots, then the entries, one law for each phase. Assumes nothing.
-use mathlib.Core.Path.{_≡_, refl, sym, ap, ap₂, _∙_, subst, subst₂}
-use mathlib.Core.Logic.{inl, inr}
+use mathlib.Core.Path.{_≡_, refl, sym, ap, ap₂, _∙_, subst₂}
 use mathlib.Core.List.{List}
-use Prim.Native.Nat.{ℕ, zero, suc, _+_, _*_, _/_, _%_, _≤_, _<_}
+use Prim.Native.Nat.{ℕ, zero, suc, _+_, _/_, _%_, _≤_, _<_}
 use native.Mathlib.Numerals.{add-one}
 use native.Mathlib.Nat.{not-suc-le-zero}
 use native.Mathlib.Omega.{arith}
-use Rattle.book.specs.Words.{Words, Vol, vol, two}
-use Rattle.book.specs.Pointers.{flags, page, pointer, slot, setSlot}
-use Rattle.book.specs.Trees.{Root, weighR, rootBy, weigh, Below}
+use Rattle.book.specs.Words.{Vol, vol}
+use Rattle.book.specs.Pointers.{flags, page, pointer, setSlot}
+use Rattle.book.specs.Trees.{Root, weighR, rootBy, weigh}
 use Rattle.book.specs.Bits.{bitPage, lowestFree, claim}
 use Rattle.book.specs.Entries.{Table, object, user, used, userPage, objectPage, usedPages, pageCount, fileEntry}
-use Rattle.book.specs.Files.{fileAt, Shape, need}
+use Rattle.book.specs.Files.{Shape, need}
 use Rattle.book.specs.Holders.{hit}
 use Rattle.book.specs.Image.{pages, IndexArg}
 use Rattle.book.specs.Calls.{HasFile}
@@ -28,9 +27,8 @@ use Rattle.laws.specs.Tree.{Agree, slot-same}
 use Rattle.bits.specs.File.{BitsAt}
 use Rattle.bits.proofs.Places.{bits-claim}
 use Rattle.growth.specs.declared.entries.Head.{Head}
-use Rattle.growth.specs.Head.{FileHead, Growing}
-use Rattle.tree.proofs.Ready.{ready-some}
-use Rattle.growth.proofs.Files.{file-shape, file-root, file-owner, file-used-lt, file-count-lt}
+use Rattle.growth.specs.Head.{Growing}
+use Rattle.growth.proofs.Files.{file-shape, file-root, file-owner}
 
 -- ---- a page taken, on an image that code has since changed
 

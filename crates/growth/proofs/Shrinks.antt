@@ -1,19 +1,19 @@
 -- Shrinking as the code writes it: what was read, then the slot, the entries and the bits, one law for each phase. Assumes nothing.
 use mathlib.Core.Path.{_≡_, refl, sym, ap, ap₂, _∙_, subst}
 use mathlib.Core.List.{List}
-use Prim.Native.Nat.{ℕ, zero, suc, _+_, _-_, _*_, _/_, _%_, _≤_, _<_}
+use Prim.Native.Nat.{ℕ, _-_, _/_, _%_, _<_}
 use native.Mathlib.Omega.{arith}
 use Rattle.book.specs.Words.{Vol, vol}
 use Rattle.book.specs.Pointers.{flags, page, pointer, slot, setSlot}
 use Rattle.book.specs.Bits.{mark}
-use Rattle.book.specs.Entries.{Table, object, user, userPage, objectPage, usedPages, pageCount, fileEntry}
+use Rattle.book.specs.Entries.{object, user, userPage, objectPage, usedPages, pageCount, fileEntry}
 use Rattle.book.specs.Image.{pages}
 use Rattle.book.specs.Grow.{Phase, finish, entered, indexOf, first, onward, raise, block, phaseBy}
 use Rattle.book.specs.Shrink.{shrinkTo, shrink}
 use Rattle.bits.specs.File.{BitsAt}
 use Rattle.bits.proofs.Places.{bits-mark}
 use Rattle.growth.specs.declared.entries.Head.{Head}
-use Rattle.growth.specs.Head.{FileHead, Shrinking}
+use Rattle.growth.specs.Head.{Shrinking}
 use Rattle.growth.proofs.Files.{file-owner-pos, file-entry-pos, file-top, file-index-lt, file-index-pos, file-page-lt, file-count-lt, file-one, file-two}
 use Rattle.growth.proofs.Phases.{phase-onward, phase-first, phase-raise, phase-block}
 use Rattle.growth.proofs.Places.{bits-slot, bits-finish}

@@ -2,19 +2,19 @@
 use mathlib.Core.Path.{_≡_, refl, sym, ap, ap₂, _∙_, subst, subst₂}
 use mathlib.Core.Logic.{_≢_}
 use mathlib.Core.List.{List}
-use Prim.Native.Nat.{ℕ, zero, suc, _+_, _-_, _*_, _/_, _≤_, _<_}
+use Prim.Native.Nat.{ℕ, zero, suc, _+_, _-_, _/_, _≤_, _<_}
 use native.Mathlib.Nat.{not-suc-le-zero}
 use native.Mathlib.Numerals.{add-one}
 use native.Mathlib.Omega.{arith}
 use lib.ListN.{length}
-use Rattle.sums.specs.Sum.{sum, sum-zero, sum-suc, sum-ext, sum-none, sum-at-zero}
+use Rattle.sums.specs.Sum.{sum, sum-zero, sum-suc, sum-at-zero}
 use Rattle.book.specs.Words.{Vol, vol}
 use Rattle.book.specs.Written.{word-ext}
 use Rattle.book.specs.Pointers.{page, slot, bitPointer}
 use Rattle.book.specs.Trees.{Root, tree, run, weigh, blocks, Below, weighR, blocksR, rootBy}
 use Rattle.book.specs.Bits.{bitPage, mark, freed}
 use Rattle.book.specs.Holders.{hit}
-use Rattle.book.specs.Image.{pages, Whole, mostPages}
+use Rattle.book.specs.Image.{pages, mostPages}
 use Rattle.book.specs.Rules.{Rule1}
 use Rattle.laws.specs.Claim.{bitPage-is}
 use Rattle.laws.specs.Count.{BelowR}

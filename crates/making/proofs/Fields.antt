@@ -1,7 +1,7 @@
 -- A new entry as the code writes it: one field after the other. Assumes nothing.
 use mathlib.Core.Path.{_≡_, sym, ap, _∙_}
 use mathlib.Core.List.{List}
-use Prim.Native.Nat.{ℕ, _+_, _*_, _≤_, _<_}
+use Prim.Native.Nat.{ℕ, _+_, _≤_, _<_}
 use native.Mathlib.Nat.{add-zero}
 use native.Mathlib.Omega.{arith}
 use Rattle.book.specs.Words.{Words, Vol, put, put2, putWords, setWord, setTwo, setWords, zeros}
