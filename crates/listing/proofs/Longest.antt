@@ -244,7 +244,7 @@ shown-all : (t o out : Bytes) (n : ℕ) → Shown t o out n → length t ≤ len
 shown-all t o out n S h =
     let l : length (take n out) ≡ n = length-take-le n out (omega (arith, S .whole, S .size)) in
     ext-getD 0 (take n out) t (l ∙ S .whole) (λ i b.
-        getD-take n out i 0 (omega (arith, l)) ∙ S .bytes i (omega (arith, l, S .whole)) ∙ getD-any t i (getD o i 0) 0 (omega (arith, l, S .whole)))
+    getD-take n out i 0 (omega (arith, l)) ∙ S .bytes i (omega (arith, l, S .whole)) ∙ getD-any t i (getD o i 0) 0 (omega (arith, l, S .whole)))
 
 -- the front of the buffer is the text
 pub whole-text : (img o out : List ℕ) (n : ℕ) → length img ≤ 32768 → 65536 ≤ length o → Reported img o out n → (n ≤ 65536) × Listed img (take n out)
