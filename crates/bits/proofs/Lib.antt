@@ -1,4 +1,5 @@
 -- Laws that proofs of this crate and of its users cite.
 pub mod Digits
 pub mod Places
+pub mod Marked
 pub mod Ready

@@ -12,7 +12,8 @@ use Rattle.sums.specs.Search.{every-yes, every-at}
 use Rattle.book.specs.Words.{Vol, word, put, wipe}
 use Rattle.book.specs.Pointers.{page, bitPointer}
 use Rattle.book.specs.Trees.{pageAt, upto}
-use Rattle.book.specs.Bits.{digit, toDigit, bitPages, bitFile, bitPage, bit, mark, claim, claimRun, freeRun}
+use Rattle.book.specs.Bits.{digit, toDigit, pageBits, bitPageOf, bitWord, bitPages, bitFile, bitPage, bit, mark, claim, claimRun, freeRun}
+use Rattle.book.specs.Image.{mostPages}
 use Rattle.book.specs.Rules.{Rule1}
 use Rattle.book.specs.Written.{digit-le, word-pos, put-page, wipe-page}
 use Rattle.bits.specs.File.{BitsAt}
@@ -24,18 +25,18 @@ module _ (P : ℕ) (v : Vol) (b : ℕ) (f : BitsAt P v b) where
   pub bit-page : (p : ℕ) → p < P → bitPage P v p ≡ b
   unfolding bitPage bitFile bitPages pageAt upto
   bit-page p h =
-      let e : 1 - (suc (p / 16384) - (P + 16383) / 16384) ≡ 1 = omega (arith, f .most) in
-      ap (λ (x : ℕ). x * (page (v 0) bitPointer + p / 16384)) e ∙ omega (arith, f .at, f .most)
+      let e : 1 - (suc (bitPageOf p) - (P + (pageBits - 1)) / pageBits) ≡ 1 = omega (arith, f .most) in
+      ap (λ (x : ℕ). x * (page (v 0) bitPointer + bitPageOf p)) e ∙ omega (arith, f .at, f .most)
 
   pub bit-at : (p : ℕ) → p < P → bit P v p ≡ digit (p % 16) (v b (p / 16))
   unfolding bit
   bit-at p h =
-      ap (digit (p % 16)) (ap₂ (word v) (bit-page p h) (let e : p % 16384 / 16 ≡ p / 16 = omega (arith, f .most) in e) ∙ word-pos v b (p / 16) (f .some))
+      ap (digit (p % 16)) (ap₂ (word v) (bit-page p h) (let e : bitWord p ≡ p / 16 = omega (arith, f .most) in e) ∙ word-pos v b (p / 16) (f .some))
 
   pub mark-at : (p x : ℕ) → p < P → mark P v p x ≡ put v b (p / 16) (toDigit (p % 16) (v b (p / 16)) x)
   unfolding mark
   mark-at p x h =
-      ap₂ (λ (q k : ℕ). put v q k (toDigit (p % 16) (word v q k) x)) (bit-page p h) (let e : p % 16384 / 16 ≡ p / 16 = omega (arith, f .most) in e)
+      ap₂ (λ (q k : ℕ). put v q k (toDigit (p % 16) (word v q k) x)) (bit-page p h) (let e : bitWord p ≡ p / 16 = omega (arith, f .most) in e)
       ∙ ap (λ (w : ℕ). put v b (p / 16) (toDigit (p % 16) w x)) (word-pos v b (p / 16) (f .some))
 
   -- bit n of word i
@@ -100,7 +101,7 @@ module _ (P : ℕ) (v : Vol) where
 -- ---- the bit file stays where it is
 
 -- after any change that leaves the bit pointer
-pub bits-kept : (P : ℕ) (v v′ : Vol) (b : ℕ) → v′ 0 1020 ≡ v 0 1020 → v′ 0 1021 ≡ v 0 1021 → BitsAt P v b → BitsAt P v′ b
+pub bits-kept : (P : ℕ) (v v′ : Vol) (b : ℕ) → v′ 0 bitPointer ≡ v 0 bitPointer → v′ 0 (suc bitPointer) ≡ v 0 (suc bitPointer) → BitsAt P v b → BitsAt P v′ b
 unfolding page
 bits-kept P v v′ b h l f = record {
   most = f .most;
@@ -114,12 +115,12 @@ bits-mark P v b p x h f =
     let put-it : Vol = put v b (p / 16) (toDigit (p % 16) (v b (p / 16)) x) in
     let n : 0 ≡ b → ⊥ = λ e. omega (arith, f .some) in
     subst (λ (w : Vol). BitsAt P w b) (sym (mark-at P v b f p x h))
-    (bits-kept P v put-it b (put-page v b _ _ 0 1020 n) (put-page v b _ _ 0 1021 n) f)
+    (bits-kept P v put-it b (put-page v b _ _ 0 bitPointer n) (put-page v b _ _ 0 (suc bitPointer) n) f)
 
 pub bits-wipe : (P : ℕ) (v : Vol) (b d : ℕ) → 0 < d → BitsAt P v b → BitsAt P (wipe v d) b
 bits-wipe P v b d h f =
     let n : 0 ≡ d → ⊥ = λ e. omega arith in
-    bits-kept P v (wipe v d) b (wipe-page v d 0 1020 n) (wipe-page v d 0 1021 n) f
+    bits-kept P v (wipe v d) b (wipe-page v d 0 bitPointer n) (wipe-page v d 0 (suc bitPointer) n) f
 
 pub bits-claim : (P : ℕ) (v : Vol) (b d : ℕ) → 0 < d → d < P → BitsAt P v b → BitsAt P (claim P v d) b
 unfolding claim
@@ -131,7 +132,7 @@ bits-run P v b s zero h l f = f
 bits-run P v b s (suc n) h l f = bits-claim P (claimRun P v s n) b (s + n) (omega arith) (omega arith) (bits-run P v b s n h (omega arith) f)
 
 -- of a volume that keeps rule 1
-pub bits-at : (P : ℕ) (v : Vol) → P ≤ 16384 → Rule1 P v → BitsAt P v (page (v 0) bitPointer)
+pub bits-at : (P : ℕ) (v : Vol) → P ≤ mostPages → Rule1 P v → BitsAt P v (page (v 0) bitPointer)
 unfolding bitPages
 bits-at P v m r = record { most = m; at = refl; some = r .start; below = omega (arith, r .start, r .fits) }
 

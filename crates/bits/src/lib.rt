@@ -1,5 +1,6 @@
 // The bit file, one page b: page p is bit p % 16, from the right, of word p / 16; 1 is reserved.
-mod word;
+pub mod marks;
+pub mod word;
 
 use page::read::word_at;
 use page::write::put_word;
@@ -14,12 +15,24 @@ ghost use mathlib.Core.Path.{_≡_};
 ghost use Prim.Native.Nat.{ℕ, _+_, _*_, _≤_, _<_};
 ghost use lib.ListN.{length};
 ghost use Rattle.book.specs.Words.{vol};
-ghost use Rattle.book.specs.Bits.{bit, mark, reserved as reservedOf, lowestFree, highestRun, claim as claimOf, claimRun};
+ghost use Rattle.book.specs.Bits.{bit, mark, reserved as reservedOf, lowestFree, claim as claimOf, claimRun, pageBits, bitPages};
+ghost use Rattle.book.specs.Image.{mostPages};
 ghost use Rattle.bits.specs.File.{BitsAt};
+
+// The pages that the bits of one page serve.
+const PAGE_BITS: usize = 16384;
+
+// How many bit pages so many pages ask for.
+pub fn bit_pages(pages: usize) -> usize
+    requires { ⌜ pages ≤ mostPages ⌝ }
+    ensures { λ r. ⌜ r ≡ bitPages pages ⌝ }
+{
+    (pages + (PAGE_BITS - 1)) / PAGE_BITS
+}
 
 // Page p's bit.
 pub fn test(img: &[u16], b: usize, p: usize) -> u16
-    requires { ⌜ (1024 * b + 1024 ≤ length (now img)) × (p < 16384) ⌝ }
+    requires { ⌜ (1024 * b + 1024 ≤ length (now img)) × (p < pageBits) ⌝ }
     ensures { λ r. ⌜ ((P : ℕ) → BitsAt P (vol (now (img .entry))) b → p < P → r ≡ bit P (vol (now (img .entry))) p) × (r < 2) ⌝ }
 {
     digit_in(word_at(img, b, p / 16), p % 16)
@@ -27,7 +40,7 @@ pub fn test(img: &[u16], b: usize, p: usize) -> u16
 
 // Page p is reserved.
 pub fn set(img: &mut [u16], b: usize, p: usize)
-    requires { ⌜ (1024 * b + 1024 ≤ length (now img)) × (p < 16384) ⌝ }
+    requires { ⌜ (1024 * b + 1024 ≤ length (now img)) × (p < pageBits) ⌝ }
     ensures { λ _. ⌜ ((P : ℕ) → BitsAt P (vol (now (img .entry))) b → p < P → vol (now (img .exit)) ≡ mark P (vol (now (img .entry))) p 1) ⌝ }
 {
     let w = word_at(img, b, p / 16);
@@ -36,7 +49,7 @@ pub fn set(img: &mut [u16], b: usize, p: usize)
 
 // Page p is freed.
 pub fn clear(img: &mut [u16], b: usize, p: usize)
-    requires { ⌜ (1024 * b + 1024 ≤ length (now img)) × (p < 16384) ⌝ }
+    requires { ⌜ (1024 * b + 1024 ≤ length (now img)) × (p < pageBits) ⌝ }
     ensures { λ _. ⌜ ((P : ℕ) → BitsAt P (vol (now (img .entry))) b → p < P → vol (now (img .exit)) ≡ mark P (vol (now (img .entry))) p 0) ⌝ }
 {
     let w = word_at(img, b, p / 16);
@@ -45,7 +58,7 @@ pub fn clear(img: &mut [u16], b: usize, p: usize)
 
 // Page p is taken: reserved, and made zeros.
 pub fn claim(img: &mut [u16], b: usize, p: usize)
-    requires { ⌜ (1024 * b + 1024 ≤ length (now img)) × (1024 * p + 1024 ≤ length (now img)) × (p < 16384) ⌝ }
+    requires { ⌜ (1024 * b + 1024 ≤ length (now img)) × (1024 * p + 1024 ≤ length (now img)) × (p < pageBits) ⌝ }
     ensures { λ _. ⌜ ((P : ℕ) → BitsAt P (vol (now (img .entry))) b → p < P → vol (now (img .exit)) ≡ claimOf P (vol (now (img .entry))) p) ⌝ }
 {
     set(img, b, p);
@@ -54,7 +67,7 @@ pub fn claim(img: &mut [u16], b: usize, p: usize)
 
 // The n pages from s on are taken.
 pub fn claim_run(img: &mut [u16], b: usize, s: usize, n: usize)
-    requires { ⌜ (1024 * b + 1024 ≤ length (now img)) × (1024 * (s + n) ≤ length (now img)) × (s + n ≤ 16384) × (0 < s) ⌝ }
+    requires { ⌜ (1024 * b + 1024 ≤ length (now img)) × (1024 * (s + n) ≤ length (now img)) × (s + n ≤ pageBits) × (0 < s) ⌝ }
     ensures { λ _. ⌜ ((P : ℕ) → BitsAt P (vol (now (img .entry))) b → s + n ≤ P → vol (now (img .exit)) ≡ claimRun P (vol (now (img .entry))) s n) ⌝ }
 {
     let mut i: usize = 0;
@@ -101,25 +114,4 @@ pub fn lowest_free(img: &[u16], b: usize, pages: usize) -> usize
         i += 1;
     }
     pages
-}
-
-// The highest start of n free pages in a row, and 0 if there is none: one walk downwards, with the length of the free run at hand.
-pub fn highest_run(img: &[u16], b: usize, pages: usize, n: usize) -> usize
-    requires { ⌜ (1024 * b + 1024 ≤ length (now img)) × BitsAt pages (vol (now img)) b × (0 < n) ⌝ }
-    ensures { λ r. ⌜ r ≡ highestRun pages (vol (now (img .entry))) n ⌝ }
-{
-    let mut p = pages;
-    let mut run: usize = 0;
-    while 0 < p {
-        p -= 1;
-        if test(img, b, p) == 1 {
-            run = 0;
-        } else {
-            run += 1;
-            if run == n {
-                return p;
-            }
-        }
-    }
-    0
 }

@@ -44,12 +44,20 @@ pub(crate) fn ones_in(w: u16) -> usize
     u16::count_ones(w) as usize
 }
 
+// The n lowest bits of w.
+pub fn low_bits(w: u16, n: usize) -> u16
+    requires { ⌜ n < 16 ⌝ }
+    ensures { λ r. ⌜ r ≡ w % 2 ^ n ⌝ }
+{
+    w & (power(n) - 1)
+}
+
 // The number of ones among the n lowest bits of w.
 pub(crate) fn ones_low(w: u16, n: usize) -> usize
     requires { ⌜ n < 16 ⌝ }
     ensures { λ r. ⌜ (r ≡ ones (w % 2 ^ n)) × (r ≤ 16) ⌝ }
 {
-    ones_in(w & (power(n) - 1))
+    ones_in(low_bits(w, n))
 }
 
 // The place of the lowest 0 of w, and 16 if there is none.

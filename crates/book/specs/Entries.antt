@@ -23,6 +23,10 @@ userFile v = rootAt (v 0) userPointer 0
 unfoldable pub objectFile : Vol → Root
 objectFile v = rootAt (v 0) objectPointer 0
 
+-- the object file has 2,048 pages at most: 65,536 entries
+abbrev pub objectPages : ℕ
+objectPages = 2048
+
 -- all entries of a file
 abbrev pub Table : Type 0
 Table = ℕ → Words

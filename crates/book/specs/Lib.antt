@@ -26,3 +26,4 @@ pub mod Coincide
 pub mod Gate
 pub mod Return
 pub mod Listing
+pub mod Decimal

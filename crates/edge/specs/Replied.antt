@@ -21,18 +21,20 @@ Replied C img r img′ = Outcome C img (inNumbers (r .number) (r .value) (r .rul
 abbrev pub Spelled : Numbers ℕ → Reply → Type 0
 Spelled n r = (r .number ≡ n .number) × (r .rule ≡ n .rule) × (r .value ≡ n .value)
 
--- done, and told this holder
-abbrev pub Told : ℕ → ℕ → ℕ → ℕ → HolderReply → Type 0
-Told k u f p r = (r .number ≡ 0) × (r .rule ≡ 0) × (r .kind ≡ k) × (r .user ≡ u) × (r .file ≡ f) × (r .position ≡ p)
+-- a reply of who-holds with this number, this rule and this holder
+abbrev pub Says : ℕ → ℕ → HolderNumbers → HolderReply → Type 0
+Says n x h r = (r .number ≡ n) × (r .rule ≡ x) × (r .kind ≡ h .kind) × (r .user ≡ h .user) × (r .file ≡ h .file) × (r .position ≡ h .position)
 
+-- done, and told this holder
 abbrev pub HeldBy : HolderNumbers → HolderReply → Type 0
-HeldBy h r = Told (h .kind) (h .user) (h .file) (h .position) r
+HeldBy h r = Says 0 0 h r
+
+abbrev pub Told : ℕ → ℕ → ℕ → ℕ → HolderReply → Type 0
+Told k u f p r = HeldBy (record { kind = k; user = u; file = f; position = p }) r
 
 -- a reply that spells these numbers, the holder in its own
 abbrev pub HeldAs : Numbers Holder → HolderReply → Type 0
-HeldAs n r = (r .number ≡ n .number) × (r .rule ≡ n .rule)
-    × (r .kind ≡ holderNumbers (n .value) .kind) × (r .user ≡ holderNumbers (n .value) .user)
-    × (r .file ≡ holderNumbers (n .value) .file) × (r .position ≡ holderNumbers (n .value) .position)
+HeldAs n r = Says (n .number) (n .rule) (holderNumbers (n .value)) r
 
 -- who-holds: the reply spells an outcome of the call, which leaves the image
 unfoldable pub Held : Call Holder → List ℕ → HolderReply → Type 0

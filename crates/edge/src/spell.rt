@@ -8,7 +8,8 @@ use book::Role;
 use sound::numbers::number_of;
 use sound::numbers::rule_of;
 ghost use mathlib.Core.Path.{_≡_};
-ghost use Rattle.book.specs.Answers.{numbers, numberOf, ruleOf, holding, roleNumbers, holderNumbers};
+ghost use Rattle.book.specs.Answers.{numbers, numberOf, ruleOf, refusedWith, holding, roleNumbers, holderNumbers};
+ghost use Rattle.book.specs.declared.Holder.the-variants.{Free};
 ghost use Rattle.edge.specs.Replied.{Spelled, Told, HeldBy, HeldAs, Placed};
 
 // The answer of every call but who-holds and read.
@@ -130,7 +131,7 @@ fn holder_of(h: Holder) -> HolderReply
 
 // A refusal of who-holds: the holder is all zeros.
 fn no_holder(why: Refusal) -> HolderReply
-    ensures { λ r. ⌜ (r .number ≡ numberOf why) × (r .rule ≡ ruleOf why) × (r .kind ≡ 0) × (r .user ≡ 0) × (r .file ≡ 0) × (r .position ≡ 0) ⌝ }
+    ensures { λ r. ⌜ HeldAs (refusedWith Free why) r ⌝ }
 {
     let r = refusal_of(why);
     HolderReply {

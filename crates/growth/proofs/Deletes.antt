@@ -1,22 +1,21 @@
 -- Deleting a file as the code writes it: once its entry is cleared, its blocks are those of before. Assumes nothing.
-use mathlib.Core.Path.{_≡_, refl, sym, ap, ap₂, _∙_, subst, subst₂, fun-ext}
+use mathlib.Core.Path.{_≡_, sym, ap, ap₂, _∙_, subst₂, fun-ext}
 use mathlib.Core.Logic.{_≢_, inl, inr}
 use mathlib.Core.List.{List}
-use Prim.Native.Nat.{ℕ, zero, suc, _+_, _-_, _*_, _/_, _≤_, _<_}
-use native.Mathlib.Nat.{not-suc-le-zero}
+use Prim.Native.Nat.{ℕ, zero, suc, _+_, _-_, _/_, _<_}
 use native.Mathlib.Omega.{arith}
 use lib.ListN.{length}
 use Rattle.sums.specs.Sum.{sum}
-use Rattle.book.specs.Words.{Vol, vol, word, put2, putWords, zeros}
+use Rattle.book.specs.Words.{Vol, vol, put2, zeros}
 use Rattle.book.specs.Written.{word-ext, put2-page, putWords-page}
 use Rattle.book.specs.Pointers.{page, bitPointer}
-use Rattle.book.specs.Trees.{Root, tree, run, weighR, blocksR, rootBy, pageAt}
+use Rattle.book.specs.Trees.{Root, tree, run, weighR, blocksR, rootBy}
 use Rattle.book.specs.Bits.{bitPage, freed}
 use Rattle.book.specs.Delete.{deleteFile}
-use Rattle.book.specs.Entries.{user, userPage, objectPage, putEntry, entryWord, entryPage, usedPages, objectFile, userFile, fileEntry}
+use Rattle.book.specs.Entries.{user, userPage, objectPage, putEntry, entryWord, entryPage, usedPages, fileEntry}
 use Rattle.book.specs.Files.{fileAt, Shape}
 use Rattle.book.specs.Holders.{hit, some, mine}
-use Rattle.book.specs.Image.{pages, Whole}
+use Rattle.book.specs.Image.{pages}
 use Rattle.book.specs.Rules.{Rule1}
 use Rattle.laws.specs.Bits.Claim.{bitPage-is, bitPage-rest}
 use Rattle.laws.specs.Count.Good.{Good, good}
@@ -53,7 +52,7 @@ shape-start P v zero t n (inl s) z h = absurd (let r : ⊥ = omega (arith, s .0)
 shape-start P v zero t n (inr s) z h = s .1
 shape-start P v (suc x) t n s z h = absurd (let r : ⊥ = omega arith in r)
 
-module _ (img : List ℕ) (u f : ℕ) (h : Head) (a : FileHead img u f h) where
+module _ {img : List ℕ} {u f : ℕ} {h : Head} (a : FileHead img u f h) where
   abbrev P : ℕ
   P = pages img
 
@@ -76,7 +75,7 @@ module _ (img : List ℕ) (u f : ℕ) (h : Head) (a : FileHead img u f h) where
 
   -- a page that no file holds
   unheld : (q : ℕ) → sum 256 (λ u. mine v u (hit q)) ≡ 0 → blocksR v r (hit q) ≡ 0
-  unheld q z = ap (λ (x : Root). blocksR v x (hit q)) (sym (file-root img u f h a)) ∙ omega (arith, z, file-le v (hit q) u f (a .user) (a .file), blocksR-le v (fileAt v e) (hit q))
+  unheld q z = ap (λ (x : Root). blocksR v x (hit q)) (sym (file-root a)) ∙ omega (arith, z, file-le v (hit q) u f (a .user) (a .file), blocksR-le v (fileAt v e) (hit q))
 
   unheld-entry : blocksR v r (hit (h .entry)) ≡ 0
   unfolding objectPage
@@ -113,10 +112,10 @@ module _ (img : List ℕ) (u f : ℕ) (h : Head) (a : FileHead img u f h) where
     quiet = omega (arith, blocksR-add v (hit (h .entry)) (hit (h .owner)) r, unheld-entry, unheld-owner)
 
     master : (k : ℕ) → w 0 k ≡ v 0 k
-    master k = else 0 k (λ i. omega (arith, i, file-entry-pos img u f h a)) (λ i. omega (arith, i, file-owner-pos img u f h a))
+    master k = else 0 k (λ i. omega (arith, i, file-entry-pos a)) (λ i. omega (arith, i, file-owner-pos a))
 
     weight : (g : ℕ → ℕ) → weighR w r g ≡ weighR v (fileAt v e) g
-    weight g = weighR-frame v w C agree r quiet g ∙ ap (λ (x : Root). weighR v x g) (sym (file-root img u f h a))
+    weight g = weighR-frame v w C agree r quiet g ∙ ap (λ (x : Root). weighR v x g) (sym (file-root a))
 
     module _ (img′ : List ℕ) (len : length img′ ≡ length img) (i : vol img′ ≡ w) where
       same : pages img′ ≡ P
@@ -132,10 +131,10 @@ module _ (img : List ℕ) (u f : ℕ) (h : Head) (a : FileHead img u f h) where
 
       pub erased-apart : RootApart (pages img′) (vol img′) (h .bits) (h .flags) (h .top) (h .count)
       erased-apart = subst₂ (λ (N : ℕ) (x : Vol). RootApart N x (h .bits) (h .flags) (h .top) (h .count)) (sym same) (sym i) record {
-        known = shape-known P v (h .flags) (h .top) (h .count) (file-shape img u f h a);
-        below = below-frame P v w C agree r quiet (below-shape P v (h .flags) (h .top) (h .count) (file-shape img u f h a));
+        known = shape-known P v (h .flags) (h .top) (h .count) (file-shape a);
+        below = below-frame P v w C agree r quiet (below-shape P v (h .flags) (h .top) (h .count) (file-shape a));
         apart = blocksR-frame v w C agree r quiet (hit (h .bits)) ∙ unheld-bits;
-        start = shape-start P v (h .flags) (h .top) (h .count) (file-shape img u f h a);
+        start = shape-start P v (h .flags) (h .top) (h .count) (file-shape a);
       }
 
       -- and then all its pages are freed
@@ -147,7 +146,7 @@ module _ (img : List ℕ) (u f : ℕ) (h : Head) (a : FileHead img u f h) where
           ∙ ap (λ (z : Vol). freed P z (λ p. weighR v (fileAt v e) (hit p))) entries
         where
           left : y ≡ usedPages (user v) u - weighR v (fileAt v e) some
-          left = ey ∙ ap₂ (λ (m n : ℕ). m - n) (a .head .spent) (sym (file-held img u f h a))
+          left = ey ∙ ap₂ (λ (m n : ℕ). m - n) (a .head .spent) (sym (file-held a))
 
           entries : w ≡ put2 (putEntry v (objectPage v e) e zeros) (userPage v u) (entryWord u + 16) (usedPages (user v) u - weighR v (fileAt v e) some)
           entries = ap₂ (λ (o q : ℕ). put2 (putEntry v o e zeros) q (entryWord u + 16) y) (a .head .entryAt) (a .head .ownerAt)

@@ -1,17 +1,17 @@
 -- What the rules say of a file whose head is known. Assumes nothing.
-use mathlib.Core.Path.{_≡_, refl, sym, ap, ap₂, _∙_, subst}
+use mathlib.Core.Path.{_≡_, sym, ap, ap₂, _∙_, subst}
 use mathlib.Core.Logic.{inl, inr}
 use mathlib.Core.List.{List}
-use Prim.Native.Nat.{ℕ, _+_, _*_, _%_, _≤_, _<_}
+use Prim.Native.Nat.{ℕ, _+_, _%_, _≤_, _<_}
 use native.Mathlib.Nat.{eq-zero-or-pos}
 use native.Mathlib.Decide.{ℕ-discrete, decLt}
 use native.Mathlib.Omega.{arith}
 use Rattle.sums.specs.Search.{pick-yes, pick-no}
 use Rattle.book.specs.Words.{Vol, vol}
 use Rattle.book.specs.Pointers.{flags, page, slot}
-use Rattle.book.specs.Trees.{Root, rootAt, rootBy, weighR}
-use Rattle.book.specs.Entries.{object, user, used, userFile, objectFile, userPage, objectPage, usedPages, pageCount, fileEntry}
-use Rattle.book.specs.Files.{fileAt, Shape, FileShape, cost, isRun}
+use Rattle.book.specs.Trees.{rootAt, rootBy, weighR}
+use Rattle.book.specs.Entries.{object, user, used, userPage, objectPage, pageCount, fileEntry}
+use Rattle.book.specs.Files.{fileAt, Shape, FileShape, cost}
 use Rattle.book.specs.Holders.{some}
 use Rattle.book.specs.Image.{pages}
 use Rattle.book.specs.Calls.{Grows}
@@ -29,7 +29,7 @@ use Rattle.growth.proofs.Held.{held-le, held-more}
 use Rattle.growth.proofs.Blocks.{top-in, index-lt, page-lt, index-pos, slot-one, slot-two}
 use Rattle.tree.proofs.Ready.{ready-some}
 
-module _ (img : List ℕ) (u f : ℕ) (h : Head) (a : FileHead img u f h) where
+module _ {img : List ℕ} {u f : ℕ} {h : Head} (a : FileHead img u f h) where
   abbrev P : ℕ
   P = pages img
 

@@ -3,7 +3,6 @@ use mathlib.Core.Path.{_≡_, refl, sym, ap, ap₂, _∙_}
 use mathlib.Core.Logic.{_≢_}
 use Prim.Native.Nat.{ℕ, zero, suc, _+_, _/_, _<_}
 use native.Mathlib.Nat.{not-suc-le-zero}
-use native.Mathlib.Omega.{arith}
 use Rattle.book.specs.Words.{Vol, put2, putWords, zeros}
 use Rattle.book.specs.Pointers.{slot}
 use Rattle.book.specs.Entries.{entryWord, putEntry}

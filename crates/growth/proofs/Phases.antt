@@ -1,17 +1,16 @@
 -- Growing as the code writes it: the pages taken, then the slots, then the entries, one law for each phase. Assumes nothing.
-use mathlib.Core.Path.{_≡_, refl, sym, ap, ap₂, _∙_, subst, subst₂}
-use mathlib.Core.Logic.{inl, inr}
+use mathlib.Core.Path.{_≡_, refl, sym, ap, ap₂, _∙_, subst₂}
 use mathlib.Core.List.{List}
-use Prim.Native.Nat.{ℕ, zero, suc, _+_, _*_, _/_, _%_, _≤_, _<_}
+use Prim.Native.Nat.{ℕ, zero, suc, _+_, _/_, _%_, _≤_, _<_}
 use native.Mathlib.Numerals.{add-one}
 use native.Mathlib.Nat.{not-suc-le-zero}
 use native.Mathlib.Omega.{arith}
-use Rattle.book.specs.Words.{Words, Vol, vol, two}
-use Rattle.book.specs.Pointers.{flags, page, pointer, slot, setSlot}
-use Rattle.book.specs.Trees.{Root, weighR, rootBy, weigh, Below}
+use Rattle.book.specs.Words.{Vol, vol}
+use Rattle.book.specs.Pointers.{flags, page, pointer, setSlot}
+use Rattle.book.specs.Trees.{Root, weighR, rootBy, weigh}
 use Rattle.book.specs.Bits.{bitPage, lowestFree, claim}
 use Rattle.book.specs.Entries.{Table, object, user, used, userPage, objectPage, usedPages, pageCount, fileEntry}
-use Rattle.book.specs.Files.{fileAt, Shape, need}
+use Rattle.book.specs.Files.{Shape, need}
 use Rattle.book.specs.Holders.{hit}
 use Rattle.book.specs.Image.{pages, IndexArg}
 use Rattle.book.specs.Calls.{HasFile}
@@ -28,9 +27,8 @@ use Rattle.laws.specs.Tree.Slot.{Agree, slot-same}
 use Rattle.bits.specs.File.{BitsAt}
 use Rattle.bits.proofs.Places.{bits-claim}
 use Rattle.growth.specs.declared.entries.Head.{Head}
-use Rattle.growth.specs.Head.{FileHead, Growing}
-use Rattle.tree.proofs.Ready.{ready-some}
-use Rattle.growth.proofs.Files.{file-shape, file-root, file-owner, file-used-lt, file-count-lt}
+use Rattle.growth.specs.Head.{Growing}
+use Rattle.growth.proofs.Files.{file-shape, file-root, file-owner}
 
 -- ---- a page taken, on an image that code has since changed
 
@@ -63,7 +61,7 @@ phase-block m zero z h = absurd (not-suc-le-zero h)
 phase-block m (suc zero) z h = absurd (let r : ⊥ = omega arith in r)
 phase-block m (suc (suc q)) z h = ap (λ (x : ℕ). phaseBy x (suc (suc q))) z
 
-module _ (img : List ℕ) (u f : ℕ) (h : Head) (g : Growing img u f h) where
+module _ {img : List ℕ} {u f : ℕ} {h : Head} (g : Growing img u f h) where
   abbrev P : ℕ
   P = pages img
 
@@ -80,7 +78,7 @@ module _ (img : List ℕ) (u f : ℕ) (h : Head) (g : Growing img u f h) where
   args = (omega (arith, g .at .user), omega (arith, g .at .file))
 
   has : HasFile v u f
-  has = (file-owner img u f h (g .at), g .at .there)
+  has = (file-owner (g .at), g .at .there)
 
   -- ---- the volumes on the way
 
@@ -193,12 +191,12 @@ module _ (img : List ℕ) (u f : ℕ) (h : Head) (g : Growing img u f h) where
   C q = hit (bitPage P v d) q + hit d q
 
   quiet : weighR v (rootBy (h .flags) (h .top) (h .count)) C ≡ 0
-  quiet = ap (λ (r : Root). weighR v r C) (sym (file-root img u f h (g .at)))
+  quiet = ap (λ (r : Root). weighR v r C) (sym (file-root (g .at)))
       ∙ q-file v v₁ (claim-roots P v (λ p. 0) G0 d (dOk .0) (dOk .1)) C (claim-none P v (λ p. 0) G0 d (dOk .0) (dOk .1)) (claim-agree P v (λ p. 0) G0 d (dOk .0) (dOk .1)) (claim-quiet P v (λ p. 0) G0 d (dOk .0) (dOk .1)) u f (g .at .user) (g .at .file)
 
   index-kept : (m : ℕ) → indexOf v₁ (h .flags) (h .top) m ≡ indexOf v (h .flags) (h .top) m
   unfolding indexOf rootBy weighR weigh Agree Shape
-  index-kept m = go (h .flags) quiet (file-shape img u f h (g .at))
+  index-kept m = go (h .flags) quiet (file-shape (g .at))
     where
       go : (x : ℕ) → weighR v (rootBy x (h .top) (h .count)) C ≡ 0 → Shape P v x (h .top) (h .count) → indexOf v₁ x (h .top) m ≡ indexOf v x (h .top) m
       go zero q s = refl

@@ -1,10 +1,10 @@
 -- The bit file stays where it is while slots and entries are written. Assumes nothing.
 use mathlib.Core.Path.{_≡_}
-use Prim.Native.Nat.{ℕ, _<_}
+use Prim.Native.Nat.{ℕ, _<_, suc}
 use native.Mathlib.Omega.{arith}
 use Rattle.book.specs.Words.{Vol, put2}
 use Rattle.book.specs.Written.{put2-page}
-use Rattle.book.specs.Pointers.{setSlot}
+use Rattle.book.specs.Pointers.{setSlot, bitPointer}
 use Rattle.book.specs.Grow.{finish}
 use Rattle.bits.specs.File.{BitsAt}
 use Rattle.bits.proofs.Places.{bits-kept}
@@ -13,7 +13,7 @@ module _ (P : ℕ) (v : Vol) (b : ℕ) (B : BitsAt P v b) where
   bits-put : (q j x : ℕ) → 0 < q → BitsAt P (put2 v q j x) b
   bits-put q j x h =
       let n : 0 ≡ q → ⊥ = λ e. omega arith in
-      bits-kept P v (put2 v q j x) b (put2-page v q j x 0 1020 n) (put2-page v q j x 0 1021 n) B
+      bits-kept P v (put2 v q j x) b (put2-page v q j x 0 bitPointer n) (put2-page v q j x 0 (suc bitPointer) n) B
 
   pub bits-slot : (q k d : ℕ) → 0 < q → BitsAt P (setSlot v q k d) b
   unfolding setSlot

@@ -2,19 +2,19 @@
 use mathlib.Core.Path.{_≡_, refl, sym, ap, ap₂, _∙_, subst, subst₂}
 use mathlib.Core.Logic.{_≢_}
 use mathlib.Core.List.{List}
-use Prim.Native.Nat.{ℕ, zero, suc, _+_, _-_, _*_, _/_, _≤_, _<_}
+use Prim.Native.Nat.{ℕ, zero, suc, _+_, _-_, _/_, _≤_, _<_}
 use native.Mathlib.Nat.{not-suc-le-zero}
 use native.Mathlib.Numerals.{add-one}
 use native.Mathlib.Omega.{arith}
 use lib.ListN.{length}
-use Rattle.sums.specs.Sum.{sum, sum-zero, sum-suc, sum-ext, sum-none, sum-at-zero}
+use Rattle.sums.specs.Sum.{sum, sum-zero, sum-suc, sum-at-zero}
 use Rattle.book.specs.Words.{Vol, vol}
 use Rattle.book.specs.Written.{word-ext}
 use Rattle.book.specs.Pointers.{page, slot, bitPointer}
 use Rattle.book.specs.Trees.{Root, tree, run, weigh, blocks, Below, weighR, blocksR, rootBy}
 use Rattle.book.specs.Bits.{bitPage, mark, freed}
 use Rattle.book.specs.Holders.{hit}
-use Rattle.book.specs.Image.{pages, Whole}
+use Rattle.book.specs.Image.{pages, mostPages}
 use Rattle.book.specs.Rules.{Rule1}
 use Rattle.laws.specs.Bits.Claim.{bitPage-is}
 use Rattle.laws.specs.Bits.Freed.{freed-rule, freed-page, freed-master, freed-none, freed-one, freed-more, freed-ext}
@@ -26,7 +26,7 @@ use Rattle.bits.proofs.Places.{bits-at}
 use Rattle.growth.specs.Freeing.{Freeing, Apart, RootApart}
 
 -- what is freed of v under g, where b is its bit page
-module _ (P : ℕ) (v : Vol) (b : ℕ) (most : P ≤ 16384) (r : Rule1 P v) (at : page (v 0) bitPointer ≡ b) where
+module _ (P : ℕ) (v : Vol) (b : ℕ) (most : P ≤ mostPages) (r : Rule1 P v) (at : page (v 0) bitPointer ≡ b) where
   pub freed-agree : (g : ℕ → ℕ) → Agree (hit b) v (freed P v g)
   unfolding Agree
   freed-agree g q z k = word-ext v (freed P v g) q k (λ h. freed-page P v r g q k (λ p i e. omega (arith, z, hit-same q h, subst (λ (x : ℕ). hit x q ≡ hit q q) (e ∙ one p i) refl)))

@@ -7,13 +7,13 @@ ghost use mathlib.Core.Path.{_≡_};
 ghost use Prim.Native.Nat.{_≤_, _<_};
 ghost use Rattle.book.specs.Words.{vol};
 ghost use Rattle.book.specs.Entries.{object, used, fileEntry};
-ghost use Rattle.book.specs.Image.{pages, Ready};
+ghost use Rattle.book.specs.Image.{pages, mostPages, Ready};
 ghost use Rattle.book.specs.Delete.{deleteFile};
 ghost use Rattle.growth.specs.Head.{FileHead, heldBy};
 
 // The pages that a file of n pages holds, by the flags of its pointer: those of a run alone, or with index blocks and a subindex block.
 fn held(flags: u16, n: usize) -> usize
-    requires { ⌜ n ≤ 16384 ⌝ }
+    requires { ⌜ n ≤ mostPages ⌝ }
     ensures { λ r. ⌜ r ≡ heldBy flags n ⌝ }
 {
     if flags == 0 {

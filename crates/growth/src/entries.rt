@@ -1,9 +1,16 @@
 // The entries of a file and of its owner: what they say before a step, and what they become.
+use page::BITS;
+use page::entry::BYTES;
 use page::entry::EntryPlace;
+use page::entry::PAGE_BYTES;
+use page::entry::PAGES;
+use page::entry::POINTER;
+use page::entry::USED;
 use page::entry::clear_entry;
 use page::read::page_at;
 use page::read::slot_at;
 use page::write::put_two;
+use seek::files::entry_number;
 use tree::entry::entry_flags;
 use tree::entry::entry_page;
 use tree::entry::entry_two;
@@ -18,25 +25,10 @@ ghost use Rattle.book.specs.Image.{pages, Ready};
 ghost use Rattle.book.specs.Grow.{finish as finishOf, indexOf};
 ghost use Rattle.growth.specs.Head.{HeadOf};
 
-// Where pages, bytes and the pointer stand in a file's entry, and used pages in a user's.
-const PAGES: usize = 26;
-
-const BYTES: usize = 28;
-
-const POINTER: usize = 30;
-
-const USED: usize = 16;
-
-// The bit file's pointer in the master page.
-const BITS: usize = 1020;
-
 // The flags of a pointer to an index block, and to a subindex block.
 pub(crate) const INDEXED: u16 = 1;
 
 pub(crate) const SUBINDEXED: u16 = 2;
-
-// The bytes of a page.
-const PAGE_BYTES: u32 = 2048;
 
 // What a step knows of its file: the pages of the two entries, the bit page, the flags and the page of the file's pointer, the file's pages and its owner's used pages.
 pub struct Head {
@@ -49,20 +41,12 @@ pub struct Head {
     pub used: usize,
 }
 
-// The entry number of file f of user u.
-pub(crate) fn entry_of(u: usize, f: usize) -> usize
-    requires { ⌜ (u < 256) × (f < 256) ⌝ }
-    ensures { λ r. ⌜ r ≡ fileEntry u f ⌝ }
-{
-    256 * u + f
-}
-
 // The head of file f of user u.
 pub(crate) fn head_of(img: &[u16], u: usize, f: usize) -> Head
     requires { ⌜ Ready (now img) × (u < 256) × (f < 256) ⌝ }
     ensures { λ r. ⌜ HeadOf (pages (now (img .entry))) (vol (now (img .entry))) u (fileEntry u f) r ⌝ }
 {
-    let e = entry_of(u, f);
+    let e = entry_number(u, f);
     let owner = user_page(img, u);
     let entry = object_page(img, e);
     let bits = page_at(img, 0, BITS) as usize;
@@ -146,7 +130,7 @@ pub(crate) fn enter(
     requires { ⌜ (u < 256) × (f < 256) × (h .owner < pages (now img)) × (h .entry < pages (now img)) × (n < 2097152) × (flags < 4) × (top < 1073741824) × (used < 4294967296) ⌝ }
     ensures { λ _. ⌜ vol (now (img .exit)) ≡ finishOf (vol (now (img .entry))) (h .owner) (h .entry) u (fileEntry u f) n (pointer flags top) used ⌝ }
 {
-    let e = entry_of(u, f);
+    let e = entry_number(u, f);
     let p = pointer_to(flags, top);
     finish(img, h.owner, h.entry, u, e, n as u32, p, used as u32);
 }
@@ -156,7 +140,7 @@ pub(crate) fn erase(img: &mut [u16], u: usize, f: usize, h: Head, used: usize)
     requires { ⌜ (u < 256) × (f < 256) × (h .owner < pages (now img)) × (h .entry < pages (now img)) × (used < 4294967296) ⌝ }
     ensures { λ _. ⌜ vol (now (img .exit)) ≡ put2 (putEntry (vol (now (img .entry))) (h .entry) (fileEntry u f) zeros) (h .owner) (entryWord u + 16) used ⌝ }
 {
-    let file = EntryPlace::of(entry_of(u, f));
+    let file = EntryPlace::of(entry_number(u, f));
     let w = file.word;
     let user = EntryPlace::of(u);
     let z = user.word;

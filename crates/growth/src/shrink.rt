@@ -18,7 +18,7 @@ ghost use Rattle.book.specs.Shrink.{shrink, shrinkTo};
 ghost use Rattle.growth.specs.Head.{Shrinking};
 
 // The last position leaves its index block, which stays.
-fn onward(img: &mut [u16], u: usize, f: usize, h: Head)
+fn back(img: &mut [u16], u: usize, f: usize, h: Head)
     requires { ⌜ Shrinking (now img) u f h × (0 < (h .count - 1) % 512) ⌝ }
     ensures { λ _. ⌜ vol (now (img .exit)) ≡ shrinkTo (pages (now (img .entry))) (vol (now (img .entry))) u f onwardPhase ⌝ }
 {
@@ -32,7 +32,7 @@ fn onward(img: &mut [u16], u: usize, f: usize, h: Head)
 }
 
 // The only page goes with its index block.
-fn first(img: &mut [u16], u: usize, f: usize, h: Head)
+fn empty(img: &mut [u16], u: usize, f: usize, h: Head)
     requires { ⌜ Shrinking (now img) u f h × (h .count ≡ 1) ⌝ }
     ensures { λ _. ⌜ vol (now (img .exit)) ≡ shrinkTo (pages (now (img .entry))) (vol (now (img .entry))) u f firstPhase ⌝ }
 {
@@ -44,7 +44,7 @@ fn first(img: &mut [u16], u: usize, f: usize, h: Head)
 }
 
 // Page 513 goes with its index block and the subindex block: the first index block is left.
-fn raise(img: &mut [u16], u: usize, f: usize, h: Head)
+fn lower(img: &mut [u16], u: usize, f: usize, h: Head)
     requires { ⌜ Shrinking (now img) u f h × (h .count ≡ 513) ⌝ }
     ensures { λ _. ⌜ vol (now (img .exit)) ≡ shrinkTo (pages (now (img .entry))) (vol (now (img .entry))) u f raisePhase ⌝ }
 {
@@ -80,13 +80,13 @@ fn shrink_head(img: &mut [u16], u: usize, f: usize, h: Head)
 {
     let last = h.count - 1;
     if last % 512 != 0 {
-        return onward(img, u, f, h);
+        return back(img, u, f, h);
     }
     if last == 0 {
-        return first(img, u, f, h);
+        return empty(img, u, f, h);
     }
     if last == 512 {
-        return raise(img, u, f, h);
+        return lower(img, u, f, h);
     }
     block(img, u, f, h)
 }

@@ -6,7 +6,7 @@ use Prim.Native.Nat.{ℕ, _<_}
 use native.Mathlib.Decide.{decLt}
 use native.Mathlib.Omega.{arith}
 use Rattle.book.specs.Words.{Vol}
-use Rattle.book.specs.Pointers.{flags, page, slot, Inside}
+use Rattle.book.specs.Pointers.{flags, page, slot, Inside, objectPointer}
 use Rattle.book.specs.Trees.{Below}
 use Rattle.book.specs.Entries.{user}
 use Rattle.book.specs.Rules.{Rule2, Rule5, Rule5By}
@@ -19,14 +19,14 @@ use Rattle.heads.specs.Fine.{Unused}
 use Rattle.heads.proofs.Slots.{slots-absent}
 
 -- x and t are the flags and the page of the object pointer
-module _ (P : ℕ) (v : Vol) (x t : ℕ) (a : x ≡ flags (v 0) 1016) (e : t ≡ page (v 0) 1016) where
+module _ (P : ℕ) (v : Vol) (x t : ℕ) (a : x ≡ flags (v 0) objectPointer) (e : t ≡ page (v 0) objectPointer) where
   rule5-at : (y : ℕ) → x ≡ y → Rule5By P v y t → Rule5 P v
   unfolding Rule5
-  rule5-at y q r = subst (λ (z : ℕ). Rule5By P v z (page (v 0) 1016)) (sym q ∙ a) (subst (λ (z : ℕ). Rule5By P v y z) e r)
+  rule5-at y q r = subst (λ (z : ℕ). Rule5By P v z (page (v 0) objectPointer)) (sym q ∙ a) (subst (λ (z : ℕ). Rule5By P v y z) e r)
 
   at-rule5 : (y : ℕ) → x ≡ y → Rule5 P v → Rule5By P v y t
   unfolding Rule5
-  at-rule5 y q r = subst (λ (z : ℕ). Rule5By P v y z) (sym e) (subst (λ (z : ℕ). Rule5By P v z (page (v 0) 1016)) (sym a ∙ q) r)
+  at-rule5 y q r = subst (λ (z : ℕ). Rule5By P v y z) (sym e) (subst (λ (z : ℕ). Rule5By P v z (page (v 0) objectPointer)) (sym a ∙ q) r)
 
   -- ---- indexed
 
@@ -62,6 +62,6 @@ module _ (P : ℕ) (v : Vol) (x t : ℕ) (a : x ≡ flags (v 0) 1016) (e : t ≡
 
   pub rule5-none : Rule2 P v → (x ≡ 1 → ⊥) → (x ≡ 2 → ⊥) → Rule5 P v
   unfolding Rule2 Inside Rule5By
-  rule5-none (inl z) i s = rule5-at 0 (a ∙ zero-flags (v 0) 1016 (z .1)) tt
+  rule5-none (inl z) i s = rule5-at 0 (a ∙ zero-flags (v 0) objectPointer (z .1)) tt
   rule5-none (inr (u, inl o)) i s = absurd (i (a ∙ o .0))
   rule5-none (inr (u, inr o)) i s = absurd (s (a ∙ o .0))

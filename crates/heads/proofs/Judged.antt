@@ -6,7 +6,7 @@ use Prim.Native.Nat.{ℕ, _+_, _-_, _*_, _/_, _%_, _≤_, _<_}
 use native.Mathlib.Decide.{decLt, ℕ-discrete}
 use native.Mathlib.Omega.{arith}
 use Rattle.book.specs.Words.{Vol, vol}
-use Rattle.book.specs.Pointers.{flags, page}
+use Rattle.book.specs.Pointers.{flags, page, objectPointer, userPointer}
 use Rattle.book.specs.Trees.{Root, rootBy}
 use Rattle.book.specs.Entries.{Table, entry, user, object, userFile, objectFile, used, fileEntry}
 use Rattle.book.specs.Names.{Same, SameFile, LegalName, LegalType}
@@ -15,7 +15,7 @@ use Rattle.book.specs.Decides.{Decides}
 use Rattle.page.proofs.Deciding.{decides-iff}
 use Rattle.laws.specs.File.Named.{SameFile-ten, ten-SameFile, Same-sym}
 use Rattle.tree.specs.Ends.{Ends}
-use Rattle.tree.proofs.Reach.{root-read}
+use Rattle.tree.proofs.Reach.{user-root, object-root}
 use Rattle.tree.proofs.Absent.{ends-unused}
 use Rattle.heads.specs.Span.{Span, span-join, span-part}
 use Rattle.heads.specs.Fine.{UserFine, FileFine}
@@ -23,13 +23,13 @@ use Rattle.heads.specs.Twins.{Apart, FilesApart}
 
 -- ---- the entries of the user file and of the object file, by flags and page of their pointers
 
-pub users-root : (v : Vol) (x t : ℕ) → x ≡ flags (v 0) 1018 → t ≡ page (v 0) 1018 → entry v (rootBy x t 0) ≡ user v
-unfolding user userFile
-users-root v x t a b = fun-ext (λ u. ap (λ (r : Root). entry v r u) (sym (root-read (v 0) 1018 0 x t 0 a b refl)))
+pub users-table : (v : Vol) (x t : ℕ) → x ≡ flags (v 0) userPointer → t ≡ page (v 0) userPointer → entry v (rootBy x t 0) ≡ user v
+unfolding user
+users-table v x t a b = fun-ext (λ u. ap (λ (r : Root). entry v r u) (sym (user-root v x t a b)))
 
-objects-root : (v : Vol) (x t : ℕ) → x ≡ flags (v 0) 1016 → t ≡ page (v 0) 1016 → entry v (rootBy x t 0) ≡ object v
-unfolding object objectFile
-objects-root v x t a b = fun-ext (λ e. ap (λ (r : Root). entry v r e) (sym (root-read (v 0) 1016 0 x t 0 a b refl)))
+objects-table : (v : Vol) (x t : ℕ) → x ≡ flags (v 0) objectPointer → t ≡ page (v 0) objectPointer → entry v (rootBy x t 0) ≡ object v
+unfolding object
+objects-table v x t a b = fun-ext (λ e. ap (λ (r : Root). entry v r e) (sym (object-root v x t a b)))
 
 -- ---- no twins: two entries of one name are one
 
@@ -110,7 +110,7 @@ file-by U O e b h o w n l = decides-iff b _ _ (λ t u. record { owner = o; whose
 -- ---- by the pages that the object file has, up to its end: later objects are unused
 
 -- x and t are the flags and the page of the object pointer
-module _ (img : List ℕ) (x t n : ℕ) (d : Ends img n) (a : x ≡ flags (vol img 0) 1016) (c : t ≡ page (vol img 0) 1016) where
+module _ (img : List ℕ) (x t n : ℕ) (d : Ends img n) (a : x ≡ flags (vol img 0) objectPointer) (c : t ≡ page (vol img 0) objectPointer) where
   abbrev v : Vol
   v = vol img
 
@@ -118,14 +118,14 @@ module _ (img : List ℕ) (x t n : ℕ) (d : Ends img n) (a : x ≡ flags (vol i
   O = entry v (rootBy x t 0)
 
   past-unused : (e : ℕ) → 32 * n ≤ e → e < 65536 → used (O e) ≡ 0
-  past-unused e h l = ap (λ (E : Table). used (E e)) (objects-root v x t a c) ∙ ends-unused img n d e h l
+  past-unused e h l = ap (λ (E : Table). used (E e)) (objects-table v x t a c) ∙ ends-unused img n d e h l
 
   files-all : Span (FileFine (user v) O) 0 (32 * n) → Span (FileFine (user v) O) 0 65536
   unfolding Span
   files-all s = span-join _ 0 (32 * n) 65536 s (λ e h l u. absurd (let r : ⊥ = omega (arith, past-unused e h l) in r))
 
   pub rule6-wrong : (Span (FileFine (user v) O) 0 (32 * n) → ⊥) → Rule6 (user v) (object v) → ⊥
-  rule6-wrong f r = f (span-part _ 0 0 (32 * n) 65536 (omega arith) (omega (arith, d .most)) (rule6-files (user v) O (subst (λ (E : Table). Rule6 (user v) E) (sym (objects-root v x t a c)) r)))
+  rule6-wrong f r = f (span-part _ 0 0 (32 * n) 65536 (omega arith) (omega (arith, d .most)) (rule6-files (user v) O (subst (λ (E : Table). Rule6 (user v) E) (sym (objects-table v x t a c)) r)))
 
   -- m users have objects on these pages
   module _ (m : ℕ) (most : m ≤ 256) (room : n ≤ 8 * m) where
@@ -135,4 +135,4 @@ module _ (img : List ℕ) (x t n : ℕ) (d : Ends img n) (a : x ≡ flags (vol i
         (span-part _ 0 0 m 256 (omega arith) most)
 
     pub rule6-right : (b : Bool) → Span (FileFine (user v) O) 0 (32 * n) → Decides b (Span (FilesApart O) 0 m) → Decides b (Rule6 (user v) (object v))
-    rule6-right b s e = subst (λ (E : Table). Decides b (Rule6 (user v) E)) (objects-root v x t a c) (rule6-by (user v) O b (files-all s) (apart-all b e))
+    rule6-right b s e = subst (λ (E : Table). Decides b (Rule6 (user v) E)) (objects-table v x t a c) (rule6-by (user v) O b (files-all s) (apart-all b e))

@@ -1,5 +1,4 @@
 -- Laws that proofs of this crate and of its users cite.
-pub mod Told
 pub mod Slots
 pub mod Heads
 pub mod Pages

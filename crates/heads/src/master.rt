@@ -1,5 +1,10 @@
 // Rules 1 to 3: the master page's directory entry, and the user index.
 use crate::block::block_ok;
+use bits::bit_pages;
+use page::BITS;
+use page::OBJECTS;
+use page::USERS;
+use page::VOLUME;
 use page::names::legal_at;
 use page::read::flags_at;
 use page::read::page_at;
@@ -8,31 +13,22 @@ ghost use mathlib.Core.Path.{_≡_};
 ghost use Prim.Native.Nat.{_<_};
 ghost use Rattle.book.specs.Words.{vol};
 ghost use Rattle.book.specs.Pointers.{Zero, Inside};
-ghost use Rattle.book.specs.Bits.{bitPages};
 ghost use Rattle.book.specs.Image.{pages, Whole};
 ghost use Rattle.book.specs.Rules.{Rule1, Rule2, Rule3};
 ghost use Rattle.book.specs.Decides.{Decides};
-
-// The pages of a bit file for so many pages.
-fn bit_pages(total: usize) -> usize
-    requires { ⌜ total < 1048576 ⌝ }
-    ensures { λ r. ⌜ r ≡ bitPages total ⌝ }
-{
-    (total + 16383) / 16384
-}
 
 // Rule 1: legal volume name; bit pointer without flags, its pages in 1..P-1.
 pub fn rule1(img: &[u16], total: usize) -> bool
     requires { ⌜ Whole (now img) × (total ≡ pages (now img)) ⌝ }
     ensures { λ r. ⌜ Decides r (Rule1 (pages (now (img .entry))) (vol (now (img .entry)))) ⌝ }
 {
-    if !legal_at(img, 0, 1008, 1, 16) {
+    if !legal_at(img, 0, VOLUME, 1, 16) {
         return false;
     }
-    if flags_at(img, 0, 1020) != 0 {
+    if flags_at(img, 0, BITS) != 0 {
         return false;
     }
-    let b = page_at(img, 0, 1020) as usize;
+    let b = page_at(img, 0, BITS) as usize;
     if b == 0 {
         return false;
     }
@@ -76,16 +72,16 @@ pub fn rule2(img: &[u16], total: usize) -> bool
     requires { ⌜ Whole (now img) × (total ≡ pages (now img)) ⌝ }
     ensures { λ r. ⌜ Decides r (Rule2 (pages (now (img .entry))) (vol (now (img .entry)))) ⌝ }
 {
-    if zero_at(img, 1018) {
-        return zero_at(img, 1016);
+    if zero_at(img, USERS) {
+        return zero_at(img, OBJECTS);
     }
-    if !inside_at(img, total, 1018, 1) {
+    if !inside_at(img, total, USERS, 1) {
         return false;
     }
-    if inside_at(img, total, 1016, 1) {
+    if inside_at(img, total, OBJECTS, 1) {
         return true;
     }
-    inside_at(img, total, 1016, 2)
+    inside_at(img, total, OBJECTS, 2)
 }
 
 // Rule 3: user index: each of slots 0..7 zero or in 1..P-1, others zero.
@@ -93,6 +89,6 @@ pub fn rule3(img: &[u16], total: usize) -> bool
     requires { ⌜ Whole (now img) × (total ≡ pages (now img)) × Rule2 (pages (now img)) (vol (now img)) ⌝ }
     ensures { λ r. ⌜ Decides r (Rule3 (pages (now (img .entry))) (vol (now (img .entry)))) ⌝ }
 {
-    let top = page_at(img, 0, 1018) as usize;
+    let top = page_at(img, 0, USERS) as usize;
     block_ok(img, total, top, 8)
 }

@@ -3,6 +3,11 @@ use crate::block::block_ok;
 use crate::stamps::room;
 use crate::stored::entry_legal;
 use crate::twins::apart;
+use page::OBJECTS;
+use page::entry::NAME;
+use page::entry::NUMBER;
+use page::entry::OWNER;
+use page::entry::TYPE;
 use page::read::flags_at;
 use page::read::page_at;
 use page::read::slot_at;
@@ -16,7 +21,7 @@ ghost use lib.ListN.{length};
 ghost use Rattle.book.specs.Words.{vol};
 ghost use Rattle.book.specs.Pointers.{slot};
 ghost use Rattle.book.specs.Trees.{rootBy};
-ghost use Rattle.book.specs.Entries.{userFile, user, object, entry, used};
+ghost use Rattle.book.specs.Entries.{userFile, user, object, entry, used, objectPages};
 ghost use Rattle.book.specs.Image.{pages, Whole};
 ghost use Rattle.book.specs.Rules.{Rule2, Rule3, Rule5, Rule6};
 ghost use Rattle.book.specs.Decides.{Decides};
@@ -83,8 +88,8 @@ pub fn rule5(img: &[u16], total: usize) -> bool
     requires { ⌜ Whole (now img) × (total ≡ pages (now img)) × Rule2 (pages (now img)) (vol (now img)) × Rule3 (pages (now img)) (vol (now img)) ⌝ }
     ensures { λ r. ⌜ Decides r (Rule5 (pages (now (img .entry))) (vol (now (img .entry)))) ⌝ }
 {
-    let flags = flags_at(img, 0, 1016);
-    let top = page_at(img, 0, 1016) as usize;
+    let flags = flags_at(img, 0, OBJECTS);
+    let top = page_at(img, 0, OBJECTS) as usize;
     if flags == 1 {
         if !block_ok(img, total, top, 512) {
             return false;
@@ -111,16 +116,16 @@ fn file_ok(img: &[u16], q: usize, e: usize, owned: bool) -> bool
     if !owned {
         return false;
     }
-    if entry_word(img, q, e, 16) as usize != e / 256 {
+    if entry_word(img, q, e, OWNER) as usize != e / 256 {
         return false;
     }
-    if entry_word(img, q, e, 17) as usize != e {
+    if entry_word(img, q, e, NUMBER) as usize != e {
         return false;
     }
-    if !entry_legal(img, q, e, 1, 1, 16) {
+    if !entry_legal(img, q, e, NAME, 1, 16) {
         return false;
     }
-    entry_legal(img, q, e, 9, 0, 4)
+    entry_legal(img, q, e, TYPE, 0, 4)
 }
 
 // Whether the 32 objects from `first` on, a page of them, are unused or right. An absent page has no used objects.
@@ -147,7 +152,7 @@ fn page_ok(img: &[u16], flags: u16, top: usize, first: usize) -> bool
 
 // Whether the objects of so many pages are unused or right.
 fn files_ok(img: &[u16], flags: u16, top: usize, ends: usize) -> bool
-    requires { ⌜ Reach (now img) (userFile (vol (now img))) × Reach (now img) (rootBy flags top 0) × (ends ≤ 2048) ⌝ }
+    requires { ⌜ Reach (now img) (userFile (vol (now img))) × Reach (now img) (rootBy flags top 0) × (ends ≤ objectPages) ⌝ }
     ensures { λ r. ⌜ Decides r (Span (FileFine (user (vol (now (img .entry)))) (entry (vol (now (img .entry))) (rootBy flags top 0))) 0 (32 * ends)) ⌝ }
 {
     let end = 32 * ends;
@@ -178,7 +183,7 @@ fn all_apart(img: &[u16], table: &mut [u16; 4096], flags: u16, top: usize, users
 
 // How many users' objects are on so many pages, 8 pages a user.
 fn owners(ends: usize) -> usize
-    requires { ⌜ ends ≤ 2048 ⌝ }
+    requires { ⌜ ends ≤ objectPages ⌝ }
     ensures { λ r. ⌜ (r ≤ 256) × (ends ≤ 8 * r) ⌝ }
 {
     (ends + 7) / 8
@@ -189,8 +194,8 @@ pub fn rule6(img: &[u16], ends: usize) -> bool
     requires { ⌜ Whole (now img) × Rule2 (pages (now img)) (vol (now img)) × Rule3 (pages (now img)) (vol (now img)) × Rule5 (pages (now img)) (vol (now img)) × Ends (now img) ends ⌝ }
     ensures { λ r. ⌜ Decides r (Rule6 (user (vol (now (img .entry)))) (object (vol (now (img .entry))))) ⌝ }
 {
-    let flags = flags_at(img, 0, 1016);
-    let top = page_at(img, 0, 1016) as usize;
+    let flags = flags_at(img, 0, OBJECTS);
+    let top = page_at(img, 0, OBJECTS) as usize;
     if !files_ok(img, flags, top, ends) {
         return false;
     }

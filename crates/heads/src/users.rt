@@ -2,6 +2,11 @@
 use crate::stamps::room;
 use crate::stored::entry_legal;
 use crate::twins::apart;
+use page::USERS;
+use page::entry::GIVEN;
+use page::entry::INDEX;
+use page::entry::NAME;
+use page::entry::USED;
 use page::read::flags_at;
 use page::read::page_at;
 use tree::entry::entry_two;
@@ -27,13 +32,13 @@ fn user_ok(img: &[u16], q: usize, u: usize) -> bool
     if !entry_used(img, q, u) {
         return true;
     }
-    if entry_word(img, q, u, 18) as usize != u {
+    if entry_word(img, q, u, INDEX) as usize != u {
         return false;
     }
-    if !entry_legal(img, q, u, 1, 1, 16) {
+    if !entry_legal(img, q, u, NAME, 1, 16) {
         return false;
     }
-    if entry_two(img, q, u, 14) < entry_two(img, q, u, 16) {
+    if entry_two(img, q, u, GIVEN) < entry_two(img, q, u, USED) {
         return false;
     }
     true
@@ -82,8 +87,8 @@ pub fn rule4(img: &[u16]) -> bool
     if !users_ok(img) {
         return false;
     }
-    let flags = flags_at(img, 0, 1018);
-    let top = page_at(img, 0, 1018) as usize;
+    let flags = flags_at(img, 0, USERS);
+    let top = page_at(img, 0, USERS) as usize;
     let mut table = room();
     apart(img, &mut table, flags, top, 8, 0)
 }

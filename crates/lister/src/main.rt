@@ -6,7 +6,7 @@ ghost use lib.ListN.{length, getD, set};
 ghost use Rattle.book.specs.Names.{packed};
 ghost use Rattle.lister.specs.Input.{WordsOf, Answered};
 
-// The bytes of 32 pages.
+// The bytes of 32 pages; the text for an image of so many is no longer.
 const MOST: usize = 65536;
 
 fn wide(b: u8) -> u16
@@ -35,10 +35,10 @@ fn words(s: &[u8], image: &mut [u16])
     }
 }
 
-// The text for the image of the bytes s, and its length.
+// The text for the image of the bytes s stands at the front of the buffer, whole; its length.
 fn answer(s: &[u8], image: &mut [u16], out: &mut [u8]) -> usize
-    requires { ⌜ 2 * length (now image) ≡ length (now s) ⌝ }
-    ensures { λ r. ⌜ Answered (now (s .entry)) (now (out .entry)) (now (out .exit)) r ⌝ }
+    requires { ⌜ (2 * length (now image) ≡ length (now s)) × (length (now s) ≤ 65536) × (65536 ≤ length (now out)) ⌝ }
+    ensures { λ r. ⌜ Answered (now (s .entry)) (now (out .exit)) r ⌝ }
 {
     words(s, image);
     listing::list(image, out)
@@ -54,12 +54,6 @@ fn text_room() -> [u8; 65536]
     ensures { λ r. ⌜ 65536 ≡ length r ⌝ }
 {
     [0; 65536]
-}
-
-fn least(a: usize, b: usize) -> usize
-    ensures { λ r. ⌜ r ≤ b ⌝ }
-{
-    if a < b { a } else { b }
 }
 
 // What is no image of at most 32 pages of words.
@@ -82,6 +76,5 @@ fn main() {
     let mut text = text_room();
     let count = n / 2;
     let length = answer(&bytes[..n], &mut image[..count], &mut text);
-    let shown = least(length, MOST);
-    io::write_all(STDOUT_FILENO, &text[..shown]);
+    io::write_all(STDOUT_FILENO, &text[..length]);
 }

@@ -6,7 +6,7 @@ use mathlib.Core.Logic.{inl, inr}
 use native.Mathlib.Nat.{add-zero, add-suc, add-assoc, eq-zero-or-pos}
 use native.Mathlib.Numerals.{add-one}
 use native.Mathlib.Omega.{arith}
-use Rattle.sums.specs.Search.{pick, pick-yes, pick-no}
+use Rattle.sums.specs.Search.{pick-yes, pick-no}
 use Rattle.book.specs.Words.{Words, Vol}
 use Rattle.book.specs.Entries.{entryWord, used, user, userPage, objectPage, objectFile, fileEntry}
 use Rattle.book.specs.Trees.{pageAt}

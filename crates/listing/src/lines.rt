@@ -3,6 +3,12 @@ use crate::name::put_entry_name;
 use crate::name::put_name;
 use crate::put::put_bytes;
 use crate::put::put_field;
+use page::BITS;
+use page::VOLUME;
+use page::entry::NAME;
+use page::entry::PAGES;
+use page::entry::POINTER;
+use page::entry::TYPE;
 use seek::users::given;
 use seek::users::unreserved;
 use seek::users::used_pages;
@@ -18,20 +24,6 @@ ghost use Rattle.book.specs.Calls.{HasUser};
 ghost use Rattle.tree.specs.Reach.{entryIn};
 ghost use Rattle.book.specs.Listing.{kindOf, headLine, userLine, fileTitle, fileLines};
 ghost use Rattle.listing.specs.Wrote.{far, Wrote};
-
-// Where the volume's name and the bit pointer stand in the master page.
-const VOLUME: usize = 1008;
-
-const BITS: usize = 1020;
-
-// Where a name and a type stand in an entry, and a file's pages and pointer.
-const NAME: usize = 1;
-
-const TYPE: usize = 9;
-
-const PAGES: usize = 26;
-
-const POINTER: usize = 30;
 
 // The volume's line, at the front of the buffer.
 pub fn put_head(img: &[u16], out: &mut [u8]) -> usize

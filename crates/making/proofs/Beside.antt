@@ -1,17 +1,19 @@
 -- The bits after a place is made: those of before, with the lowest free pages taken. Assumes nothing.
 use mathlib.Core.Path.{_≡_, refl, sym, ap, _∙_, subst}
 use mathlib.Core.Logic.{_≢_, _⊎_, inl, inr}
-use Prim.Native.Nat.{ℕ, _*_, _/_, _%_, _≤_, _<_}
+use mathlib.Core.List.{List}
+use Prim.Native.Nat.{ℕ, _*_, _/_, _%_, _≤_, _<_, suc}
 use native.Mathlib.Decide.{ℕ-discrete}
 use native.Mathlib.Omega.{arith}
-use Rattle.book.specs.Words.{Vol}
+use Rattle.book.specs.Words.{Vol, vol}
 use Rattle.book.specs.Written.{put2-page}
-use Rattle.book.specs.Pointers.{page, setSlot}
+use Rattle.book.specs.Pointers.{page, setSlot, bitPointer, objectPointer}
 use Rattle.book.specs.Bits.{bit, digit, lowestFree, claim}
 use Rattle.book.specs.Entries.{userFile, objectFile, unreserved, objectPage, entryPage}
 use Rattle.book.specs.Holders.{hit}
 use Rattle.book.specs.Rules.{Sound}
 use Rattle.book.specs.Create.{extend, objectIndex, fileNeed, filePlace}
+use Rattle.book.specs.Image.{mostPages, pages, Ready}
 use Rattle.laws.specs.Bits.Choose.{lowest-chooser}
 use Rattle.laws.specs.Bits.Claim.{bitPage-rest, claim-bit, claim-bit-other}
 use Rattle.laws.specs.Count.Good.{good}
@@ -21,6 +23,7 @@ use Rattle.laws.specs.Create.Vacant.{Vacant, Reached, object-none, top-vacant, 
 use Rattle.laws.specs.Frame.Rest.{rest}
 use Rattle.laws.specs.Frame.Roots.{blocksR-le}
 use Rattle.bits.specs.File.{BitsAt}
+use Rattle.tree.proofs.Ready.{ready-some}
 use Rattle.bits.proofs.Places.{bit-page, bit-at, bits-kept, bits-claim, bits-at}
 use Rattle.making.specs.Beside.{Beside}
 use Rattle.making.proofs.Between.{index-kept, index-new, object-kept, object-new, file-place-is, need-one, Indexed, index-made, page-unmade}
@@ -47,12 +50,12 @@ beside-then P v w z x y A B = record {
     both p h (inl e) = elim (ℕ-discrete p y) [ yes f ↦ B .taken p h (inl f) | no n ↦ B .other p h n n ∙ A .taken p h (inl e) ]
     both p h (inr e) = B .taken p h (inl e)
 
-module _ (P : ℕ) (most : P ≤ 16384) (v : Vol) (S : Sound P v) (pos : 0 < P) (X k : ℕ) (N : Vacant P v X k) (have : 1 ≤ unreserved v) where
+module _ (P : ℕ) (most : P ≤ mostPages) (v : Vol) (S : Sound P v) (pos : 0 < P) (X k : ℕ) (N : Vacant P v X k) (have : 1 ≤ unreserved v) where
   abbrev d : ℕ
   d = lowestFree P v
 
   abbrev b : ℕ
-  b = page (v 0) 1020
+  b = page (v 0) bitPointer
 
   abbrev v₁ : Vol
   v₁ = claim P v d
@@ -70,8 +73,8 @@ module _ (P : ℕ) (most : P ≤ 16384) (v : Vol) (S : Sound P v) (pos : 0 < P) 
   B₁ = bits-claim P v b d (extend-pos (lowestFree P) P (lowest-chooser P) v S pos X k N have) (free .0) B₀
 
   B₂ : BitsAt P v′ b
-  B₂ = bits-kept P v v′ b (extend-master (lowestFree P) P (lowest-chooser P) v S pos X k N have 1020 (omega arith))
-      (extend-master (lowestFree P) P (lowest-chooser P) v S pos X k N have 1021 (omega arith)) B₀
+  B₂ = bits-kept P v v′ b (extend-master (lowestFree P) P (lowest-chooser P) v S pos X k N have bitPointer (omega arith))
+      (extend-master (lowestFree P) P (lowest-chooser P) v S pos X k N have (suc bitPointer) (omega arith)) B₀
 
   -- the bit page is no block
   apart : b ≢ X
@@ -99,7 +102,16 @@ module _ (P : ℕ) (most : P ≤ 16384) (v : Vol) (S : Sound P v) (pos : 0 < P) 
 
 -- ---- the place of a file
 
-module _ (P : ℕ) (most : P ≤ 16384) (v : Vol) (S : Sound P v) (pos : 0 < P) (e : ℕ) (R : Reached P v e) (have : fileNeed v e ≤ unreserved v) where
+module _ {img : List ℕ} {e : ℕ} (d : Ready img) (R : Reached (pages img) (vol img) e) (have : fileNeed (vol img) e ≤ unreserved (vol img)) where
+  abbrev P : ℕ
+  P = pages img
+
+  abbrev v : Vol
+  v = vol img
+
+  pos : 0 < P
+  pos = ready-some img d
+
   -- no page
   pub beside-zero : fileNeed v e ≡ 0 → Beside P v (filePlace (lowestFree P) P v e) P P
   unfolding fileNeed
@@ -109,13 +121,13 @@ module _ (P : ℕ) (most : P ≤ 16384) (v : Vol) (S : Sound P v) (pos : 0 < P) 
   pub beside-one : (x : ℕ) → x ≡ lowestFree P v → fileNeed v e ≡ 1 → Beside P v (filePlace (lowestFree P) P v e) x x
   unfolding fileNeed
   beside-one x ex z =
-      let some : ¬ (objectIndex v e ≡ 0) = λ i. omega (arith, i, z, object-none P v S e R i) in
+      let some : ¬ (objectIndex v e ≡ 0) = λ i. omega (arith, i, z, object-none P v (d .sound) e R i) in
       let p : 0 < objectIndex v e = omega arith in
       let q : objectPage v e ≡ 0 = omega arith in
       subst (λ (w : Vol). Beside P v w x x)
       (file-place-is P v e v _ (index-kept P v e p) P (object-new P v e q (objectIndex v e) (entryPage e % 512) refl refl _ refl) refl)
       (subst (λ (y : ℕ). Beside P v (extend (lowestFree P) P v (objectIndex v e) (entryPage e % 512)) y y) (sym ex)
-      (extend-beside P most v S pos (objectIndex v e) (entryPage e % 512) (index-vacant P v S e R p q) (omega (arith, have, z))))
+      (extend-beside P (d .whole .most) v (d .sound) pos (objectIndex v e) (entryPage e % 512) (index-vacant P v (d .sound) e R p q) (omega (arith, have, z))))
 
   -- two pages
   module _ (two : 1 < fileNeed v e) where
@@ -124,7 +136,7 @@ module _ (P : ℕ) (most : P ≤ 16384) (v : Vol) (S : Sound P v) (pos : 0 < P) 
     none = omega (arith, two)
 
     abbrev o : ℕ
-    o = page (v 0) 1016
+    o = page (v 0) objectPointer
 
     abbrev i : ℕ
     i = entryPage e / 512
@@ -133,16 +145,16 @@ module _ (P : ℕ) (most : P ≤ 16384) (v : Vol) (S : Sound P v) (pos : 0 < P) 
     w = extend (lowestFree P) P v o i
 
     first : Beside P v w (lowestFree P v) (lowestFree P v)
-    first = extend-beside P most v S pos o i (top-vacant P v S e R none) (need-one P v e S pos R have none)
+    first = extend-beside P (d .whole .most) v (d .sound) pos o i (top-vacant P v (d .sound) e R none) (need-one P v e (d .sound) pos R have none)
 
     I : Indexed P v e w
-    I = index-made P v e S pos R have none
+    I = index-made P v e (d .sound) pos R have none
 
     q : objectPage w e ≡ 0
-    q = page-unmade P v e S pos R have none
+    q = page-unmade P v e (d .sound) pos R have none
 
     second : Beside P w (extend (lowestFree P) P w (objectIndex w e) (entryPage e % 512)) (lowestFree P w) (lowestFree P w)
-    second = extend-beside P most w (I .sound) pos (objectIndex w e) (entryPage e % 512) (index-vacant P w (I .sound) e (I .reached) (I .index) q) (omega (arith, I .room, q))
+    second = extend-beside P (d .whole .most) w (I .sound) pos (objectIndex w e) (entryPage e % 512) (index-vacant P w (I .sound) e (I .reached) (I .index) q) (omega (arith, I .room, q))
 
     -- y is the lowest free page once x is taken
     pub beside-two : (x y : ℕ) → x ≡ lowestFree P v → ((z : Vol) → Beside P v z x x → y ≡ lowestFree P z) → Beside P v (filePlace (lowestFree P) P v e) x y

@@ -2,7 +2,7 @@
 use mathlib.Core.Path.{_≡_, refl, sym, ap, ap₂, _∙_, subst}
 use mathlib.Core.Logic.{_⊎_, inl, inr}
 use mathlib.Core.List.{List}
-use Prim.Native.Nat.{ℕ, _+_, _-_, _*_, _/_, _%_, _≤_, _<_}
+use Prim.Native.Nat.{ℕ, _+_, _-_, _*_, _/_, _%_, _≤_, _<_, suc}
 use native.Mathlib.Nat.{eq-zero-or-pos}
 use native.Mathlib.Omega.{arith}
 use lib.ListN.{length}
@@ -10,7 +10,7 @@ use Rattle.sums.specs.Sum.{is}
 use Rattle.sums.specs.Search.{pick-yes, pick-no, atLeast}
 use Rattle.book.specs.Words.{Vol, vol}
 use Rattle.book.specs.Image.{pages, Ready}
-use Rattle.book.specs.Pointers.{flags, page, slot, Zero, Inside}
+use Rattle.book.specs.Pointers.{flags, page, slot, Zero, Inside, objectPointer, unreservedCount, userPointer}
 use Rattle.book.specs.Bits.{lowestFree}
 use Rattle.book.specs.Entries.{userPage, objectPage, entryPage, unreserved}
 use Rattle.book.specs.Rules.{Rule2, Sound}
@@ -25,18 +25,18 @@ use Rattle.making.proofs.Ready.{same-pages, ready-next}
 
 -- ---- users
 
-raises-same : (v w : Vol) (u : ℕ) → w 0 1016 ≡ v 0 1016 → raises w u ≡ raises v u
+raises-same : (v w : Vol) (u : ℕ) → w 0 objectPointer ≡ v 0 objectPointer → raises w u ≡ raises v u
 unfolding raises
-raises-same v w u e = ap (λ (x : ℕ). is x 1 * atLeast 64 u) (flags-ext (w 0) (v 0) 1016 e)
+raises-same v w u e = ap (λ (x : ℕ). is x 1 * atLeast 64 u) (flags-ext (w 0) (v 0) objectPointer e)
 
-module _ (P : ℕ) (v : Vol) (S : Sound P v) (pos : 0 < P) (u : ℕ) (hu : u < 256) (some : 0 < page (v 0) 1018) where
-  indexed : Rule2 P v → (flags (v 0) 1018 ≡ 1) × (page (v 0) 1018 < P)
+module _ (P : ℕ) (v : Vol) (S : Sound P v) (pos : 0 < P) (u : ℕ) (hu : u < 256) (some : 0 < page (v 0) userPointer) where
+  indexed : Rule2 P v → (flags (v 0) userPointer ≡ 1) × (page (v 0) userPointer < P)
   unfolding Rule2 Inside Zero page
   indexed (inl h) = absurd (let r : ⊥ = omega (arith, some, h .0 .0, h .0 .1) in r)
   indexed (inr h) = (h .0 .0, h .0 .2)
 
   -- the slot of an absent user page
-  pub user-room : userPage v u ≡ 0 → Vacant P v (page (v 0) 1018) (entryPage u)
+  pub user-room : userPage v u ≡ 0 → Vacant P v (page (v 0) userPointer) (entryPage u)
   user-room z = user-vacant P v S (indexed (S .r2) .0) some (indexed (S .r2) .1) u hu z
 
   -- with the user page
@@ -53,33 +53,33 @@ module _ (P : ℕ) (v : Vol) (S : Sound P v) (pos : 0 < P) (u : ℕ) (hu : u < 2
       | inl z ↦ subst WithPage (sym (pick-no (userPage v u) v _ z)) (absent z)
     ]
       where
-        absent : userPage v u ≡ 0 → WithPage (extend (lowestFree P) P v (page (v 0) 1018) (entryPage u))
+        absent : userPage v u ≡ 0 → WithPage (extend (lowestFree P) P v (page (v 0) userPointer) (entryPage u))
         absent z =
             let h : 1 ≤ unreserved v = omega (arith, have) in
-            let w : Vol = extend (lowestFree P) P v (page (v 0) 1018) (entryPage u) in
-            let T = extend-placed (lowestFree P) P (lowest-chooser P) v S pos (page (v 0) 1018) (entryPage u) (user-room z) h in
+            let w : Vol = extend (lowestFree P) P v (page (v 0) userPointer) (entryPage u) in
+            let T = extend-placed (lowestFree P) P (lowest-chooser P) v S pos (page (v 0) userPointer) (entryPage u) (user-room z) h in
             record {
               sound = T .sound;
-              asks = raises-same v w u (extend-master (lowestFree P) P (lowest-chooser P) v S pos (page (v 0) 1018) (entryPage u) (user-room z) h 1016 (omega arith));
+              asks = raises-same v w u (extend-master (lowestFree P) P (lowest-chooser P) v S pos (page (v 0) userPointer) (entryPage u) (user-room z) h objectPointer (omega arith));
               left = omega (arith, T .taking .paid);
             }
 
 -- the place of a user, the first time ever and later
 module _ (P : ℕ) (v : Vol) (u : ℕ) where
-  pub place-first : page (v 0) 1018 ≡ 0 → (w : Vol) → w ≡ started (lowestFree P) P v → w ≡ userPlace (lowestFree P) P v u
+  pub place-first : page (v 0) userPointer ≡ 0 → (w : Vol) → w ≡ started (lowestFree P) P v → w ≡ userPlace (lowestFree P) P v u
   unfolding userPlace
-  place-first z w e = e ∙ sym (pick-no (page (v 0) 1018) _ _ z)
+  place-first z w e = e ∙ sym (pick-no (page (v 0) userPointer) _ _ z)
 
-  pub place-later : 0 < page (v 0) 1018 → (w₁ w : Vol) → w₁ ≡ withUserPage (lowestFree P) P v u → (P′ : ℕ) → w ≡ withSubindex (lowestFree P′) P′ w₁ u → P′ ≡ P → w ≡ userPlace (lowestFree P) P v u
+  pub place-later : 0 < page (v 0) userPointer → (w₁ w : Vol) → w₁ ≡ withUserPage (lowestFree P) P v u → (P′ : ℕ) → w ≡ withSubindex (lowestFree P′) P′ w₁ u → P′ ≡ P → w ≡ userPlace (lowestFree P) P v u
   unfolding userPlace
   place-later h w₁ w a P′ b p =
-      b ∙ ap₂ (λ (n : ℕ) (x : Vol). withSubindex (lowestFree n) n x u) p a ∙ sym (pick-yes (page (v 0) 1018) _ _ h)
+      b ∙ ap₂ (λ (n : ℕ) (x : Vol). withSubindex (lowestFree n) n x u) p a ∙ sym (pick-yes (page (v 0) userPointer) _ _ h)
 
   pub page-kept : 0 < userPage v u → v ≡ withUserPage (lowestFree P) P v u
   unfolding withUserPage
   page-kept h = sym (pick-yes (userPage v u) _ _ h)
 
-  pub page-new : userPage v u ≡ 0 → (t k : ℕ) → t ≡ page (v 0) 1018 → k ≡ entryPage u → (w : Vol) → w ≡ extend (lowestFree P) P v t k → w ≡ withUserPage (lowestFree P) P v u
+  pub page-new : userPage v u ≡ 0 → (t k : ℕ) → t ≡ page (v 0) userPointer → k ≡ entryPage u → (w : Vol) → w ≡ extend (lowestFree P) P v t k → w ≡ withUserPage (lowestFree P) P v u
   unfolding withUserPage
   page-new z t k a b w e = e ∙ ap₂ (extend (lowestFree P) P v) a b ∙ sym (pick-no (userPage v u) _ _ z)
 
@@ -98,7 +98,7 @@ module _ (P : ℕ) (v : Vol) (e : ℕ) where
   unfolding withIndex
   index-kept h = sym (pick-yes (objectIndex v e) _ _ h)
 
-  pub index-new : objectIndex v e ≡ 0 → (t k : ℕ) → t ≡ page (v 0) 1016 → k ≡ entryPage e / 512 → (w : Vol) → w ≡ extend (lowestFree P) P v t k → w ≡ withIndex (lowestFree P) P v e
+  pub index-new : objectIndex v e ≡ 0 → (t k : ℕ) → t ≡ page (v 0) objectPointer → k ≡ entryPage e / 512 → (w : Vol) → w ≡ extend (lowestFree P) P v t k → w ≡ withIndex (lowestFree P) P v e
   unfolding withIndex
   index-new z t k a b w q = q ∙ ap₂ (extend (lowestFree P) P v) a b ∙ sym (pick-no (objectIndex v e) _ _ z)
 
@@ -128,7 +128,7 @@ module _ (P : ℕ) (v : Vol) (e : ℕ) where
 
     module _ (z : objectIndex v e ≡ 0) where
       abbrev o : ℕ
-      o = page (v 0) 1016
+      o = page (v 0) objectPointer
 
       abbrev i : ℕ
       i = entryPage e / 512
@@ -142,29 +142,29 @@ module _ (P : ℕ) (v : Vol) (e : ℕ) where
       T : Placed P v w (Either (SlotWords o i) UnreservedWords) 1
       T = extend-placed (lowestFree P) P (lowest-chooser P) v S pos o i N (need-one z)
 
-      mast : (k : ℕ) → k < 1022 → w 0 k ≡ v 0 k
+      mast : (k : ℕ) → k < unreservedCount → w 0 k ≡ v 0 k
       mast = extend-master (lowestFree P) P (lowest-chooser P) v S pos o i N (need-one z)
 
       R₁ : Reached P w e
-      R₁ = reached-kept P v w e (mast 1016 (omega arith)) (mast 1017 (omega arith)) R
+      R₁ = reached-kept P v w e (mast objectPointer (omega arith)) (mast (suc objectPointer) (omega arith)) R
 
-      two : flags (v 0) 1016 ≡ 2
+      two : flags (v 0) objectPointer ≡ 2
       two = go (R .kind)
         where
-          go : ((flags (v 0) 1016 ≡ 1) × (e < 16384)) ⊎ ((flags (v 0) 1016 ≡ 2) × (e < 65536)) → flags (v 0) 1016 ≡ 2
+          go : ((flags (v 0) objectPointer ≡ 1) × (e < 16384)) ⊎ ((flags (v 0) objectPointer ≡ 2) × (e < 65536)) → flags (v 0) objectPointer ≡ 2
           go (inl h) = absurd (let r : ⊥ = omega (arith, z, object-one P v S e R (h .0), R .real) in r)
           go (inr h) = h .0
 
       index₁ : objectIndex w e ≡ lowestFree P v
-      index₁ = object-two P w (T .sound) e R₁ (flags-ext (w 0) (v 0) 1016 (mast 1016 (omega arith)) ∙ two)
-          ∙ ap (λ (t : ℕ). slot w t i) (page-ext (w 0) (v 0) 1016 (mast 1016 (omega arith)) (mast 1017 (omega arith)))
+      index₁ = object-two P w (T .sound) e R₁ (flags-ext (w 0) (v 0) objectPointer (mast objectPointer (omega arith)) ∙ two)
+          ∙ ap (λ (t : ℕ). slot w t i) (page-ext (w 0) (v 0) objectPointer (mast objectPointer (omega arith)) (mast (suc objectPointer) (omega arith)))
           ∙ extend-slot (lowestFree P) P (lowest-chooser P) v S pos o i N (need-one z)
 
-      pub page-unmade : objectPage (extend (lowestFree P) P v (page (v 0) 1016) (entryPage e / 512)) e ≡ 0
+      pub page-unmade : objectPage (extend (lowestFree P) P v (page (v 0) objectPointer) (entryPage e / 512)) e ≡ 0
       page-unmade = object-slot P w (T .sound) e R₁ ∙ ap (λ (x : ℕ). slot w x (entryPage e % 512)) index₁
           ∙ extend-bare (lowestFree P) P (lowest-chooser P) v S pos o i N (need-one z) (entryPage e % 512)
 
-      pub index-made : Indexed (extend (lowestFree P) P v (page (v 0) 1016) (entryPage e / 512))
+      pub index-made : Indexed (extend (lowestFree P) P v (page (v 0) objectPointer) (entryPage e / 512))
       unfolding fileNeed
       index-made = record {
         sound = T .sound;

@@ -1,13 +1,14 @@
 -- A new entry as the code writes it: one field after the other. Assumes nothing.
 use mathlib.Core.Path.{_≡_, sym, ap, _∙_}
 use mathlib.Core.List.{List}
-use Prim.Native.Nat.{ℕ, _+_, _*_, _≤_, _<_}
+use Prim.Native.Nat.{ℕ, _+_, _≤_, _<_}
 use native.Mathlib.Nat.{add-zero}
 use native.Mathlib.Omega.{arith}
 use Rattle.book.specs.Words.{Words, Vol, put, put2, putWords, setWord, setTwo, setWords, zeros}
 use Rattle.book.specs.Entries.{putEntry, entryWord}
 use Rattle.book.specs.Names.{packed}
 use Rattle.book.specs.Create.{userEntry, objectEntry}
+use Rattle.book.specs.Files.{bytesOf}
 use Rattle.laws.specs.Frame.Fields.{putEntry-word, putEntry-two, putEntry-words}
 use Rattle.making.specs.Entry.{begun, numbered}
 
@@ -34,10 +35,10 @@ module _ (v : Vol) (q k : ℕ) where
 
   -- the entry was w before, and y₀ has it
   pub numbered-is : (w : Words) (y₀ y₁ y₂ y₃ y₄ y₅ y₆ : Vol) (u e created n ptr : ℕ) → y₁ ≡ put y₀ q (k + 16) u → y₂ ≡ put y₁ q (k + 17) e → y₃ ≡ put2 y₂ q (k + 20) created
-      → y₄ ≡ put2 y₃ q (k + 26) n → y₅ ≡ put2 y₄ q (k + 28) (2048 * n) → y₆ ≡ put2 y₅ q (k + 30) ptr → y₀ ≡ putWords v q k 32 w → y₆ ≡ putWords v q k 32 (numbered w u e created n ptr)
+      → y₄ ≡ put2 y₃ q (k + 26) n → y₅ ≡ put2 y₄ q (k + 28) (bytesOf n) → y₆ ≡ put2 y₅ q (k + 30) ptr → y₀ ≡ putWords v q k 32 w → y₆ ≡ putWords v q k 32 (numbered w u e created n ptr)
   unfolding numbered
   numbered-is w y₀ y₁ y₂ y₃ y₄ y₅ y₆ u e created n ptr e₁ e₂ e₃ e₄ e₅ e₆ e₀ =
-      two-more y₅ y₆ _ 30 ptr (omega arith) (two-more y₄ y₅ _ 28 (2048 * n) (omega arith) (two-more y₃ y₄ _ 26 n (omega arith) (two-more y₂ y₃ _ 20 created (omega arith)
+      two-more y₅ y₆ _ 30 ptr (omega arith) (two-more y₄ y₅ _ 28 (bytesOf n) (omega arith) (two-more y₃ y₄ _ 26 n (omega arith) (two-more y₂ y₃ _ 20 created (omega arith)
       (word-more y₁ y₂ _ 17 e (omega arith) (word-more y₀ y₁ w 16 u (omega arith) e₀ e₁) e₂) e₃) e₄) e₅) e₆
 
   pub object-entry-is : (v₁ v₂ w : Vol) (u e : ℕ) (name type : List ℕ) (created n ptr : ℕ) → k ≡ entryWord e → v₁ ≡ putWords v q k 32 (begun name) → v₂ ≡ putWords v₁ q (k + 9) 2 (packed type)

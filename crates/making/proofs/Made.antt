@@ -7,7 +7,7 @@ use lib.ListN.{length}
 use Rattle.book.specs.Words.{Vol, vol, put2}
 use Rattle.book.specs.Bits.{lowestFree, claimRun, highestRun}
 use Rattle.book.specs.Entries.{Table, user, used, usedPages, spare, unreserved, userPage, objectPage, putEntry, entryWord, fileEntry, newUser, newFile}
-use Rattle.book.specs.Image.{pages, Ready}
+use Rattle.book.specs.Image.{pages, mostPages, Ready}
 use Rattle.book.specs.Rules.{Rule4}
 use Rattle.book.specs.Create.{userEntry, objectEntry, userNeed, fileNeed, userPlace, filePlace, createUser, createIndexed, createContiguous}
 use Rattle.laws.specs.Bits.Choose.{lowest-chooser}
@@ -38,7 +38,7 @@ create-user-is P v u name eu w₁ w q a b c =
 
 -- ---- a file at entry e
 
-module _ (img : List ℕ) (d : Ready img) (u f e : ℕ) (hu : u < 256) (hf : f < 256) (owner : 0 < used (user (vol img) u)) (is : e ≡ fileEntry u f) where
+module _ {img : List ℕ} {u f e : ℕ} (d : Ready img) (hu : u < 256) (hf : f < 256) (owner : 0 < used (user (vol img) u)) (is : e ≡ fileEntry u f) where
   abbrev P : ℕ
   P = pages img
 
@@ -60,7 +60,7 @@ module _ (img : List ℕ) (d : Ready img) (u f e : ℕ) (hu : u < 256) (hf : f <
     file-ready img′ q l = ready-next img img′ d _ q (placed .placed .sound) l
 
     -- the owner's used pages stay, and n more are few
-    pub used-room : (n : ℕ) → n ≤ spare (vol img) u → (w : Vol) → w ≡ filePlace (lowestFree (pages img)) (pages img) (vol img) e → usedPages (user w) u + n ≤ 16384
+    pub used-room : (n : ℕ) → n ≤ spare (vol img) u → (w : Vol) → w ≡ filePlace (lowestFree (pages img)) (pages img) (vol img) e → usedPages (user w) u + n ≤ mostPages
     unfolding spare Rule4
     used-room n le w q = omega (
       arith,

@@ -1,10 +1,10 @@
 -- System pages as the code takes them: the lowest free page, its links, the payment. Assumes nothing.
 use mathlib.Core.Path.{_≡_, sym, ap, ap₂, _∙_, subst}
-use Prim.Native.Nat.{ℕ, _+_, _-_, _*_, _≤_, _<_}
+use Prim.Native.Nat.{ℕ, _+_, _-_, _*_, _≤_, _<_, suc}
 use native.Mathlib.Omega.{arith}
 use Rattle.book.specs.Words.{Vol, put2}
 use Rattle.book.specs.Written.{put2-page, put2-word}
-use Rattle.book.specs.Pointers.{page, pointer, setSlot}
+use Rattle.book.specs.Pointers.{page, pointer, setSlot, objectPointer, unreservedCount, userPointer}
 use Rattle.book.specs.Bits.{bit, lowestFree, claim}
 use Rattle.book.specs.Entries.{unreserved}
 use Rattle.book.specs.Holders.{hit}
@@ -22,19 +22,19 @@ use Rattle.bits.proofs.Places.{bits-claim}
 
 unreserved-page : (v : Vol) (q j x : ℕ) → 0 < q → unreserved (put2 v q j x) ≡ unreserved v
 unfolding unreserved
-unreserved-page v q j x h = two-ext (put2 v q j x 0) (v 0) 1022 (put2-page v q j x 0 1022 (omega arith)) (put2-page v q j x 0 1023 (omega arith))
+unreserved-page v q j x h = two-ext (put2 v q j x 0) (v 0) unreservedCount (put2-page v q j x 0 unreservedCount (omega arith)) (put2-page v q j x 0 (suc unreservedCount) (omega arith))
 
-unreserved-below : (v : Vol) (q j x : ℕ) → j < 1021 → unreserved (put2 v q j x) ≡ unreserved v
+unreserved-below : (v : Vol) (q j x : ℕ) → suc j < unreservedCount → unreserved (put2 v q j x) ≡ unreserved v
 unfolding unreserved
-unreserved-below v q j x h = two-ext (put2 v q j x 0) (v 0) 1022 (put2-word v q j x 0 1022 (omega arith) (omega arith)) (put2-word v q j x 0 1023 (omega arith) (omega arith))
+unreserved-below v q j x h = two-ext (put2 v q j x 0) (v 0) unreservedCount (put2-word v q j x 0 unreservedCount (omega arith) (omega arith)) (put2-word v q j x 0 (suc unreservedCount) (omega arith) (omega arith))
 
 unreserved-claim : (P : ℕ) (v : Vol) (hand : ℕ → ℕ) → Good P v hand → (d : ℕ) → d < P → bit P v d ≡ 0 → unreserved (claim P v d) ≡ unreserved v
 unfolding unreserved
-unreserved-claim P v hand G d h f = two-ext (claim P v d 0) (v 0) 1022 (claim-master P v hand G d h f 1022) (claim-master P v hand G d h f 1023)
+unreserved-claim P v hand G d h f = two-ext (claim P v d 0) (v 0) unreservedCount (claim-master P v hand G d h f unreservedCount) (claim-master P v hand G d h f (suc unreservedCount))
 
-pay-is : (w : Vol) (s n : ℕ) → s ≡ unreserved w → put2 w 0 1022 (s - n) ≡ pay w n
+pay-is : (w : Vol) (s n : ℕ) → s ≡ unreserved w → put2 w 0 unreservedCount (s - n) ≡ pay w n
 unfolding pay
-pay-is w s n e = ap (λ (x : ℕ). put2 w 0 1022 (x - n)) e
+pay-is w s n e = ap (λ (x : ℕ). put2 w 0 unreservedCount (x - n)) e
 
 -- a page is taken, from the volume as it is
 abbrev taken : ℕ → Vol → Vol
@@ -42,7 +42,7 @@ taken P v = claim P v (lowestFree P v)
 
 -- ---- one page
 
-module _ (P : ℕ) (v : Vol) (S : Sound P v) (pos : 0 < P) (have : 1 ≤ unreserved v) where
+module _ {P : ℕ} {v : Vol} (S : Sound P v) (pos : 0 < P) (have : 1 ≤ unreserved v) where
   abbrev D : ℕ
   D = lowestFree P v
 
@@ -59,28 +59,28 @@ module _ (P : ℕ) (v : Vol) (S : Sound P v) (pos : 0 < P) (have : 1 ≤ unreser
   unreserved-taken = unreserved-claim P v (λ p. 0) G D (lowest-there .0) (lowest-there .1)
 
   pub extend-is : (X k : ℕ) → 0 < X → (v₁ v₂ w : Vol) (d s : ℕ) → d ≡ lowestFree P v → s ≡ unreserved v → v₁ ≡ claim P v (lowestFree P v)
-      → v₂ ≡ put2 v₁ X (2 * k) d → w ≡ put2 v₂ 0 1022 (s - 1) → w ≡ extend (lowestFree P) P v X k
+      → v₂ ≡ put2 v₁ X (2 * k) d → w ≡ put2 v₂ 0 unreservedCount (s - 1) → w ≡ extend (lowestFree P) P v X k
   unfolding extend setSlot
   extend-is X k hx v₁ v₂ w d s ed es e₁ e₂ e₃ =
       let y : Vol = put2 (taken P v) X (2 * k) D in
-      e₃ ∙ ap (λ (x : Vol). put2 x 0 1022 (s - 1)) (e₂ ∙ ap₂ (λ (x : Vol) (z : ℕ). put2 x X (2 * k) z) e₁ ed)
+      e₃ ∙ ap (λ (x : Vol). put2 x 0 unreservedCount (s - 1)) (e₂ ∙ ap₂ (λ (x : Vol) (z : ℕ). put2 x X (2 * k) z) e₁ ed)
       ∙ pay-is y s 1 (es ∙ sym (unreserved-page (taken P v) X (2 * k) D hx ∙ unreserved-taken))
 
-  pub raise-is : (v₁ v₂ v₃ w : Vol) (d s t p : ℕ) → d ≡ lowestFree P v → s ≡ unreserved v → t ≡ page (v 0) 1016 → p ≡ pointer 2 d → v₁ ≡ claim P v (lowestFree P v)
-      → v₂ ≡ put2 v₁ d 0 t → v₃ ≡ put2 v₂ 0 1016 p → w ≡ put2 v₃ 0 1022 (s - 1) → w ≡ raised (lowestFree P) P v
+  pub raise-is : (v₁ v₂ v₃ w : Vol) (d s t p : ℕ) → d ≡ lowestFree P v → s ≡ unreserved v → t ≡ page (v 0) objectPointer → p ≡ pointer 2 d → v₁ ≡ claim P v (lowestFree P v)
+      → v₂ ≡ put2 v₁ d 0 t → v₃ ≡ put2 v₂ 0 objectPointer p → w ≡ put2 v₃ 0 unreservedCount (s - 1) → w ≡ raised (lowestFree P) P v
   unfolding raised setSlot
   raise-is v₁ v₂ v₃ w d s t p ed es et ep e₁ e₂ e₃ e₄ =
-      let T : ℕ = page (v 0) 1016 in
+      let T : ℕ = page (v 0) objectPointer in
       let y₂ : Vol = put2 (taken P v) D 0 T in
-      let y₃ : Vol = put2 y₂ 0 1016 (pointer 2 D) in
+      let y₃ : Vol = put2 y₂ 0 objectPointer (pointer 2 D) in
       let a₂ : v₂ ≡ y₂ = e₂ ∙ ap (λ (x : Vol). put2 x d 0 t) e₁ ∙ ap₂ (λ (a b : ℕ). put2 (taken P v) a 0 b) ed et in
-      let a₃ : v₃ ≡ y₃ = e₃ ∙ ap₂ (λ (x : Vol) (z : ℕ). put2 x 0 1016 z) a₂ (ep ∙ ap (pointer 2) ed) in
-      e₄ ∙ ap (λ (x : Vol). put2 x 0 1022 (s - 1)) a₃
-      ∙ pay-is y₃ s 1 (es ∙ sym (unreserved-below y₂ 0 1016 (pointer 2 D) (omega arith) ∙ unreserved-page (taken P v) D 0 T lowest-pos ∙ unreserved-taken))
+      let a₃ : v₃ ≡ y₃ = e₃ ∙ ap₂ (λ (x : Vol) (z : ℕ). put2 x 0 objectPointer z) a₂ (ep ∙ ap (pointer 2) ed) in
+      e₄ ∙ ap (λ (x : Vol). put2 x 0 unreservedCount (s - 1)) a₃
+      ∙ pay-is y₃ s 1 (es ∙ sym (unreserved-below y₂ 0 objectPointer (pointer 2 D) (omega arith) ∙ unreserved-page (taken P v) D 0 T lowest-pos ∙ unreserved-taken))
 
 -- ---- three pages
 
-module _ (P : ℕ) (v : Vol) (S : Sound P v) (pos : 0 < P) (have : 3 ≤ unreserved v) where
+module _ {P : ℕ} {v : Vol} (S : Sound P v) (pos : 0 < P) (have : 3 ≤ unreserved v) where
   abbrev D₁ : ℕ
   D₁ = lowestFree P v
 
@@ -103,7 +103,7 @@ module _ (P : ℕ) (v : Vol) (S : Sound P v) (pos : 0 < P) (have : 3 ≤ unreser
   rooms = omega (arith, have, system-room P v S pos)
 
   pub first-there : (lowestFree P v < P) × (bit P v (lowestFree P v) ≡ 0)
-  first-there = lowest-there P v S pos (omega (arith, have))
+  first-there = lowest-there S pos (omega (arith, have))
 
   H₀ : Good P v (λ p. 0)
   H₀ = good P v S
@@ -143,19 +143,19 @@ module _ (P : ℕ) (v : Vol) (S : Sound P v) (pos : 0 < P) (have : 3 ≤ unreser
 
   pub start-is : (w₁ w₂ w₃ x₁ x₂ x₃ w : Vol) (i q o s p r : ℕ) → i ≡ lowestFree P v → q ≡ lowestFree P w₁ → o ≡ lowestFree P w₂ → s ≡ unreserved v → p ≡ pointer 1 i → r ≡ pointer 1 o
       → w₁ ≡ claim P v (lowestFree P v) → w₂ ≡ claim P w₁ (lowestFree P w₁) → w₃ ≡ claim P w₂ (lowestFree P w₂)
-      → x₁ ≡ put2 w₃ 0 1018 p → x₂ ≡ put2 x₁ 0 1016 r → x₃ ≡ put2 x₂ i 0 q → w ≡ put2 x₃ 0 1022 (s - 3) → w ≡ started (lowestFree P) P v
+      → x₁ ≡ put2 w₃ 0 userPointer p → x₂ ≡ put2 x₁ 0 objectPointer r → x₃ ≡ put2 x₂ i 0 q → w ≡ put2 x₃ 0 unreservedCount (s - 3) → w ≡ started (lowestFree P) P v
   unfolding started setSlot
   start-is w₁ w₂ w₃ x₁ x₂ x₃ w i q o s p r ei eq eo es ep er e₁ e₂ e₃ f₁ f₂ f₃ f₄ =
-      let y₁ : Vol = put2 V₃ 0 1018 (pointer 1 D₁) in
-      let y₂ : Vol = put2 y₁ 0 1016 (pointer 1 D₃) in
+      let y₁ : Vol = put2 V₃ 0 userPointer (pointer 1 D₁) in
+      let y₂ : Vol = put2 y₁ 0 objectPointer (pointer 1 D₃) in
       let y₃ : Vol = put2 y₂ D₁ 0 D₂ in
       let a₂ : w₂ ≡ V₂ = again w₁ w₂ e₁ e₂ in
       let a₃ : w₃ ≡ V₃ = e₃ ∙ ap (taken P) a₂ in
-      let b₁ : x₁ ≡ y₁ = f₁ ∙ ap₂ (λ (x : Vol) (z : ℕ). put2 x 0 1018 z) a₃ (ep ∙ ap (pointer 1) ei) in
-      let b₂ : x₂ ≡ y₂ = f₂ ∙ ap₂ (λ (x : Vol) (z : ℕ). put2 x 0 1016 z) b₁ (er ∙ ap (pointer 1) (eo ∙ ap (lowestFree P) a₂)) in
+      let b₁ : x₁ ≡ y₁ = f₁ ∙ ap₂ (λ (x : Vol) (z : ℕ). put2 x 0 userPointer z) a₃ (ep ∙ ap (pointer 1) ei) in
+      let b₂ : x₂ ≡ y₂ = f₂ ∙ ap₂ (λ (x : Vol) (z : ℕ). put2 x 0 objectPointer z) b₁ (er ∙ ap (pointer 1) (eo ∙ ap (lowestFree P) a₂)) in
       let b₃ : x₃ ≡ y₃ = f₃ ∙ ap (λ (x : Vol). put2 x i 0 q) b₂ ∙ ap₂ (λ (a c : ℕ). put2 y₂ a 0 c) ei (eq ∙ ap (lowestFree P) e₁) in
       let u₁ : unreserved V₁ ≡ unreserved v = unreserved-claim P v (λ p. 0) H₀ D₁ (first-there .0) (first-there .1) in
       let u₂ : unreserved V₂ ≡ unreserved V₁ = unreserved-claim P V₁ (λ p. 0 + hit D₁ p) H₁ D₂ (second-there .0) (second-there .1) in
       let u₃ : unreserved V₃ ≡ unreserved V₂ = unreserved-claim P V₂ (λ p. 0 + hit D₁ p + hit D₂ p) H₂ D₃ (third-there .0) (third-there .1) in
-      f₄ ∙ ap (λ (x : Vol). put2 x 0 1022 (s - 3)) b₃
-      ∙ pay-is y₃ s 3 (es ∙ sym (unreserved-page y₂ D₁ 0 D₂ pos₁ ∙ unreserved-below y₁ 0 1016 (pointer 1 D₃) (omega arith) ∙ unreserved-below V₃ 0 1018 (pointer 1 D₁) (omega arith) ∙ u₃ ∙ u₂ ∙ u₁))
+      f₄ ∙ ap (λ (x : Vol). put2 x 0 unreservedCount (s - 3)) b₃
+      ∙ pay-is y₃ s 3 (es ∙ sym (unreserved-page y₂ D₁ 0 D₂ pos₁ ∙ unreserved-below y₁ 0 objectPointer (pointer 1 D₃) (omega arith) ∙ unreserved-below V₃ 0 userPointer (pointer 1 D₁) (omega arith) ∙ u₃ ∙ u₂ ∙ u₁))

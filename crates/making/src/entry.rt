@@ -1,5 +1,15 @@
 // The words of a new entry, cleared and then written field by field.
+use page::entry::BYTES;
+use page::entry::CREATED;
 use page::entry::EntryPlace;
+use page::entry::INDEX;
+use page::entry::NAME;
+use page::entry::NUMBER;
+use page::entry::OWNER;
+use page::entry::PAGE_BYTES;
+use page::entry::PAGES;
+use page::entry::POINTER;
+use page::entry::TYPE;
 use page::entry::clear_entry;
 use page::names::put_text;
 use page::write::put_two;
@@ -9,12 +19,12 @@ ghost use Prim.Native.Nat.{_+_, _*_, _≤_, _<_};
 ghost use lib.ListN.{length};
 ghost use Rattle.book.specs.Words.{Words, Vol, vol, putWords};
 ghost use Rattle.book.specs.Entries.{putEntry};
-ghost use Rattle.book.specs.Image.{pages};
+ghost use Rattle.book.specs.Image.{pages, mostPages};
 ghost use Rattle.book.specs.Create.{userEntry, objectEntry};
 ghost use Rattle.making.specs.Entry.{begun, numbered};
 
-// Bit 15 of word 0.
-const USED: u16 = 32768;
+// Bit 15 of word 0: the entry is used.
+const IN_USE: u16 = 32768;
 
 // The entry at word k of page q is cleared, marked used and named.
 fn begin_entry(img: &mut [u16], q: usize, k: usize, name: &[u8])
@@ -22,8 +32,8 @@ fn begin_entry(img: &mut [u16], q: usize, k: usize, name: &[u8])
     ensures { λ _. ⌜ vol (now (img .exit)) ≡ putWords (vol (now (img .entry))) q k 32 (begun (now (name .entry))) ⌝ }
 {
     clear_entry(img, q, k);
-    put_word(img, q, k, USED);
-    put_text(img, q, k + 1, 8, name);
+    put_word(img, q, k, IN_USE);
+    put_text(img, q, k + NAME, 8, name);
 }
 
 // Entry u of page q becomes that of a new user u.
@@ -34,7 +44,7 @@ pub fn user_entry(img: &mut [u16], q: usize, u: usize, name: &[u8])
     let place = EntryPlace::of(u);
     let k = place.word;
     begin_entry(img, q, k, name);
-    put_word(img, q, k + 18, u as u16);
+    put_word(img, q, k + INDEX, u as u16);
 }
 
 // The numbers of the object whose entry w is being written at word k of page q.
@@ -48,15 +58,15 @@ fn put_numbers(
     n: u32,
     ptr: u32,
 )
-    requires { ⌜ (1024 * q + 1024 ≤ length (now img)) × (k + 32 ≤ 1024) × (u < 256) × (e < 65536) × (n ≤ 16384) ⌝ }
+    requires { ⌜ (1024 * q + 1024 ≤ length (now img)) × (k + 32 ≤ 1024) × (u < 256) × (e < 65536) × (n ≤ mostPages) ⌝ }
     ensures { λ _. ⌜ ((x : Vol) (w : Words) → vol (now (img .entry)) ≡ putWords x q k 32 w → vol (now (img .exit)) ≡ putWords x q k 32 (numbered w u e created n ptr)) ⌝ }
 {
-    put_word(img, q, k + 16, u as u16);
-    put_word(img, q, k + 17, e as u16);
-    put_two(img, q, k + 20, created);
-    put_two(img, q, k + 26, n);
-    put_two(img, q, k + 28, 2048 * n);
-    put_two(img, q, k + 30, ptr);
+    put_word(img, q, k + OWNER, u as u16);
+    put_word(img, q, k + NUMBER, e as u16);
+    put_two(img, q, k + CREATED, created);
+    put_two(img, q, k + PAGES, n);
+    put_two(img, q, k + BYTES, PAGE_BYTES * n);
+    put_two(img, q, k + POINTER, ptr);
 }
 
 // Entry e of page q becomes that of a new file of user u, of n pages behind the pointer ptr.
@@ -71,12 +81,12 @@ pub fn object_entry(
     n: u32,
     ptr: u32,
 )
-    requires { ⌜ (q < pages (now img)) × (u < 256) × (e < 65536) × (n ≤ 16384) ⌝ }
+    requires { ⌜ (q < pages (now img)) × (u < 256) × (e < 65536) × (n ≤ mostPages) ⌝ }
     ensures { λ _. ⌜ vol (now (img .exit)) ≡ putEntry (vol (now (img .entry))) q e (objectEntry u e (now (name .entry)) (now (kind .entry)) created n ptr) ⌝ }
 {
     let place = EntryPlace::of(e);
     let k = place.word;
     begin_entry(img, q, k, name);
-    put_text(img, q, k + 9, 2, kind);
+    put_text(img, q, k + TYPE, 2, kind);
     put_numbers(img, q, k, u, e, created, n, ptr);
 }

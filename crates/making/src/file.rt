@@ -3,6 +3,7 @@ use crate::entry::object_entry;
 use crate::place::bit_page;
 use crate::place::file_place;
 use page::entry::EntryPlace;
+use page::entry::USED;
 use page::write::put_two;
 use seek::files::entry_number;
 use seek::users::used_pages;
@@ -15,9 +16,6 @@ ghost use Rattle.book.specs.Bits.{lowestFree, highestRun};
 ghost use Rattle.book.specs.Entries.{user, used, spare, fileEntry, newFile, unreserved};
 ghost use Rattle.book.specs.Image.{pages, Ready, CountArg};
 ghost use Rattle.book.specs.Create.{fileNeed, filePlace, createIndexed, createContiguous};
-
-// Where a user's used pages stand in his entry.
-const USED: usize = 16;
 
 // The place of the new file's entry, then the entry.
 pub fn create_indexed_step(

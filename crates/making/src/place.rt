@@ -1,8 +1,8 @@
 // The places of new entries: system pages are taken at the lowest free page, linked, and paid from unreserved.
-use crate::BITS;
-use crate::OBJECTS;
-use crate::UNRESERVED;
-use crate::USERS;
+use page::BITS;
+use page::OBJECTS;
+use page::UNRESERVED;
+use page::USERS;
 use page::WORDS;
 use page::entry::EntryPlace;
 use page::read::page_at;
@@ -19,7 +19,7 @@ ghost use Rattle.book.specs.Words.{vol};
 ghost use Rattle.book.specs.Pointers.{page, pointer as pointerOf, userPointer};
 ghost use Rattle.book.specs.Bits.{lowestFree, claim};
 ghost use Rattle.book.specs.Entries.{userPage, objectPage, unreserved as unreservedOf};
-ghost use Rattle.book.specs.Image.{pages, Ready};
+ghost use Rattle.book.specs.Image.{pages, mostPages, Ready};
 ghost use Rattle.book.specs.Create.{extend as extendOf, started, raised, raises as raisesFor, withUserPage, withSubindex, userNeed, userPlace, objectIndex, fileNeed, withIndex, withObjectPage, filePlace};
 ghost use Rattle.laws.specs.Create.Vacant.{Vacant, Reached};
 ghost use Rattle.bits.specs.File.{BitsAt};
@@ -39,7 +39,7 @@ pub(crate) fn bit_page(img: &[u16]) -> usize
 
 // The pointer with flags x to page t.
 fn pointer(x: u32, t: usize) -> u32
-    requires { ⌜ (x < 3) × (t < 16384) ⌝ }
+    requires { ⌜ (x < 3) × (t < mostPages) ⌝ }
     ensures { λ r. ⌜ r ≡ pointerOf x t ⌝ }
 {
     x * 1073741824 + t as u32

@@ -7,7 +7,7 @@ ghost use mathlib.Core.Path.{_≡_};
 ghost use Prim.Native.Nat.{ℕ, _+_, _*_, _≤_, _<_};
 ghost use lib.ListN.{length};
 ghost use Rattle.book.specs.Words.{Vol, vol};
-ghost use Rattle.book.specs.Bits.{bit, lowestFree, highestRun};
+ghost use Rattle.book.specs.Bits.{pageBits, bit, lowestFree, highestRun};
 ghost use Rattle.book.specs.Entries.{user, used, fileEntry, unreserved};
 ghost use Rattle.book.specs.Image.{pages, Ready, CountArg};
 ghost use Rattle.book.specs.Create.{fileNeed, filePlace};
@@ -16,7 +16,7 @@ ghost use Rattle.making.specs.Beside.{Beside};
 
 // Page p's bit once x and y are taken.
 fn held(img: &[u16], b: usize, p: usize, x: usize, y: usize) -> u16
-    requires { ⌜ (1024 * b + 1024 ≤ length (now img)) × (p < 16384) ⌝ }
+    requires { ⌜ (1024 * b + 1024 ≤ length (now img)) × (p < pageBits) ⌝ }
     ensures { λ r. ⌜ ((P : ℕ) (w : Vol) → BitsAt P (vol (now (img .entry))) b → p < P → Beside P (vol (now (img .entry))) w x y → r ≡ bit P w p) × (r < 2) ⌝ }
 {
     if p == x {

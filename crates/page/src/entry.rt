@@ -7,6 +7,36 @@ ghost use lib.ListN.{length};
 ghost use Rattle.book.specs.Words.{vol, putWords, zeros};
 ghost use Rattle.book.specs.Entries.{entryPage, entryWord};
 
+// Where the words of an entry stand. Every entry has a name.
+pub const NAME: usize = 1;
+
+// A user's: given pages, used pages, own index.
+pub const GIVEN: usize = 14;
+
+pub const USED: usize = 16;
+
+pub const INDEX: usize = 18;
+
+// A file's: type, owner, own entry number, total opens, created, pages, bytes, pointer.
+pub const TYPE: usize = 9;
+
+pub const OWNER: usize = 16;
+
+pub const NUMBER: usize = 17;
+
+pub const OPENS: usize = 19;
+
+pub const CREATED: usize = 20;
+
+pub const PAGES: usize = 26;
+
+pub const BYTES: usize = 28;
+
+pub const POINTER: usize = 30;
+
+// The bytes of a file's page.
+pub const PAGE_BYTES: u32 = 2048;
+
 // The page of an entry, counted in its file, and its first word there.
 pub struct EntryPlace {
     pub page: usize,

@@ -21,7 +21,7 @@ pub fn dword(part: &[u16], k: usize) -> u32
 }
 
 // The page number of the pointer at word k of a part, without its flags.
-pub fn dpage(part: &[u16], k: usize) -> u32
+fn dpage(part: &[u16], k: usize) -> u32
     requires { ⌜ k + 1 < length (now part) ⌝ }
     ensures { λ r. ⌜ (r ≡ getD (now (part .entry)) k 0 % 16384 * 65536 + getD (now (part .entry)) (k + 1) 0) × (r < 1073741824) ⌝ }
 {

@@ -1,23 +1,19 @@
 // A file's entry, by its number 256 u + f or by user and file: is it there, how many pages, what kind.
 use crate::users::has_user;
+use page::entry::PAGES;
+use page::entry::POINTER;
 use tree::entry::entry_flags;
-use tree::entry::entry_page;
 use tree::entry::entry_two;
 use tree::entry::entry_used;
 use tree::root::object_page;
 ghost use mathlib.Core.Path.{_≡_};
 ghost use Prim.Native.Nat.{_<_};
 ghost use Rattle.book.specs.Words.{vol};
-ghost use Rattle.book.specs.Pointers.{page, flags};
+ghost use Rattle.book.specs.Pointers.{flags};
 ghost use Rattle.book.specs.Entries.{object, used, fileEntry, pageCount, filePointer};
 ghost use Rattle.book.specs.Image.{Ready};
 ghost use Rattle.book.specs.Decides.{Decides};
 ghost use Rattle.book.specs.Calls.{HasFile, Grows, Shrinks};
-
-// Where a file's pages and its pointer stand in its entry.
-const PAGES: usize = 26;
-
-const POINTER: usize = 30;
 
 // The entry number of file f of user u.
 pub fn entry_number(u: usize, f: usize) -> usize
@@ -63,15 +59,6 @@ pub fn file_flags(img: &[u16], e: usize) -> u16
 {
     let q = object_page(img, e);
     entry_flags(img, q, e, POINTER)
-}
-
-// The page of its pointer.
-pub fn file_top(img: &[u16], e: usize) -> usize
-    requires { ⌜ Ready (now img) ⌝ }
-    ensures { λ r. ⌜ (r ≡ page (object (vol (now (img .entry))) e) filePointer) × (r < 1073741824) ⌝ }
-{
-    let q = object_page(img, e);
-    entry_page(img, q, e, POINTER)
 }
 
 // The file in object entry e can grow: it is no contiguous one.

@@ -1,6 +1,10 @@
 // Finding a user or a file by name: the entries on 8 pages of the user file or the object file, absent pages skipped.
 use crate::Found;
+use page::OBJECTS;
+use page::USERS;
 use page::entry::EntryPlace;
+use page::entry::NAME;
+use page::entry::TYPE;
 use page::names::named_at;
 use page::read::flags_at;
 use page::read::page_at;
@@ -17,11 +21,6 @@ ghost use Rattle.book.specs.Calls.{IsUser, IsFile};
 ghost use Rattle.tree.specs.Reach.{Reach, entryIn};
 ghost use Rattle.seek.specs.Search.{FoundBy, Fits};
 
-// The user pointer and the object pointer, in the master page.
-const USERS: usize = 1018;
-
-const OBJECTS: usize = 1016;
-
 // Entry k of page q is used, has this name, and in m words this type: 2 for a file, 0 for a user.
 fn fits(img: &[u16], q: usize, k: usize, name: &[u8], kind: &[u8], m: usize) -> bool
     requires { ⌜ (0 < q) × (q < pages (now img)) × (m ≤ 2) ⌝ }
@@ -32,10 +31,10 @@ fn fits(img: &[u16], q: usize, k: usize, name: &[u8], kind: &[u8], m: usize) -> 
     }
     let place = EntryPlace::of(k);
     let w = place.word;
-    if !named_at(img, q, w + 1, 8, name) {
+    if !named_at(img, q, w + NAME, 8, name) {
         return false;
     }
-    named_at(img, q, w + 9, m, kind)
+    named_at(img, q, w + TYPE, m, kind)
 }
 
 // The lowest entry of page q that fits, counted on the page; an absent page has none.

@@ -1,4 +1,6 @@
-// The pages that a step asks for: a new user, a new file, one page more, and all of a file.
+// The pages that a step asks for: a new user, a new file, one page more.
+use page::OBJECTS;
+use page::USERS;
 use page::entry::EntryPlace;
 use page::read::flags_at;
 use page::read::page_at;
@@ -8,14 +10,9 @@ use tree::root::user_page;
 ghost use mathlib.Core.Path.{_≡_};
 ghost use Prim.Native.Nat.{_-_, _≤_, _<_};
 ghost use Rattle.book.specs.Words.{vol};
-ghost use Rattle.book.specs.Files.{need as needOf, cost as costOf};
+ghost use Rattle.book.specs.Files.{need as needOf};
 ghost use Rattle.book.specs.Image.{pages, Ready};
 ghost use Rattle.book.specs.Create.{raises as raisesFor, userNeed, objectIndex, fileNeed};
-
-// The user pointer and the object pointer, in the master page.
-const USERS: usize = 1018;
-
-const OBJECTS: usize = 1016;
 
 // What a file of n pages takes to grow by one.
 pub fn need(n: u32) -> u32
@@ -28,18 +25,6 @@ pub fn need(n: u32) -> u32
         return 2;
     }
     1
-}
-
-// The pages of an indexed file of n data pages, its blocks among them.
-pub fn cost(n: u32) -> u32
-    requires { ⌜ n ≤ 262144 ⌝ }
-    ensures { λ r. ⌜ r ≡ costOf n ⌝ }
-{
-    let blocks = (n + 511) / 512;
-    if n <= 512 {
-        return n + blocks;
-    }
-    n + blocks + 1
 }
 
 // 1 for a page that is absent.

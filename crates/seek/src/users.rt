@@ -1,4 +1,7 @@
 // A user's entry and his numbers; the pages that nobody was given.
+use page::UNRESERVED;
+use page::entry::GIVEN;
+use page::entry::USED;
 use page::read::two_at;
 use tree::entry::entry_two;
 use tree::entry::entry_used;
@@ -10,13 +13,6 @@ ghost use Rattle.book.specs.Entries.{user, given as givenTo, usedPages, spare a
 ghost use Rattle.book.specs.Image.{Whole, Ready};
 ghost use Rattle.book.specs.Decides.{Decides};
 ghost use Rattle.book.specs.Calls.{HasUser};
-
-// Where unreserved stands in the master page, and a user's given and used pages in his entry.
-const UNRESERVED: usize = 1022;
-
-const GIVEN: usize = 14;
-
-const USED: usize = 16;
 
 // User u is there.
 pub fn has_user(img: &[u16], u: usize) -> bool

@@ -2,7 +2,7 @@
 use mathlib.Core.Path.{_≡_, sym, _∙_, subst, subst₂}
 use mathlib.Core.Bool.{Bool}
 use mathlib.Core.List.{List}
-use Prim.Native.Nat.{ℕ, zero, suc, _+_, _-_, _*_, _/_, _^_, _≤_, _<_, min}
+use Prim.Native.Nat.{ℕ, zero, suc, _+_, _-_, _*_, _/_, _^_, _≤_, _<_}
 use native.Mathlib.Decide.{decLt}
 use native.Mathlib.Omega.{arith}
 use Rattle.book.specs.Decides.{Decides}
@@ -11,7 +11,7 @@ use Rattle.book.specs.Trees.{Fill, Below}
 use Rattle.book.specs.Words.{Vol, vol}
 use Rattle.laws.specs.Tree.Weigh.{fill-zero, below-zero}
 use Rattle.page.proofs.Deciding.{decides-iff}
-use Rattle.tree.specs.Blocks.{pointerIn, Linked, Unlinked}
+use Rattle.tree.specs.Blocks.{pointerIn, Linked, Unlinked, share}
 use Rattle.tree.proofs.Blocks.{partOf, part-slot}
 use Rattle.shape.specs.Shapes.{Filled, Indexes}
 
@@ -26,17 +26,14 @@ module _ (P : ℕ) (v : Vol) (n : ℕ) (some : 0 < n) where
 
   -- m slots p of its top block are in use, and decide of it
   module _ (l t m : ℕ) (p : ℕ → ℕ) (low : 0 < t) (high : t < P) (read : (k : ℕ) → p k ≡ slot v t k) (past : (k : ℕ) → m ≤ k → n ≤ k * 512 ^ l) where
-    abbrev share : ℕ → ℕ
-    share k = min (n - k * 512 ^ l) (512 ^ l)
-
     abbrev Slots : Type 0
-    Slots = ((k : ℕ) → k < m → k < 512 → Filled P v l (p k) (share k)) × ((k : ℕ) → k < 512 → m ≤ k → p k ≡ 0)
+    Slots = ((k : ℕ) → k < m → k < 512 → Filled P v l (p k) (share l n k)) × ((k : ℕ) → k < 512 → m ≤ k → p k ≡ 0)
 
-    slot-past : Slots → (k : ℕ) → k < 512 → Filled P v l (p k) (share k)
+    slot-past : Slots → (k : ℕ) → k < 512 → Filled P v l (p k) (share l n k)
     slot-past s k h = elim (decLt k m) [
       | yes i ↦ s .0 k i h
       | no i ↦
-          let e : 0 ≡ share k = omega (arith, past k (omega arith)) in
+          let e : 0 ≡ share l n k = omega (arith, past k (omega arith)) in
           let z : 0 ≡ p k = sym (s .1 k h (omega arith)) in
           (subst₂ (λ (x y : ℕ). Fill v l x y) z e (fill-zero v l), subst (λ (x : ℕ). Below v P l x) z (below-zero v P l (omega arith)))
     ]
@@ -47,7 +44,7 @@ module _ (P : ℕ) (v : Vol) (n : ℕ) (some : 0 < n) where
       (
         (λ h. low),
         (λ e. absurd (let r : ⊥ = omega arith in r)),
-        λ k h. subst (λ (x : ℕ). Fill v l x (share k)) (read k) (slot-past s k h .0),
+        λ k h. subst (λ (x : ℕ). Fill v l x (share l n k)) (read k) (slot-past s k h .0),
       ),
       (high, λ k h. subst (λ (x : ℕ). Below v P l x) (read k) (slot-past s k h .1)),
     )
@@ -55,8 +52,8 @@ module _ (P : ℕ) (v : Vol) (n : ℕ) (some : 0 < n) where
     to-slots : Filled P v (suc l) t n → Slots
     unfolding Fill Below
     to-slots f = (
-      (λ k i h. (subst (λ (x : ℕ). Fill v l x (share k)) (sym (read k)) (f .0 .2 k h), subst (λ (x : ℕ). Below v P l x) (sym (read k)) (f .1 .1 k h))),
-      λ k h i. read k ∙ none l (slot v t k) (share k) (f .0 .2 k h) (let e : share k ≡ 0 = omega (arith, past k i) in e),
+      (λ k i h. (subst (λ (x : ℕ). Fill v l x (share l n k)) (sym (read k)) (f .0 .2 k h), subst (λ (x : ℕ). Below v P l x) (sym (read k)) (f .1 .1 k h))),
+      λ k h i. read k ∙ none l (slot v t k) (share l n k) (f .0 .2 k h) (let e : share l n k ≡ 0 = omega (arith, past k i) in e),
     )
       where
         none : (j x y : ℕ) → Fill v j x y → y ≡ 0 → x ≡ 0

@@ -9,9 +9,8 @@ use Rattle.book.specs.Decides.{Decides}
 use Rattle.book.specs.Files.{Shape, Empty, Contiguous, Indexed, Subindexed, bytesOf}
 use Rattle.book.specs.Pointers.{flags, page}
 use Rattle.book.specs.Words.{Words, Vol, two}
-use Rattle.page.proofs.Deciding.{decides-iff}
+use Rattle.page.proofs.Deciding.{decides-iff, decides-eq, decides-le}
 use Rattle.shape.specs.Shapes.{Shaped}
-use Rattle.shape.proofs.Deciding.{decides-eq, decides-le}
 
 -- a run of n pages from t on, by what code compares
 module _ (P t n : ℕ) where

@@ -1,5 +1,4 @@
 -- Laws that proofs of this crate and of its users cite.
-pub mod Deciding
 pub mod Blocks
 pub mod Files
 pub mod Objects

@@ -7,7 +7,7 @@ use native.Mathlib.Omega.{arith}
 use Rattle.book.specs.Entries.{object, objectFile, objectPage, used}
 use Rattle.book.specs.Files.{FileShape}
 use Rattle.book.specs.Image.{pages, Whole}
-use Rattle.book.specs.Pointers.{flags, page}
+use Rattle.book.specs.Pointers.{flags, page, objectPointer}
 use Rattle.book.specs.Rules.{Rule2, Rule5, Rule7}
 use Rattle.book.specs.Trees.{rootBy, pageAt}
 use Rattle.book.specs.Words.{Vol, vol}
@@ -21,7 +21,7 @@ use Rattle.shape.specs.Objects.{ObjectsAt}
 use Rattle.shape.specs.Shapes.{EntryRight, FilesRight}
 
 -- as code reads its pointer: flags x and page t
-pub objects-at : (img : List ℕ) (x t : ℕ) → Whole img → Rule2 (pages img) (vol img) → Rule5 (pages img) (vol img) → x ≡ flags (vol img 0) 1016 → t ≡ page (vol img 0) 1016 → ObjectsAt img x t
+pub objects-at : (img : List ℕ) (x t : ℕ) → Whole img → Rule2 (pages img) (vol img) → Rule5 (pages img) (vol img) → x ≡ flags (vol img 0) objectPointer → t ≡ page (vol img 0) objectPointer → ObjectsAt img x t
 objects-at img x t w a b ex et =
     let e : objectFile (vol img) ≡ rootBy x t 0 = object-root (vol img) x t ex et in
     record { root = e; reach = reach-same img _ _ e (record { some = omega arith; below = below-objects (pages img) (vol img) a b }) }

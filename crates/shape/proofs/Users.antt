@@ -15,13 +15,13 @@ use Rattle.book.specs.Image.{pages, Whole}
 use Rattle.book.specs.Rules.{Rule2, Rule3, Rule6, Rule7, Rule10}
 use Rattle.book.specs.Trees.{pageAt}
 use Rattle.book.specs.Words.{Words, Vol, vol, two}
+use Rattle.book.specs.Pointers.{unreservedCount}
 use Rattle.laws.specs.Count.Charge.{mine-pages}
 use Rattle.laws.specs.Count.Reach.{below-users}
-use Rattle.page.proofs.Deciding.{decides-iff}
+use Rattle.page.proofs.Deciding.{decides-iff, decides-eq}
 use Rattle.tree.specs.Reach.{Reach, entryIn}
 use Rattle.tree.proofs.Entries.{user-in, absent-word}
 use Rattle.shape.specs.Counts.{pagesOf, countIn, CountRight, UsersRight}
-use Rattle.shape.proofs.Deciding.{decides-eq}
 use Rattle.shape.proofs.Sums.{pages-none}
 
 pub reach-users : (img : List ℕ) → Whole img → Rule2 (pages img) (vol img) → Rule3 (pages img) (vol img) → Reach img (userFile (vol img))
@@ -95,7 +95,7 @@ module _ (P : ℕ) (v : Vol) (r6 : Rule6 (user v) (object v)) (r7 : Rule7 P v) (
   taken-sum = sum-ext 256 (λ u. countIn 16 (user v u)) (λ u. mine v u some) taken-at
 
 -- unreserved pages a, given pages g, visits n, P pages t and the files' pages h, as code has them
-module _ (P : ℕ) (v : Vol) (a g n t h : ℕ) (ea : a ≡ two (v 0) 1022) (eg : g ≡ sum 256 (grant (user v))) (en : n ≡ 1 + all P v some) (et : t ≡ P) (eh : h ≡ sum 256 (λ u. mine v u some)) where
+module _ (P : ℕ) (v : Vol) (a g n t h : ℕ) (ea : a ≡ two (v 0) unreservedCount) (eg : g ≡ sum 256 (grant (user v))) (en : n ≡ 1 + all P v some) (et : t ≡ P) (eh : h ≡ sum 256 (λ u. mine v u some)) where
   pub decides-sum : Decides (eqb (a + g + n) (t + h)) (unreserved v + sum 256 (grant (user v)) + systemPages P v ≡ P)
   unfolding all systemPages unreserved
   decides-sum = decides-iff (eqb (a + g + n) (t + h)) _ _ (λ d. omega arith) (λ d. omega arith) (decides-eq (a + g + n) (t + h))

@@ -1,12 +1,12 @@
 -- What the tests of a file's shape decide, block by block. Assumes nothing.
 use mathlib.Core.List.{List}
-use Prim.Native.Nat.{ℕ, _-_, _*_, _≤_, _<_, min}
+use Prim.Native.Nat.{ℕ, _≤_, _<_}
 use Rattle.book.specs.Words.{Words, Vol}
 use Rattle.book.specs.Entries.{object, used, pageCount, filePointer}
 use Rattle.book.specs.Files.{Shape, FileShape, BytesRight}
 use Rattle.book.specs.Pointers.{flags, page}
 use Rattle.book.specs.Trees.{Fill, Below}
-use Rattle.tree.specs.Blocks.{pointerIn}
+use Rattle.tree.specs.Blocks.{pointerIn, share}
 
 -- the tree of level l at t has positions 0 to n - 1 and no others, and all its pages are below P
 abbrev pub Filled : ℕ → Vol → ℕ → ℕ → ℕ → Type 0
@@ -14,13 +14,9 @@ Filled P v l t n = Fill v l t n × Below v P l t
 
 -- ---- a subindex block as a part of 1,024 words
 
--- of n positions, those under slot k of a subindex block
-abbrev pub shareOf : ℕ → ℕ → ℕ
-shareOf n k = min (n - k * 512) 512
-
 -- pointers 0 to m - 1 of a subindex block of n positions lead to index blocks of their shares
 abbrev pub Indexes : ℕ → Vol → List ℕ → ℕ → ℕ → Type 0
-Indexes P v block n m = (k : ℕ) → k < m → Filled P v 1 (pointerIn block k) (shareOf n k)
+Indexes P v block n m = (k : ℕ) → k < m → Filled P v 1 (pointerIn block k) (share 1 n k)
 
 -- ---- a file by the words of its entry
 

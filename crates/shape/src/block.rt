@@ -1,5 +1,5 @@
 // The blocks of a file: whether the tree under an index or subindex block has exactly the positions 0 to n - 1, all its pages in 1..P-1.
-use crate::seen::note;
+use bits::marks::mark;
 use page::WORDS;
 use page::read::dword;
 use tree::block::filled;
@@ -10,9 +10,9 @@ ghost use lib.ListN.{length};
 ghost use Rattle.book.specs.Decides.{Decides};
 ghost use Rattle.book.specs.Image.{pages, Whole};
 ghost use Rattle.book.specs.Words.{vol};
-ghost use Rattle.tree.specs.Blocks.{Unlinked};
+ghost use Rattle.tree.specs.Blocks.{Unlinked, share as shareOf};
 ghost use Rattle.shape.specs.Seen.{Testing, Tested};
-ghost use Rattle.shape.specs.Shapes.{Filled, Indexes, shareOf};
+ghost use Rattle.shape.specs.Shapes.{Filled, Indexes};
 
 // Whether page b is an index block of n pages.
 pub fn index_ok(img: &[u16], total: usize, b: usize, n: usize) -> bool
@@ -33,7 +33,7 @@ pub fn index_ok(img: &[u16], total: usize, b: usize, n: usize) -> bool
 // Of n positions, those under slot k of a subindex block.
 fn share(n: usize, k: usize) -> usize
     requires { ⌜ (k < 512) × (k * 512 < n) ⌝ }
-    ensures { λ r. ⌜ (r ≡ shareOf n k) × (0 < r) × (r ≤ 512) ⌝ }
+    ensures { λ r. ⌜ (r ≡ shareOf 1 n k) × (0 < r) × (r ≤ 512) ⌝ }
 {
     let rest = n - k * 512;
     if rest < 512 {
@@ -42,7 +42,7 @@ fn share(n: usize, k: usize) -> usize
     512
 }
 
-// Whether page b is an index block of n pages; a full one that was found right before is not read again.
+// Whether page b is an index block of n pages. A full one is marked as seen, and not read again: files may share blocks until rule 8 is judged.
 pub fn index_once(img: &[u16], total: usize, seen: &mut [u16; 1024], b: usize, n: usize) -> bool
     requires { ⌜ Testing (now img) total (now seen) × (0 < n) × (n ≤ 512) ⌝ }
     ensures { λ r. ⌜ Tested (now (img .entry)) (Filled (pages (now (img .entry))) (vol (now (img .entry))) 1 b n) (now (seen .exit)) r ⌝ }
@@ -53,7 +53,7 @@ pub fn index_once(img: &[u16], total: usize, seen: &mut [u16; 1024], b: usize, n
     if total <= b {
         return false;
     }
-    if !note(seen, b) {
+    if !mark(seen, b) {
         return true;
     }
     index_ok(img, total, b, n)

@@ -1,11 +1,13 @@
 // The pages of files, summed from the entries alone: rule 7 has seen that each file has the blocks and pages that its count asks for.
+use page::entry::PAGES;
+use page::entry::POINTER;
 use tree::entry::entry_flags;
 use tree::entry::entry_two;
 use tree::entry::entry_used;
 use tree::root::root_page;
 ghost use mathlib.Core.Path.{_≡_};
 ghost use Prim.Native.Nat.{_*_, _≤_, _<_};
-ghost use Rattle.book.specs.Entries.{objectPage};
+ghost use Rattle.book.specs.Entries.{objectPage, objectPages};
 ghost use Rattle.book.specs.Files.{cost};
 ghost use Rattle.book.specs.Image.{pages};
 ghost use Rattle.book.specs.Words.{vol};
@@ -46,14 +48,14 @@ fn entry_pages(img: &[u16], q: usize, e: usize) -> u64
     if !entry_used(img, q, e) {
         return 0;
     }
-    let flags = entry_flags(img, q, e, 30);
-    let n = entry_two(img, q, e, 26) as u64;
+    let flags = entry_flags(img, q, e, POINTER);
+    let n = entry_two(img, q, e, PAGES) as u64;
     charge_of(flags, n)
 }
 
 // The pages of the files whose entries are on object page q, the one at position n.
 fn page_pages(img: &[u16], q: usize, n: usize) -> u64
-    requires { ⌜ (q < pages (now img)) × (n < 2048) × (q ≡ objectPage (vol (now img)) (32 * n)) ⌝ }
+    requires { ⌜ (q < pages (now img)) × (n < objectPages) × (q ≡ objectPage (vol (now img)) (32 * n)) ⌝ }
     ensures { λ r. ⌜ (r ≡ pagesAt (vol (now (img .entry))) n) × (r ≤ 32 * 8589934592) ⌝ }
 {
     let e = 32 * n;
@@ -68,7 +70,7 @@ fn page_pages(img: &[u16], q: usize, n: usize) -> u64
 
 // The pages of the files whose entries are at position n of the object file, whose pointer has these flags and this page.
 fn position_pages(img: &[u16], flags: u16, top: usize, n: usize) -> u64
-    requires { ⌜ ObjectsAt (now img) flags top × (n < 2048) ⌝ }
+    requires { ⌜ ObjectsAt (now img) flags top × (n < objectPages) ⌝ }
     ensures { λ r. ⌜ (r ≡ pagesAt (vol (now (img .entry))) n) × (r ≤ 32 * 8589934592) ⌝ }
 {
     let q = root_page(img, flags, top, 0, n);

@@ -1,6 +1,10 @@
 // The shape of one file: by the flags of its pointer, and with its bytes, by its entry.
 use crate::block::index_once;
 use crate::block::subindex_ok;
+use page::entry::BYTES;
+use page::entry::PAGE_BYTES;
+use page::entry::PAGES;
+use page::entry::POINTER;
 use tree::entry::entry_flags;
 use tree::entry::entry_page;
 use tree::entry::entry_two;
@@ -86,7 +90,7 @@ fn shape_ok(
 fn bytes_ok(n: u32, bytes: u32) -> bool
     ensures { λ r. ⌜ Decides r (bytes ≡ bytesOf n) ⌝ }
 {
-    bytes as u64 == 2048 * (n as u64)
+    bytes as u64 == PAGE_BYTES as u64 * (n as u64)
 }
 
 // Whether the file in entry e on page q has one of the shapes, its bytes right, all its pages in 1..total-1.
@@ -94,12 +98,12 @@ fn file_ok(img: &[u16], total: usize, seen: &mut [u16; 1024], q: usize, e: usize
     requires { ⌜ Testing (now img) total (now seen) × (q < pages (now img)) ⌝ }
     ensures { λ r. ⌜ Tested (now (img .entry)) (Shaped (pages (now (img .entry))) (vol (now (img .entry))) (entryIn (vol (now (img .entry))) q e)) (now (seen .exit)) r ⌝ }
 {
-    let n = entry_two(img, q, e, 26);
-    if !bytes_ok(n, entry_two(img, q, e, 28)) {
+    let n = entry_two(img, q, e, PAGES);
+    if !bytes_ok(n, entry_two(img, q, e, BYTES)) {
         return false;
     }
-    let flags = entry_flags(img, q, e, 30);
-    let t = entry_page(img, q, e, 30);
+    let flags = entry_flags(img, q, e, POINTER);
+    let t = entry_page(img, q, e, POINTER);
     shape_ok(img, total, seen, flags, t, n as usize)
 }
 

@@ -4,5 +4,4 @@ pub mod counts;
 pub mod file;
 pub mod rule10;
 pub mod rule7;
-pub mod seen;
 mod tally;

@@ -1,6 +1,10 @@
 // Rule 10: each used count is the pages of his files; unreserved, given and system pages make up P.
 use crate::counts::user_pages;
 use crate::tally::users_sum;
+use page::OBJECTS;
+use page::UNRESERVED;
+use page::entry::GIVEN;
+use page::entry::USED;
 use page::read::flags_at;
 use page::read::page_at;
 use page::read::two_at;
@@ -29,7 +33,7 @@ fn user_ok(img: &[u16], flags: u16, top: usize, ends: usize, q: usize, u: usize)
     if !entry_used(img, q, u) {
         return true;
     }
-    entry_two(img, q, u, 16) as u64 == user_pages(img, flags, top, ends, u)
+    entry_two(img, q, u, USED) as u64 == user_pages(img, flags, top, ends, u)
 }
 
 // The same of the 32 users from `first` on, a page of them. An absent page has no used users.
@@ -73,9 +77,9 @@ fn sum_ok(img: &[u16], total: usize, visits: u32) -> bool
         × Rule6 (user (vol (now img))) (object (vol (now img))) × Rule7 (pages (now img)) (vol (now img)) × UsersRight (vol (now img)) 0 256 ⌝ }
     ensures { λ r. ⌜ Decides r (unreserved (vol (now (img .entry))) + sumOf 256 (grant (user (vol (now (img .entry))))) + systemPages (pages (now (img .entry))) (vol (now (img .entry))) ≡ pages (now (img .entry))) ⌝ }
 {
-    let unreserved = two_at(img, 0, 1022) as u64;
-    let given = users_sum(img, 14);
-    let taken = users_sum(img, 16);
+    let unreserved = two_at(img, 0, UNRESERVED) as u64;
+    let given = users_sum(img, GIVEN);
+    let taken = users_sum(img, USED);
     unreserved + given + visits as u64 == total as u64 + taken
 }
 
@@ -85,8 +89,8 @@ pub fn rule10(img: &[u16], total: usize, visits: u32, ends: usize) -> bool
         × Rule6 (user (vol (now img))) (object (vol (now img))) × Rule7 (pages (now img)) (vol (now img)) × (visits ≡ 1 + all (pages (now img)) (vol (now img)) some) × Ends (now img) ends ⌝ }
     ensures { λ r. ⌜ Decides r (Rule10 (pages (now (img .entry))) (vol (now (img .entry)))) ⌝ }
 {
-    let flags = flags_at(img, 0, 1016);
-    let top = page_at(img, 0, 1016) as usize;
+    let flags = flags_at(img, 0, OBJECTS);
+    let top = page_at(img, 0, OBJECTS) as usize;
     if !users_ok(img, flags, top, ends) {
         return false;
     }

@@ -1,13 +1,14 @@
 // Rule 7: each file has one of the shapes, its bytes right, all its pages in 1..P-1. It goes over the pages of the object file and skips absent ones.
 use crate::file::entry_ok;
-use crate::seen::no_blocks;
+use bits::marks::no_marks;
+use page::OBJECTS;
 use page::read::flags_at;
 use page::read::page_at;
 use tree::root::root_page;
 ghost use mathlib.Core.Path.{_≡_};
 ghost use Prim.Native.Nat.{_+_, _*_, _<_};
 ghost use Rattle.book.specs.Decides.{Decides};
-ghost use Rattle.book.specs.Entries.{objectPage};
+ghost use Rattle.book.specs.Entries.{objectPage, objectPages};
 ghost use Rattle.book.specs.Image.{pages, Whole};
 ghost use Rattle.book.specs.Rules.{Rule2, Rule5, Rule7};
 ghost use Rattle.book.specs.Words.{vol};
@@ -18,7 +19,7 @@ ghost use Rattle.shape.specs.Shapes.{FilesRight};
 
 // Whether the files are right whose entries are on object page q, the one at position n.
 fn page_ok(img: &[u16], total: usize, seen: &mut [u16; 1024], q: usize, n: usize) -> bool
-    requires { ⌜ Testing (now img) total (now seen) × (q < pages (now img)) × (n < 2048) × (q ≡ objectPage (vol (now img)) (32 * n)) ⌝ }
+    requires { ⌜ Testing (now img) total (now seen) × (q < pages (now img)) × (n < objectPages) × (q ≡ objectPage (vol (now img)) (32 * n)) ⌝ }
     ensures { λ r. ⌜ Tested (now (img .entry)) (FilesRight (pages (now (img .entry))) (vol (now (img .entry))) (32 * n) (32 * n + 32)) (now (seen .exit)) r ⌝ }
 {
     let e = 32 * n;
@@ -41,7 +42,7 @@ fn position_ok(
     top: usize,
     n: usize,
 ) -> bool
-    requires { ⌜ Testing (now img) total (now seen) × ObjectsAt (now img) flags top × (n < 2048) ⌝ }
+    requires { ⌜ Testing (now img) total (now seen) × ObjectsAt (now img) flags top × (n < objectPages) ⌝ }
     ensures { λ r. ⌜ Tested (now (img .entry)) (FilesRight (pages (now (img .entry))) (vol (now (img .entry))) (32 * n) (32 * n + 32)) (now (seen .exit)) r ⌝ }
 {
     let q = root_page(img, flags, top, 0, n);
@@ -56,9 +57,9 @@ pub fn rule7(img: &[u16], total: usize, ends: usize) -> bool
     requires { ⌜ Whole (now img) × (total ≡ pages (now img)) × Rule2 (pages (now img)) (vol (now img)) × Rule5 (pages (now img)) (vol (now img)) × Ends (now img) ends ⌝ }
     ensures { λ r. ⌜ Decides r (Rule7 (pages (now (img .entry))) (vol (now (img .entry)))) ⌝ }
 {
-    let flags = flags_at(img, 0, 1016);
-    let top = page_at(img, 0, 1016) as usize;
-    let mut seen = no_blocks();
+    let flags = flags_at(img, 0, OBJECTS);
+    let top = page_at(img, 0, OBJECTS) as usize;
+    let mut seen = no_marks();
     let mut n: usize = 0;
     while n < ends {
         if !position_ok(img, total, &mut seen, flags, top, n) {

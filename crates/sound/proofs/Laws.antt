@@ -6,7 +6,7 @@ use Prim.Native.Nat.{ℕ, _≤_, _<_}
 use native.Mathlib.Omega.{arith}
 use Rattle.book.specs.Words.{Vol}
 use Rattle.book.specs.Bits.{bit, bitPages}
-use Rattle.book.specs.Pointers.{page}
+use Rattle.book.specs.Pointers.{page, bitPointer}
 use Rattle.book.specs.Gate.{Judged}
 use Rattle.book.specs.declared.Verdict.{Verdict}
 use Rattle.book.specs.declared.Verdict.the-variants.{Sound as Right, Broken}
@@ -14,10 +14,11 @@ use Rattle.book.specs.Entries.{user, object}
 use Rattle.book.specs.Holders.{visits}
 use Rattle.book.specs.Rows.{Lowest}
 use Rattle.book.specs.Rules.{Rule1, Rule2, Rule3, Rule4, Rule5, Rule6, Rule7, Rule8, Rule9, Rule10, Sound, rules}
+use Rattle.book.specs.Image.{mostPages}
 use Rattle.laws.specs.Count.Reach.{Within, rules-within}
 use Rattle.bits.specs.File.{BitsAt}
 use Rattle.bits.proofs.Places.{bits-at}
-use Rattle.walk.specs.Marks.{marked}
+use Rattle.bits.specs.Marks.{marked}
 use Rattle.walk.specs.Held.{HeldOn}
 use Rattle.walk.specs.Short.{Shorts}
 use Rattle.walk.proofs.Short.{rules-short}
@@ -110,10 +111,10 @@ module _ (P : ℕ) (v : Vol) (m : List ℕ) (x : ℕ) (k : HeldOn P v m x) (T : 
   nine-bits r = subst (λ (y : ℕ). (q : ℕ) → q < y → bit y v q ≡ marked m q) (sym t) (rule9-same P v m x k r)
 
 -- where the bit file is
-pub bits-here : (P : ℕ) (v : Vol) (T b : ℕ) → P ≤ 16384 → T ≡ P → Rule1 P v → b ≡ page (v 0) 1020 → BitsAt T v b
+pub bits-here : (P : ℕ) (v : Vol) (T b : ℕ) → P ≤ mostPages → T ≡ P → Rule1 P v → b ≡ page (v 0) bitPointer → BitsAt T v b
 bits-here P v T b h t r e = subst₂ (λ (x y : ℕ). BitsAt x v y) (sym t) (sym e) (bits-at P v h r)
 
 -- rule 1's bit page is a page of the image
-pub bit-below : (P : ℕ) (v : Vol) → 0 < P → Rule1 P v → page (v 0) 1020 < P
+pub bit-below : (P : ℕ) (v : Vol) → 0 < P → Rule1 P v → page (v 0) bitPointer < P
 unfolding bitPages
 bit-below P v h r = omega (arith, r .fits)

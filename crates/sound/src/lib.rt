@@ -18,12 +18,12 @@ fn judge_held(img: &[u16], total: usize, ends: usize) -> Verdict
     requires { ⌜ Whole (now img) × (total ≡ pages (now img)) × Early (pages (now img)) (vol (now img)) × Ends (now img) ends ⌝ }
     ensures { λ r. ⌜ JudgedLate (pages (now (img .entry))) (vol (now (img .entry))) r ⌝ }
 {
-    let mut marks = walk::marks::no_marks();
+    let mut marks = bits::marks::no_marks();
     let w = walk::volume::mark_all(img, &mut marks, total, ends);
     let Walk::On { visited } = w else {
         return Verdict::Broken { rule: 8 };
     };
-    let b = page::read::page_at(img, 0, 1020) as usize;
+    let b = page::read::page_at(img, 0, page::BITS) as usize;
     if !walk::same::same_bits(img, b, &marks, total) {
         return Verdict::Broken { rule: 9 };
     }
@@ -75,7 +75,7 @@ pub fn whole(img: &[u16]) -> bool
     if words / page::WORDS < 8 {
         return false;
     }
-    if 16384 < words / page::WORDS {
+    if page::MOST_PAGES < words / page::WORDS {
         return false;
     }
     true

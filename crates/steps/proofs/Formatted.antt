@@ -1,12 +1,12 @@
 -- Format as the code writes it, with one bit page. Assumes nothing.
 use mathlib.Core.Path.{_≡_, sym, ap, ap₂, _∙_, subst}
 use mathlib.Core.List.{List}
-use Prim.Native.Nat.{ℕ, _-_, _/_, _%_, _≤_, _<_}
+use Prim.Native.Nat.{ℕ, _-_, _/_, _%_, _≤_, _<_, suc}
 use native.Mathlib.Nat.{add-zero}
 use native.Mathlib.Omega.{arith}
 use Rattle.book.specs.Words.{Vol, put2, putWords, wipe}
 use Rattle.book.specs.Written.{put2-hi, put2-lo, put2-word}
-use Rattle.book.specs.Pointers.{page, pointer}
+use Rattle.book.specs.Pointers.{page, pointer, bitPointer, objectPointer, unreservedCount, userPointer, volumeName}
 use Rattle.book.specs.Bits.{bitPages, mark}
 use Rattle.book.specs.Names.{packed}
 use Rattle.book.specs.Image.{mostPages, BitArg}
@@ -34,21 +34,21 @@ module _ (P : ℕ) (most : P ≤ mostPages) (b : ℕ) (A : BitArg P b) where
   module _ (v : Vol) (name : List ℕ) where
     -- the directory entry, field by field
     pub directory-is : (v₁ v₂ v₃ v₄ w : Vol) (rest : ℕ) → rest ≡ P - 2
-        → v₁ ≡ putWords v 0 1008 8 (packed name) → v₂ ≡ put2 v₁ 0 1016 0 → v₃ ≡ put2 v₂ 0 1018 0 → v₄ ≡ put2 v₃ 0 1020 b → w ≡ put2 v₄ 0 1022 rest
+        → v₁ ≡ putWords v 0 volumeName 8 (packed name) → v₂ ≡ put2 v₁ 0 objectPointer 0 → v₃ ≡ put2 v₂ 0 userPointer 0 → v₄ ≡ put2 v₃ 0 bitPointer b → w ≡ put2 v₄ 0 unreservedCount rest
         → w ≡ directory P v name b
     unfolding directory pointer
     directory-is v₁ v₂ v₃ v₄ w rest er e₁ e₂ e₃ e₄ e₅ =
         let r : rest ≡ P - 1 - bitPages P = omega (arith, one-page) in
         let p : b ≡ pointer 0 b = omega arith in
-        e₅ ∙ ap₂ (λ (x : Vol) (y : ℕ). put2 x 0 1022 y)
-        (e₄ ∙ ap₂ (λ (x : Vol) (y : ℕ). put2 x 0 1020 y) (e₃ ∙ ap (λ (x : Vol). put2 x 0 1018 0) (e₂ ∙ ap (λ (x : Vol). put2 x 0 1016 0) e₁)) p) r
+        e₅ ∙ ap₂ (λ (x : Vol) (y : ℕ). put2 x 0 unreservedCount y)
+        (e₄ ∙ ap₂ (λ (x : Vol) (y : ℕ). put2 x 0 bitPointer y) (e₃ ∙ ap (λ (x : Vol). put2 x 0 userPointer 0) (e₂ ∙ ap (λ (x : Vol). put2 x 0 objectPointer 0) e₁)) p) r
 
     -- it names the bit page
     new-bits : BitsAt P (directory P v name b) b
     unfolding directory pointer page
     new-bits =
-        let hi : directory P v name b 0 1020 ≡ b / 65536 = put2-word _ 0 1022 (P - 1 - bitPages P) 0 1020 (omega arith) (omega arith) ∙ put2-hi _ 0 1020 (pointer 0 b) ∙ omega arith in
-        let lo : directory P v name b 0 1021 ≡ b % 65536 = put2-word _ 0 1022 (P - 1 - bitPages P) 0 1021 (omega arith) (omega arith) ∙ put2-lo _ 0 1020 (pointer 0 b) ∙ omega arith in
+        let hi : directory P v name b 0 bitPointer ≡ b / 65536 = put2-word _ 0 unreservedCount (P - 1 - bitPages P) 0 bitPointer (omega arith) (omega arith) ∙ put2-hi _ 0 bitPointer (pointer 0 b) ∙ omega arith in
+        let lo : directory P v name b 0 (suc bitPointer) ≡ b % 65536 = put2-word _ 0 unreservedCount (P - 1 - bitPages P) 0 (suc bitPointer) (omega arith) (omega arith) ∙ put2-lo _ 0 bitPointer (pointer 0 b) ∙ omega arith in
         record { most = most; at = omega (arith, bit-below, hi, lo); some = A .0; below = bit-below }
 
     -- then the bit page, and the two bits in it

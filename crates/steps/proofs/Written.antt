@@ -9,21 +9,22 @@ use Rattle.book.specs.Entries.{user, object, given, unreserved, userPage, objec
 use Rattle.book.specs.Files.{fileAt}
 use Rattle.book.specs.Steps.{moved, giveStep, takeStep, writeStep, openStep}
 use Rattle.book.specs.Delete.{deleteUser}
+use Rattle.book.specs.Pointers.{unreservedCount}
 use Rattle.tree.specs.Reach.{entryIn}
 use Rattle.tree.proofs.Entries.{object-in}
 
 -- ---- counts, of user u whose entry is at word k of page q
 
 module _ (v v₁ v₂ : Vol) (u q k : ℕ) (page : q ≡ userPage v u) (place : k ≡ entryWord u) where
-  pub moved-is : (g s : ℕ) → v₁ ≡ put2 v q (k + 14) g → v₂ ≡ put2 v₁ 0 1022 s → v₂ ≡ moved v u g s
+  pub moved-is : (g s : ℕ) → v₁ ≡ put2 v q (k + 14) g → v₂ ≡ put2 v₁ 0 unreservedCount s → v₂ ≡ moved v u g s
   unfolding moved
-  moved-is g s a b = b ∙ ap (λ (w : Vol). put2 w 0 1022 s) (a ∙ ap₂ (λ (p j : ℕ). put2 v p (j + 14) g) page place)
+  moved-is g s a b = b ∙ ap (λ (w : Vol). put2 w 0 unreservedCount s) (a ∙ ap₂ (λ (p j : ℕ). put2 v p (j + 14) g) page place)
 
-  pub deleted-is : (g s : ℕ) → g ≡ given (user v) u → s ≡ unreserved v → v₁ ≡ putWords v q k 32 zeros → v₂ ≡ put2 v₁ 0 1022 (s + g) → v₂ ≡ deleteUser v u
+  pub deleted-is : (g s : ℕ) → g ≡ given (user v) u → s ≡ unreserved v → v₁ ≡ putWords v q k 32 zeros → v₂ ≡ put2 v₁ 0 unreservedCount (s + g) → v₂ ≡ deleteUser v u
   unfolding deleteUser
   deleted-is g s eg es a b =
-      b ∙ ap₂ (λ (x y : ℕ). put2 v₁ 0 1022 (x + y)) es eg
-      ∙ ap (λ (w : Vol). put2 w 0 1022 (unreserved v + given (user v) u)) (a ∙ ap₂ (λ (p j : ℕ). putWords v p j 32 zeros) page place)
+      b ∙ ap₂ (λ (x y : ℕ). put2 v₁ 0 unreservedCount (x + y)) es eg
+      ∙ ap (λ (w : Vol). put2 w 0 unreservedCount (unreserved v + given (user v) u)) (a ∙ ap₂ (λ (p j : ℕ). putWords v p j 32 zeros) page place)
 
 module _ (v w : Vol) (u n g s : ℕ) (eg : g ≡ given (user v) u) (es : s ≡ unreserved v) where
   pub given-is : w ≡ moved v u (g + n) (s - n) → w ≡ giveStep v u n

@@ -1,37 +1,17 @@
 // A user's given pages and the unreserved count: give and take move pages from one to the other.
+use page::UNRESERVED;
 use page::entry::EntryPlace;
-use page::read::two_at;
+use page::entry::GIVEN;
 use page::write::put_two;
-use tree::entry::entry_two;
+use seek::users::given;
+use seek::users::unreserved;
 use tree::root::user_page;
 ghost use mathlib.Core.Path.{_≡_};
 ghost use Prim.Native.Nat.{_≤_, _<_};
 ghost use Rattle.book.specs.Words.{vol};
-ghost use Rattle.book.specs.Entries.{user, used, given, spare, unreserved as unreservedOf};
-ghost use Rattle.book.specs.Image.{Whole, Ready};
+ghost use Rattle.book.specs.Entries.{user, used, spare, unreserved as unreservedOf};
+ghost use Rattle.book.specs.Image.{Ready};
 ghost use Rattle.book.specs.Steps.{moved, giveStep, takeStep};
-
-// Where unreserved stands in the master page, and a user's given pages in his entry.
-pub(crate) const UNRESERVED: usize = 1022;
-
-const GIVEN: usize = 14;
-
-// The pages that nobody was given.
-pub(crate) fn unreserved(img: &[u16]) -> u32
-    requires { ⌜ Whole (now img) ⌝ }
-    ensures { λ r. ⌜ r ≡ unreservedOf (vol (now (img .entry))) ⌝ }
-{
-    two_at(img, 0, UNRESERVED)
-}
-
-// The pages that user u was given.
-pub(crate) fn given_to(img: &[u16], u: usize) -> u32
-    requires { ⌜ Ready (now img) ⌝ }
-    ensures { λ r. ⌜ r ≡ given (user (vol (now (img .entry)))) u ⌝ }
-{
-    let q = user_page(img, u);
-    entry_two(img, q, u, GIVEN)
-}
 
 // User u's given pages become g, and unreserved s.
 fn move_counts(img: &mut [u16], u: usize, g: u32, s: u32)
@@ -50,7 +30,7 @@ pub fn give_step(img: &mut [u16], u: usize, n: u32)
     requires { ⌜ Ready (now img) × (u < 256) × (0 < used (user (vol (now img)) u)) × (n ≤ unreservedOf (vol (now img))) ⌝ }
     ensures { λ _. ⌜ vol (now (img .exit)) ≡ giveStep (vol (now (img .entry))) u n ⌝ }
 {
-    let g = given_to(img, u);
+    let g = given(img, u);
     let s = unreserved(img);
     move_counts(img, u, g + n, s - n);
 }
@@ -60,7 +40,7 @@ pub fn take_step(img: &mut [u16], u: usize, n: u32)
     requires { ⌜ Ready (now img) × (u < 256) × (0 < used (user (vol (now img)) u)) × (n ≤ spare (vol (now img)) u) ⌝ }
     ensures { λ _. ⌜ vol (now (img .exit)) ≡ takeStep (vol (now (img .entry))) u n ⌝ }
 {
-    let g = given_to(img, u);
+    let g = given(img, u);
     let s = unreserved(img);
     move_counts(img, u, g - n, s + n);
 }

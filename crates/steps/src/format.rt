@@ -1,5 +1,9 @@
 // Format: the directory entry and the one bit page are written. The image need not be sound.
-use crate::counts::UNRESERVED;
+use page::BITS;
+use page::OBJECTS;
+use page::UNRESERVED;
+use page::USERS;
+use page::VOLUME;
 use page::WORDS;
 use page::names::put_text;
 use page::write::put_two;
@@ -8,21 +12,12 @@ ghost use mathlib.Core.Path.{_≡_};
 ghost use Prim.Native.Nat.{_-_, _≤_};
 ghost use Rattle.book.specs.Words.{vol};
 ghost use Rattle.book.specs.Names.{NameText};
-ghost use Rattle.book.specs.Image.{pages, Whole, BitArg};
+ghost use Rattle.book.specs.Image.{pages, mostPages, Whole, BitArg};
 ghost use Rattle.book.specs.Format.{directory, format};
-
-// Where the volume's name and pointers stand in the master page.
-const NAME: usize = 1008;
-
-const OBJECTS: usize = 1016;
-
-const USERS: usize = 1018;
-
-const BITS: usize = 1020;
 
 // All pages but the master page and the bit page.
 fn rest_of(pages: usize) -> u32
-    requires { ⌜ (2 ≤ pages) × (pages ≤ 16384) ⌝ }
+    requires { ⌜ (2 ≤ pages) × (pages ≤ mostPages) ⌝ }
     ensures { λ r. ⌜ r ≡ pages - 2 ⌝ }
 {
     (pages - 2) as u32
@@ -34,7 +29,7 @@ fn put_directory(img: &mut [u16], name: &[u8], b: usize)
     ensures { λ _. ⌜ vol (now (img .exit)) ≡ directory (pages (now (img .entry))) (vol (now (img .entry))) (now (name .entry)) b ⌝ }
 {
     let rest = rest_of(img.len() / WORDS);
-    put_text(img, 0, NAME, 8, name);
+    put_text(img, 0, VOLUME, 8, name);
     put_two(img, 0, OBJECTS, 0);
     put_two(img, 0, USERS, 0);
     put_two(img, 0, BITS, b as u32);

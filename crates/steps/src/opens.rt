@@ -1,5 +1,6 @@
 // Noting an open: total opens is one word, and after 65,535 comes 0.
 use page::entry::EntryPlace;
+use page::entry::OPENS;
 use page::write::put_word;
 use std::num::wrapping_add_u16;
 use tree::entry::entry_word;
@@ -10,9 +11,6 @@ ghost use Rattle.book.specs.Words.{vol};
 ghost use Rattle.book.specs.Entries.{object, used};
 ghost use Rattle.book.specs.Image.{Ready};
 ghost use Rattle.book.specs.Steps.{openStep};
-
-// Where total opens stands in a file's entry.
-const OPENS: usize = 19;
 
 // Total opens of object entry e grows by one.
 pub fn open_step(img: &mut [u16], e: usize)

@@ -6,7 +6,7 @@ use native.Mathlib.Decide.{decLt}
 use native.Mathlib.Omega.{arith}
 use Rattle.book.specs.Words.{Words, Vol, vol}
 use Rattle.book.specs.Pointers.{slot}
-use Rattle.book.specs.Entries.{object, objectFile, objectPage, used}
+use Rattle.book.specs.Entries.{object, objectFile, objectPage, used, objectPages}
 use Rattle.book.specs.Trees.{Root, rootBy, pageAt}
 use Rattle.laws.specs.Tree.Positions.{root-one, root-one-past, root-two, root-run-past, root-bad}
 use Rattle.page.proofs.Slots.{slot-absent}
@@ -50,7 +50,7 @@ module _ (img : List ℕ) (x t n : ℕ) (e : objectFile (vol img) ≡ rootBy x t
   abbrev v : Vol
   v = vol img
 
-  by-root : n ≤ 2048 → ((k : ℕ) → n ≤ k → k < 2048 → pageAt v (rootBy x t 0) k ≡ 0) → Ends img n
+  by-root : n ≤ objectPages → ((k : ℕ) → n ≤ k → k < objectPages → pageAt v (rootBy x t 0) k ≡ 0) → Ends img n
   by-root h f = record { most = h; none = λ k l j. ap (λ (r : Root). pageAt v r k) e ∙ f k l j }
 
   pub ends-one : x ≡ 1 → SlotsEnd v t n → Ends img n

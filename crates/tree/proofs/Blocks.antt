@@ -12,10 +12,11 @@ use lib.ListN.{length, getD, take, drop, length-drop}
 use lib.Seq.{length-take-le, getD-take, getD-drop}
 use Rattle.book.specs.Decides.{Decides}
 use Rattle.book.specs.Pointers.{slot}
-use Rattle.book.specs.Words.{vol, two}
+use Rattle.book.specs.Words.{vol, two, zeros}
+use Rattle.page.specs.Parts.{Begins}
 use Rattle.page.proofs.Deciding.{decides-iff}
 use Rattle.page.proofs.Slots.{slot-two}
-use Rattle.tree.specs.Blocks.{Blank, Either, pointerIn, Wrong, Unlinked, End}
+use Rattle.tree.specs.Blocks.{Either, pointerIn, Wrong, Unlinked, End}
 
 pub either-is : (a b : ℕ) → Either a b (bitOr a b)
 either-is a b = record {
@@ -64,14 +65,14 @@ module _ (block : List ℕ) (n z : ℕ) (room : 2 * z ≤ length block) (order :
   row-length : length row ≡ 2 * z - 2 * n
   row-length = length-take-le (2 * z - 2 * n) (drop (2 * n) block) (omega (arith, length-drop (2 * n) block))
 
-  row-blank : Blank row (length row) → Unlinked block n z
+  row-blank : Begins (length row) row zeros → Unlinked block n z
   row-blank b i h l =
       let m = row-length in
       pointer-zero block i
       (sym (row-at (2 * i - 2 * n) (2 * i) (omega arith) (omega arith)) ∙ b (2 * i - 2 * n) (omega arith))
       (sym (row-at (2 * i + 1 - 2 * n) (suc (2 * i)) (omega arith) (omega arith)) ∙ b (2 * i + 1 - 2 * n) (omega arith))
 
-  blank-row : Unlinked block n z → Blank row (length row)
+  blank-row : Unlinked block n z → Begins (length row) row zeros
   blank-row u j h =
       let m = row-length in
       row-at j (2 * n + j) (omega arith) (omega arith) ∙ word-of (2 * n + j) (omega arith) (omega arith)
@@ -82,7 +83,7 @@ module _ (block : List ℕ) (n z : ℕ) (room : 2 * z ≤ length block) (order :
         | no i ↦ ap (λ (m : ℕ). getD block m 0) (let e : k ≡ 2 * (k / 2) = omega arith in e) ∙ p .0
       ]
 
-  pub decides-row : (r : Bool) → Decides r (Blank row (length row)) → Decides r (Unlinked block n z)
+  pub decides-row : (r : Bool) → Decides r (Begins (length row) row zeros) → Decides r (Unlinked block n z)
   decides-row r = decides-iff r _ _ row-blank blank-row
 
 -- ---- the end of a block

@@ -4,9 +4,9 @@ use mathlib.Core.List.{List}
 use Prim.Native.Nat.{ℕ, _+_, _<_}
 use native.Mathlib.Omega.{arith}
 use Rattle.book.specs.Words.{Vol, vol}
-use Rattle.book.specs.Pointers.{flags, page}
+use Rattle.book.specs.Pointers.{flags, page, userPointer, objectPointer}
 use Rattle.book.specs.Trees.{Root, run, rootAt, rootBy, pageAt}
-use Rattle.book.specs.Entries.{objectFile}
+use Rattle.book.specs.Entries.{userFile, objectFile}
 use Rattle.book.specs.Image.{pages}
 use Rattle.laws.specs.Frame.Roots.{pageAt-below, upto-out}
 use Rattle.tree.specs.Reach.{Reach}
@@ -35,7 +35,11 @@ root-read w k n x t m a b c = sym (ap₂ (λ (y z : ℕ). rootBy y z m) a b ∙ 
 pub page-read : (v : Vol) (r s : Root) (m n x : ℕ) → r ≡ s → m ≡ n → x ≡ pageAt v s m → x ≡ pageAt v r n
 page-read v r s m n x e d h = h ∙ ap₂ (pageAt v) (sym e) d
 
--- the object file, from the flags x and the page t of its pointer
-pub object-root : (v : Vol) (x t : ℕ) → x ≡ flags (v 0) 1016 → t ≡ page (v 0) 1016 → objectFile v ≡ rootBy x t 0
+-- the user file and the object file, from the flags x and the page t of their pointers
+pub user-root : (v : Vol) (x t : ℕ) → x ≡ flags (v 0) userPointer → t ≡ page (v 0) userPointer → userFile v ≡ rootBy x t 0
+unfolding userFile
+user-root v x t a b = root-read (v 0) userPointer 0 x t 0 a b refl
+
+pub object-root : (v : Vol) (x t : ℕ) → x ≡ flags (v 0) objectPointer → t ≡ page (v 0) objectPointer → objectFile v ≡ rootBy x t 0
 unfolding objectFile
-object-root v x t a b = root-read (v 0) 1016 0 x t 0 a b refl
+object-root v x t a b = root-read (v 0) objectPointer 0 x t 0 a b refl

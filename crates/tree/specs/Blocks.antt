@@ -1,13 +1,9 @@
 -- A block of 512 pointers as a part of 1,024 words. Assumes nothing.
 use mathlib.Core.Path.{_≡_}
 use mathlib.Core.List.{List}
-use Prim.Native.Nat.{ℕ, _*_, _≤_, _<_}
+use Prim.Native.Nat.{ℕ, _-_, _*_, _^_, _≤_, _<_, min}
 use lib.ListN.{getD}
 use Rattle.book.specs.Words.{two}
-
--- the first n words are zero
-abbrev pub Blank : List ℕ → ℕ → Type 0
-Blank part n = (i : ℕ) → i < n → getD part i 0 ≡ 0
 
 -- a word that is zero exactly where both are
 pub record Either (a b r : ℕ) : Type 0 where
@@ -31,6 +27,10 @@ pub record Wrong (p least P r : ℕ) : Type 0 where
 -- pointers n to z - 1 are zero
 abbrev pub Unlinked : List ℕ → ℕ → ℕ → Type 0
 Unlinked block n z = (i : ℕ) → i < z → n ≤ i → pointerIn block i ≡ 0
+
+-- of n positions under a block, those under its slot k, a pointer of level l
+abbrev pub share : ℕ → ℕ → ℕ → ℕ
+share l n k = min (n - k * 512 ^ l) (512 ^ l)
 
 -- pointers from n on are zero
 pub record End (block : List ℕ) (n : ℕ) : Type 0 where

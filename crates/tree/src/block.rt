@@ -5,7 +5,9 @@ ghost use mathlib.Core.Path.{_≡_};
 ghost use Prim.Native.Nat.{_+_, _*_, _≤_, _<_};
 ghost use lib.ListN.{length};
 ghost use Rattle.book.specs.Decides.{Decides};
-ghost use Rattle.tree.specs.Blocks.{Blank, Linked, Unlinked, Either, Wrong, End};
+ghost use Rattle.book.specs.Words.{zeros};
+ghost use Rattle.page.specs.Parts.{Begins};
+ghost use Rattle.tree.specs.Blocks.{Linked, Unlinked, Either, Wrong, End};
 
 // A word that is zero exactly where both words are.
 fn either(a: u16, b: u16) -> u16
@@ -16,7 +18,7 @@ fn either(a: u16, b: u16) -> u16
 
 // Whether all words of a part are zero.
 fn blank(part: &[u16]) -> bool
-    ensures { λ r. ⌜ Decides r (Blank (now (part .entry)) (length (now (part .entry)))) ⌝ }
+    ensures { λ r. ⌜ Decides r (Begins (length (now (part .entry))) (now (part .entry)) zeros) ⌝ }
 {
     let mut any: u16 = 0;
     let mut i: usize = 0;

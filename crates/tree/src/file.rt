@@ -5,6 +5,8 @@ use crate::entry::entry_two;
 use crate::entry::entry_used;
 use crate::root::object_page;
 use crate::root::root_page;
+use page::entry::PAGES;
+use page::entry::POINTER;
 ghost use mathlib.Core.Path.{_≡_};
 ghost use Prim.Native.Nat.{_<_};
 ghost use Rattle.book.specs.Words.{vol};
@@ -23,8 +25,8 @@ pub fn file_page(img: &[u16], e: usize, n: usize) -> usize
     if !entry_used(img, q, e) {
         return 0;
     }
-    let flags = entry_flags(img, q, e, 30);
-    let top = entry_page(img, q, e, 30);
-    let count = entry_two(img, q, e, 26) as usize;
+    let flags = entry_flags(img, q, e, POINTER);
+    let top = entry_page(img, q, e, POINTER);
+    let count = entry_two(img, q, e, PAGES) as usize;
     root_page(img, flags, top, count, n)
 }

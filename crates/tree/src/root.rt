@@ -1,6 +1,8 @@
 // The page at a position: of any root, of the user file, of the object file.
 use crate::ends::slots_end;
 use crate::ends::tree_end;
+use page::OBJECTS;
+use page::USERS;
 use page::entry::EntryPlace;
 ghost use mathlib.Core.Path.{_≡_};
 ghost use Prim.Native.Nat.{_<_};
@@ -43,8 +45,8 @@ pub fn user_page(img: &[u16], u: usize) -> usize
     requires { ⌜ Reach (now img) (userFile (vol (now img))) ⌝ }
     ensures { λ r. ⌜ (r ≡ userPage (vol (now (img .entry))) u) × (r < pages (now (img .entry))) ⌝ }
 {
-    let flags = page::read::flags_at(img, 0, 1018);
-    let top = page::read::page_at(img, 0, 1018) as usize;
+    let flags = page::read::flags_at(img, 0, USERS);
+    let top = page::read::page_at(img, 0, USERS) as usize;
     let place = EntryPlace::of(u);
     let n = place.page;
     root_page(img, flags, top, 0, n)
@@ -55,8 +57,8 @@ pub fn object_page(img: &[u16], e: usize) -> usize
     requires { ⌜ Reach (now img) (objectFile (vol (now img))) ⌝ }
     ensures { λ r. ⌜ (r ≡ objectPage (vol (now (img .entry))) e) × (r < pages (now (img .entry))) ⌝ }
 {
-    let flags = page::read::flags_at(img, 0, 1016);
-    let top = page::read::page_at(img, 0, 1016) as usize;
+    let flags = page::read::flags_at(img, 0, OBJECTS);
+    let top = page::read::page_at(img, 0, OBJECTS) as usize;
     let place = EntryPlace::of(e);
     let n = place.page;
     root_page(img, flags, top, 0, n)
@@ -67,8 +69,8 @@ pub fn object_ends(img: &[u16]) -> usize
     requires { ⌜ Reach (now img) (objectFile (vol (now img))) ⌝ }
     ensures { λ r. ⌜ Ends (now (img .entry)) r ⌝ }
 {
-    let flags = page::read::flags_at(img, 0, 1016);
-    let top = page::read::page_at(img, 0, 1016) as usize;
+    let flags = page::read::flags_at(img, 0, OBJECTS);
+    let top = page::read::page_at(img, 0, OBJECTS) as usize;
     if flags == 1 {
         return slots_end(img, top);
     }

@@ -7,7 +7,7 @@ use Rattle.sums.specs.Sum.{sum, sum-none, sum-zero}
 use Rattle.book.specs.Words.{Words, Vol, vol, two}
 use Rattle.book.specs.Pointers.{flags, page}
 use Rattle.book.specs.Trees.{Root, run, rootBy, pageAt, weighR}
-use Rattle.book.specs.Entries.{object, objectFile, objectPage, used, pageCount}
+use Rattle.book.specs.Entries.{object, objectFile, objectPage, used, pageCount, objectPages}
 use Rattle.book.specs.Files.{fileAt}
 use Rattle.book.specs.Holders.{hit, some, mine}
 use Rattle.book.specs.Image.{pages}
@@ -71,25 +71,25 @@ abbrev pub positionsOf : List ℕ → ℕ → Weigher
 positionsOf img = λ n. rowOf (filesOf img n) 32
 
 module _ (img : List ℕ) (F : FilesFit img) where
-  files-counts : (n i : ℕ) → n < 2048 → i ≤ 32 → Counts (pages img) (rowOf (filesOf img n) i)
+  files-counts : (n i : ℕ) → n < objectPages → i ≤ 32 → Counts (pages img) (rowOf (filesOf img n) i)
   files-counts n i h l =
       row-counts (pages img) (filesOf img n) i (λ j lt. root-counts (vol img) (pages img) (fileAt (vol img) (32 * n + j)) (F .below (32 * n + j) (omega arith)))
 
-  pub files-walking : (n i : ℕ) → n < 2048 → i ≤ 32 → (m : List ℕ) (v : ℕ) (m′ : List ℕ) (x : ℕ) → Walking img m v → WalkedOn (pages img) m v (rowOf (filesOf img n) i) m′ x → Walking img m′ x
+  pub files-walking : (n i : ℕ) → n < objectPages → i ≤ 32 → (m : List ℕ) (v : ℕ) (m′ : List ℕ) (x : ℕ) → Walking img m v → WalkedOn (pages img) m v (rowOf (filesOf img n) i) m′ x → Walking img m′ x
   files-walking n i h l m v m′ x w k = walking-on img m v (rowOf (filesOf img n) i) m′ x w (files-counts n i h l) k
 
-  pub positions-walking : (n : ℕ) → n ≤ 2048 → (m : List ℕ) (v : ℕ) (m′ : List ℕ) (x : ℕ) → Walking img m v → WalkedOn (pages img) m v (rowOf (positionsOf img) n) m′ x → Walking img m′ x
+  pub positions-walking : (n : ℕ) → n ≤ objectPages → (m : List ℕ) (v : ℕ) (m′ : List ℕ) (x : ℕ) → Walking img m v → WalkedOn (pages img) m v (rowOf (positionsOf img) n) m′ x → Walking img m′ x
   positions-walking n h m v m′ x w k =
       walking-on img m v (rowOf (positionsOf img) n) m′ x w (row-counts (pages img) (positionsOf img) n (λ i lt. files-counts i 32 (omega arith) (omega arith))) k
 
 -- 2,048 positions of 32 files are 256 users of 256 files
-pub regroup : (img : List ℕ) (g : ℕ → ℕ) → rowOf (positionsOf img) 2048 g ≡ sum 256 (λ u. mine (vol img) u g)
+pub regroup : (img : List ℕ) (g : ℕ → ℕ) → rowOf (positionsOf img) objectPages g ≡ sum 256 (λ u. mine (vol img) u g)
 unfolding mine
-regroup img g = let f : ℕ → ℕ = λ e. weighR (vol img) (fileAt (vol img) e) g in sum-rows 32 2048 f ∙ sym (sum-rows 256 256 f)
+regroup img g = let f : ℕ → ℕ = λ e. weighR (vol img) (fileAt (vol img) e) g in sum-rows 32 objectPages f ∙ sym (sum-rows 256 256 f)
 
 -- those from the object file's end on have no pages
 pub walked-files : (P : ℕ) (m : List ℕ) (v : ℕ) (img : List ℕ) (ends : ℕ) → Ends img ends → (m′ : List ℕ) (r : Walk)
     → Walked P m v (rowOf (positionsOf img) ends) m′ r → Walked P m v (λ g. sum 256 (λ u. mine (vol img) u g)) m′ r
 walked-files P m v img ends d m′ r k =
-    walked-same P m v (rowOf (positionsOf img) 2048) (λ g. sum 256 (λ u. mine (vol img) u g)) (regroup img) m′ r
-    (row-past P m v (positionsOf img) ends 2048 (d .most) (λ i a b g z. absent-files (vol img) i _ refl (d .none i a b) g) m′ r k)
+    walked-same P m v (rowOf (positionsOf img) objectPages) (λ g. sum 256 (λ u. mine (vol img) u g)) (regroup img) m′ r
+    (row-past P m v (positionsOf img) ends objectPages (d .most) (λ i a b g z. absent-files (vol img) i _ refl (d .none i a b) g) m′ r k)

@@ -6,7 +6,7 @@ use Prim.Native.Nat.{ℕ, _+_, _*_, _/_, _%_, _≤_}
 use native.Mathlib.Omega.{arith}
 use Rattle.sums.specs.Sum.{sum, is, is-same, is-sym}
 use Rattle.book.specs.Words.{Vol, vol}
-use Rattle.book.specs.Pointers.{flags, page}
+use Rattle.book.specs.Pointers.{flags, page, bitPointer, userPointer}
 use Rattle.book.specs.Trees.{Root, run, rootBy, weighR}
 use Rattle.book.specs.Bits.{bitPages, bitFile}
 use Rattle.book.specs.Entries.{userFile, objectFile}
@@ -16,20 +16,19 @@ use Rattle.book.specs.Image.{pages}
 use Rattle.laws.specs.Count.Good.{sys-count}
 use Rattle.laws.specs.Tree.Weigh.{BelowR}
 use Rattle.tree.specs.Reach.{Reach}
-use Rattle.tree.proofs.Reach.{root-read}
 use Rattle.walk.specs.declared.Walk.{Walk}
 use Rattle.walk.specs.declared.Walk.the-variants.{On, Met}
-use Rattle.walk.specs.Marks.{marked, Unmarked, Newly, Marking}
+use Rattle.bits.specs.Marks.{marked, Unmarked, Newly, Marking}
 use Rattle.walk.specs.Walked.{Walking, Walked}
 use Rattle.walk.specs.Files.{FilesFit}
 use Rattle.walk.specs.Held.{Held, Volume}
-use Rattle.walk.proofs.Marked.{marks-more}
+use Rattle.bits.proofs.Marked.{marks-more}
 use Rattle.walk.proofs.Walks.{Counts, rowOf, walked-same}
 use Rattle.walk.proofs.Runs.{runOf, root-counts}
 
 -- ---- the bit file, as code reads it
 
-module _ (P : ℕ) (v : Vol) (s n : ℕ) (es : s ≡ page (v 0) 1020) (en : n ≡ bitPages P) where
+module _ (P : ℕ) (v : Vol) (s n : ℕ) (es : s ≡ page (v 0) bitPointer) (en : n ≡ bitPages P) where
   root : bitFile P v ≡ run s n
   unfolding bitFile
   root = sym (ap₂ run es en)
@@ -43,10 +42,6 @@ module _ (P : ℕ) (v : Vol) (s n : ℕ) (es : s ≡ page (v 0) 1020) (en : n �
   walked-bits m x m′ r k = walked-same P m x (rowOf (runOf s) n) (weighR v (bitFile P v)) (λ g. ap (λ (y : Root). weighR v y g) (sym root)) m′ r k
 
 -- ---- the user file and the object file
-
-pub user-root : (v : Vol) (x t : ℕ) → x ≡ flags (v 0) 1018 → t ≡ page (v 0) 1018 → userFile v ≡ rootBy x t 0
-unfolding userFile
-user-root v x t a b = root-read (v 0) 1018 0 x t 0 a b refl
 
 pub below-same : (v : Vol) (P : ℕ) (r s : Root) → r ≡ s → BelowR v P r → BelowR v P s
 below-same v P r s e b = subst (λ (x : Root). BelowR v P x) e b

@@ -14,9 +14,9 @@ use Rattle.laws.specs.Count.Pages.{visits-all}
 use Rattle.laws.specs.Count.Reach.{Within}
 use Rattle.walk.specs.declared.Walk.{Walk}
 use Rattle.walk.specs.declared.Walk.the-variants.{On, Met}
-use Rattle.walk.specs.Marks.{marked}
+use Rattle.bits.specs.Marks.{marked}
 use Rattle.walk.specs.Held.{HeldOn, Held}
-use Rattle.walk.proofs.Marked.{marked-le}
+use Rattle.bits.proofs.Marked.{marked-le}
 
 -- after a look at the answer
 module _ (P : ℕ) (v : Vol) (m : List ℕ) (r : Walk) (k : Held P v m r) where

@@ -1,6 +1,5 @@
 -- Laws that proofs of this crate and of its users cite.
 pub mod Lows
-pub mod Marked
 pub mod Walks
 pub mod Short
 pub mod Pointers

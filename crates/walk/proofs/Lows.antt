@@ -15,7 +15,8 @@ use Rattle.page.proofs.Deciding.{decides-iff}
 use Rattle.bits.specs.File.{BitsAt}
 use Rattle.bits.proofs.Digits.{digit-is}
 use Rattle.bits.proofs.Places.{bit-at}
-use Rattle.walk.specs.Marks.{marked}
+use Rattle.bits.specs.Marks.{marked}
+use Rattle.tree.proofs.Blocks.{partOf}
 
 digit-low : (r j a : ℕ) → j < r → digit j (a % 2 ^ r) ≡ digit j a
 digit-low r j a lt =
@@ -58,7 +59,7 @@ module _ (a b : List ℕ) (i r : ℕ) (le : r ≤ 16) where
 
 -- ---- the bit page's part
 
-module _ (img : List ℕ) (b P : ℕ) (f : BitsAt P (vol img) b) (xs : List ℕ) (is-part : xs ≡ take (1024 * b + 1024 - 1024 * b) (drop (1024 * b) img)) where
+module _ (img : List ℕ) (b P : ℕ) (f : BitsAt P (vol img) b) (xs : List ℕ) (is-part : xs ≡ partOf img b) where
   bit-part : (p : ℕ) → p < P → bit P (vol img) p ≡ marked xs p
   unfolding marked vol
   bit-part p h =

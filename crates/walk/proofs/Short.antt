@@ -7,16 +7,17 @@ use native.Mathlib.Nat.{eq-zero-or-pos}
 use native.Mathlib.Decide.{decLt, ℕ-discrete}
 use native.Mathlib.Omega.{arith}
 use Rattle.book.specs.Words.{Vol, vol}
-use Rattle.book.specs.Pointers.{page, slot, Inside}
+use Rattle.book.specs.Pointers.{page, slot, Inside, objectPointer, userPointer}
 use Rattle.book.specs.Trees.{Root, tree, run, rootAt, rootBy, pageAt, Fill}
-use Rattle.book.specs.Entries.{object, used, pageCount, userFile, objectFile}
+use Rattle.book.specs.Entries.{object, used, pageCount, userFile, objectFile, objectPages}
 use Rattle.book.specs.Files.{Shape, FileShape, fileAt}
 use Rattle.book.specs.Rules.{Rule2, Rule3, Rule5, Rule5By, Rule7}
 use Rattle.laws.specs.Tree.Pointer.{root-0, root-1, root-2, zero-flags, file-unused, file-used}
 use Rattle.laws.specs.Tree.Positions.{root-one}
 use Rattle.laws.specs.Tree.Slot.{slot-zero}
 use Rattle.tree.specs.Ends.{Ends}
-use Rattle.walk.specs.Short.{Short, ShortR, Shorts, share}
+use Rattle.tree.specs.Blocks.{share}
+use Rattle.walk.specs.Short.{Short, ShortR, Shorts}
 
 pub short-same : (v : Vol) (r s : Root) (n : ℕ) → r ≡ s → ShortR v r n → ShortR v s n
 short-same v r s n e d = subst (λ (x : Root). ShortR v x n) e d
@@ -65,11 +66,11 @@ module _ (P : ℕ) (v : Vol) where
   -- the user file has 8
   pub short-users : Rule2 P v → Rule3 P v → ShortR v (userFile v) 8
   unfolding Rule2 Rule3 userFile Inside Short
-  short-users (inl z) r = short-run v _ _ _ 8 (root-0 (v 0) 1018 0 (zero-flags (v 0) 1018 (z .0)))
-  short-users (inr i) r = short-tree v _ 1 _ 8 (root-1 (v 0) 1018 0 (i .0 .0)) (λ k h. ((λ past. r k h .1 (omega (arith, past))), tt))
+  short-users (inl z) r = short-run v _ _ _ 8 (root-0 (v 0) userPointer 0 (zero-flags (v 0) userPointer (z .0)))
+  short-users (inr i) r = short-tree v _ 1 _ 8 (root-1 (v 0) userPointer 0 (i .0 .0)) (λ k h. ((λ past. r k h .1 (omega (arith, past))), tt))
 
   -- the object file has 2,048
-  four : (t : ℕ) → ((i : ℕ) → 4 ≤ i → i < 512 → slot v t i ≡ 0) → Short v 2 t 2048
+  four : (t : ℕ) → ((i : ℕ) → 4 ≤ i → i < 512 → slot v t i ≡ 0) → Short v 2 t objectPages
   unfolding Short
   four t z = λ k i. (
     (λ past. z k (omega (arith, past)) i),
@@ -82,14 +83,14 @@ module _ (P : ℕ) (v : Vol) where
     ),
   )
 
-  pub short-objects : Rule2 P v → Rule5 P v → ShortR v (objectFile v) 2048
+  pub short-objects : Rule2 P v → Rule5 P v → ShortR v (objectFile v) objectPages
   unfolding Rule2 Rule5 Rule5By objectFile Inside Short
-  short-objects (inl z) r = short-run v _ _ _ 2048 (root-0 (v 0) 1016 0 (zero-flags (v 0) 1016 (z .1)))
+  short-objects (inl z) r = short-run v _ _ _ objectPages (root-0 (v 0) objectPointer 0 (zero-flags (v 0) objectPointer (z .1)))
   short-objects (inr i) r = go (i .1)
     where
-      go : (Inside P (v 0) 1016 1 ⊎ Inside P (v 0) 1016 2) → ShortR v (rootAt (v 0) 1016 0) 2048
-      go (inl a) = short-tree v _ 1 _ 2048 (root-1 (v 0) 1016 0 (a .0)) (λ k h. ((λ past. absurd (let no : ⊥ = omega (arith, past, h) in no)), tt))
-      go (inr a) = short-tree v _ 2 _ 2048 (root-2 (v 0) 1016 0 (a .0)) (four _ ((subst (λ (x : ℕ). Rule5By P v x (page (v 0) 1016)) (a .0) r) .1))
+      go : (Inside P (v 0) objectPointer 1 ⊎ Inside P (v 0) objectPointer 2) → ShortR v (rootAt (v 0) objectPointer 0) objectPages
+      go (inl a) = short-tree v _ 1 _ objectPages (root-1 (v 0) objectPointer 0 (a .0)) (λ k h. ((λ past. absurd (let no : ⊥ = omega (arith, past, h) in no)), tt))
+      go (inr a) = short-tree v _ 2 _ objectPages (root-2 (v 0) objectPointer 0 (a .0)) (four _ ((subst (λ (x : ℕ). Rule5By P v x (page (v 0) objectPointer)) (a .0) r) .1))
 
   -- all of them together
   pub rules-short : Rule2 P v → Rule3 P v → Rule5 P v → Rule7 P v → Shorts v
@@ -101,7 +102,7 @@ module _ (img : List ℕ) (x t ends : ℕ) (e : objectFile (vol img) ≡ rootBy 
   unfolding Short
   one q = λ k h. ((λ past. sym (root-one (vol img) x t 0 k q h) ∙ ap (λ (r : Root). pageAt (vol img) r k) (sym e) ∙ d .none k (omega (arith, past)) (omega arith)), tt)
 
-  pub objects-short : ShortR (vol img) (objectFile (vol img)) 2048 → (n : ℕ) → (x ≡ 1 → n ≡ ends) → ((x ≡ 1 → ⊥) → n ≡ 2048) → ShortR (vol img) (rootBy x t 0) n
+  pub objects-short : ShortR (vol img) (objectFile (vol img)) objectPages → (n : ℕ) → (x ≡ 1 → n ≡ ends) → ((x ≡ 1 → ⊥) → n ≡ objectPages) → ShortR (vol img) (rootBy x t 0) n
   unfolding rootBy
   objects-short s n a b = elim (ℕ-discrete x 1) [
     | yes q ↦ short-tree (vol img) (rootBy x t 0) 1 t n (ap (λ (y : ℕ). rootBy y t 0) q) (subst (Short (vol img) 1 t) (sym (a q)) (one q))

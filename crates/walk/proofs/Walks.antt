@@ -12,8 +12,8 @@ use Rattle.book.specs.Image.{pages}
 use Rattle.laws.specs.Tree.Slot.{hit-zero, some-zero}
 use Rattle.walk.specs.declared.Walk.{Walk}
 use Rattle.walk.specs.declared.Walk.the-variants.{On, Met}
-use Rattle.walk.specs.Marks.{marked}
-use Rattle.walk.proofs.Marked.{marked-le}
+use Rattle.bits.specs.Marks.{marked}
+use Rattle.bits.proofs.Marked.{marked-le}
 use Rattle.walk.specs.Walked.{Weigher, Walking, WalkedOn, Walked}
 
 -- W counts each page below P as often as it weighs it

@@ -9,7 +9,7 @@ use Rattle.book.specs.Image.{Whole, pages}
 use Rattle.laws.specs.Count.Reach.{Within}
 use Rattle.walk.specs.declared.Walk.{Walk}
 use Rattle.walk.specs.declared.Walk.the-variants.{On, Met}
-use Rattle.walk.specs.Marks.{marked}
+use Rattle.bits.specs.Marks.{marked}
 use Rattle.walk.specs.Short.{Shorts}
 
 -- whole pages, all trees among them and none longer than it may be: rules 1, 2, 3, 5 and 7 say so

@@ -1,4 +1,3 @@
-pub mod Marks
 pub mod Walked
 pub mod Short
 pub mod Files

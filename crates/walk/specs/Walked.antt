@@ -2,15 +2,14 @@
 -- Assumes nothing.
 use mathlib.Core.Path.{_≡_}
 use mathlib.Core.List.{List}
-use Prim.Native.Nat.{ℕ, _+_, _*_, _≤_, _<_}
-use lib.ListN.{length, getD}
+use Prim.Native.Nat.{ℕ, _+_, _≤_, _<_}
+use lib.ListN.{length}
 use Rattle.sums.specs.Sum.{sum}
-use Rattle.book.specs.Words.{two}
 use Rattle.book.specs.Holders.{hit, some}
 use Rattle.book.specs.Image.{pages, mostPages}
 use Rattle.walk.specs.declared.Walk.{Walk}
 use Rattle.walk.specs.declared.Walk.the-variants.{On, Met}
-use Rattle.walk.specs.Marks.{marked}
+use Rattle.bits.specs.Marks.{marked}
 
 abbrev pub Weigher : Type 0
 Weigher = (ℕ → ℕ) → ℕ
@@ -33,7 +32,3 @@ pub record WalkedOn (P : ℕ) (m : List ℕ) (v : ℕ) (W : Weigher) (m′ : Lis
 abbrev pub Walked : ℕ → List ℕ → ℕ → Weigher → List ℕ → Walk → Type 0
 Walked P m v W m′ (On x) = WalkedOn P m v W m′ x
 Walked P m v W m′ Met = (p : ℕ) × (p < P) × (2 ≤ marked m p + W (hit p))
-
--- pointer n of a block that was handed over as a part
-unfoldable pub slotOf : List ℕ → ℕ → ℕ
-slotOf block n = two (λ k. getD block k 0) (2 * n)

@@ -1,6 +1,9 @@
 // The pages of all files: each used entry of each object page that is there.
 use crate::Walk;
 use crate::roots::mark_root;
+use page::OBJECTS;
+use page::entry::PAGES;
+use page::entry::POINTER;
 use page::read::flags_at;
 use page::read::page_at;
 use tree::entry::entry_flags;
@@ -13,7 +16,7 @@ ghost use Prim.Native.Nat.{_+_, _*_, _<_};
 ghost use Rattle.sums.specs.Sum.{sum};
 ghost use Rattle.book.specs.Words.{vol};
 ghost use Rattle.book.specs.Trees.{rootBy, pageAt, weighR};
-ghost use Rattle.book.specs.Entries.{objectFile, objectPage};
+ghost use Rattle.book.specs.Entries.{objectFile, objectPage, objectPages};
 ghost use Rattle.book.specs.Files.{fileAt};
 ghost use Rattle.book.specs.Holders.{mine};
 ghost use Rattle.book.specs.Image.{pages};
@@ -30,15 +33,15 @@ fn mark_entry(img: &[u16], marks: &mut [u16; 1024], q: usize, e: usize, visited:
     if !entry_used(img, q, e) {
         return Walk::On { visited };
     }
-    let flags = entry_flags(img, q, e, 30);
-    let top = entry_page(img, q, e, 30);
-    let count = entry_two(img, q, e, 26) as usize;
+    let flags = entry_flags(img, q, e, POINTER);
+    let top = entry_page(img, q, e, POINTER);
+    let count = entry_two(img, q, e, PAGES) as usize;
     mark_root(img, marks, flags, top, count, visited)
 }
 
 // Marks the pages of the 32 files whose entries are on page q, which is the object file's page at position n.
 fn mark_entries(img: &[u16], marks: &mut [u16; 1024], q: usize, n: usize, visited: u32) -> Walk
-    requires { ⌜ Walking (now img) (now marks) visited × FilesFit (now img) × (n < 2048) × (q ≡ pageAt (vol (now img)) (objectFile (vol (now img))) n) × (q < pages (now img)) ⌝ }
+    requires { ⌜ Walking (now img) (now marks) visited × FilesFit (now img) × (n < objectPages) × (q ≡ pageAt (vol (now img)) (objectFile (vol (now img))) n) × (q < pages (now img)) ⌝ }
     ensures { λ r. ⌜ Walked (pages (now (img .entry))) (now (marks .entry)) visited (λ g. sum 32 (λ i. weighR (vol (now (img .entry))) (fileAt (vol (now (img .entry))) (32 * n + i)) g)) (now (marks .exit)) r ⌝ }
 {
     let mut v = visited;
@@ -66,7 +69,7 @@ fn mark_position(
     n: usize,
     visited: u32,
 ) -> Walk
-    requires { ⌜ Walking (now img) (now marks) visited × FilesFit (now img) × (n < 2048) × (objectFile (vol (now img)) ≡ rootBy flags top 0) × Reach (now img) (rootBy flags top 0) ⌝ }
+    requires { ⌜ Walking (now img) (now marks) visited × FilesFit (now img) × (n < objectPages) × (objectFile (vol (now img)) ≡ rootBy flags top 0) × Reach (now img) (rootBy flags top 0) ⌝ }
     ensures { λ r. ⌜ Walked (pages (now (img .entry))) (now (marks .entry)) visited (λ g. sum 32 (λ i. weighR (vol (now (img .entry))) (fileAt (vol (now (img .entry))) (32 * n + i)) g)) (now (marks .exit)) r ⌝ }
 {
     let q = root_page(img, flags, top, 0, n);
@@ -81,8 +84,8 @@ pub fn mark_files(img: &[u16], marks: &mut [u16; 1024], ends: usize, visited: u3
     requires { ⌜ Walking (now img) (now marks) visited × Reach (now img) (objectFile (vol (now img))) × FilesFit (now img) × Ends (now img) ends ⌝ }
     ensures { λ r. ⌜ Walked (pages (now (img .entry))) (now (marks .entry)) visited (λ g. sum 256 (λ u. mine (vol (now (img .entry))) u g)) (now (marks .exit)) r ⌝ }
 {
-    let flags = flags_at(img, 0, 1016);
-    let top = page_at(img, 0, 1016) as usize;
+    let flags = flags_at(img, 0, OBJECTS);
+    let top = page_at(img, 0, OBJECTS) as usize;
     let mut v = visited;
     let mut n: usize = 0;
     while n < ends {

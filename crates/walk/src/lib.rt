@@ -1,6 +1,5 @@
 // Marking: which pages are held, each counted as it is visited. A page that is met twice ends the walk.
 pub mod files;
-pub mod marks;
 pub mod pages;
 pub mod roots;
 pub mod same;

@@ -1,7 +1,7 @@
 // The pages of a tree: marking a pointer calls marking a block, which marks each of its pointers; the level falls, so the walk ends.
 // Each is told how many positions there may be below it, so that it need not look at the pointers past them.
 use crate::Walk;
-use crate::marks::mark;
+use bits::marks::mark;
 use page::WORDS;
 use page::read::dword;
 ghost use mathlib.Core.Path.{_≡_};
@@ -11,8 +11,9 @@ ghost use Rattle.sums.specs.Sum.{sum};
 ghost use Rattle.book.specs.Words.{vol};
 ghost use Rattle.book.specs.Trees.{weigh, Below};
 ghost use Rattle.book.specs.Image.{pages};
-ghost use Rattle.walk.specs.Walked.{Walking, Walked, slotOf};
-ghost use Rattle.walk.specs.Short.{Short, share, Pointers, PointersBelow};
+ghost use Rattle.tree.specs.Blocks.{pointerIn, share};
+ghost use Rattle.walk.specs.Walked.{Walking, Walked};
+ghost use Rattle.walk.specs.Short.{Short, Pointers, PointersBelow};
 
 // Marks one page; page 0 is none. That the master page is marked spares each other page a test for 0.
 pub fn mark_page(img: &[u16], marks: &mut [u16; 1024], page: usize, visited: u32) -> Walk
@@ -38,8 +39,8 @@ fn wide(x: u16) -> usize
 
 // What pointer i of a block names where that is a page: the more significant word is zero then, and is not read.
 fn page_of(block: &[u16], i: usize) -> usize
-    requires { ⌜ (length (now block) ≡ 1024) × (i < 512) × (slotOf (now block) i < 65536) ⌝ }
-    ensures { λ r. ⌜ r ≡ slotOf (now (block .entry)) i ⌝ }
+    requires { ⌜ (length (now block) ≡ 1024) × (i < 512) × (pointerIn (now block) i < 65536) ⌝ }
+    ensures { λ r. ⌜ r ≡ pointerIn (now (block .entry)) i ⌝ }
 {
     wide(block[2 * i + 1])
 }
@@ -47,7 +48,7 @@ fn page_of(block: &[u16], i: usize) -> usize
 // Marks the pages that a block's first n pointers name.
 fn mark_pages(img: &[u16], marks: &mut [u16; 1024], block: &[u16], n: usize, visited: u32) -> Walk
     requires { ⌜ Walking (now img) (now marks) visited × PointersBelow (now img) (now block) 0 × (n ≤ 512) ⌝ }
-    ensures { λ r. ⌜ Walked (pages (now (img .entry))) (now (marks .entry)) visited (λ g. sum n (λ k. weigh (vol (now (img .entry))) 0 (slotOf (now (block .entry)) k) g)) (now (marks .exit)) r ⌝ }
+    ensures { λ r. ⌜ Walked (pages (now (img .entry))) (now (marks .entry)) visited (λ g. sum n (λ k. weigh (vol (now (img .entry))) 0 (pointerIn (now (block .entry)) k) g)) (now (marks .exit)) r ⌝ }
 {
     let mut v = visited;
     let mut i: usize = 0;
@@ -143,7 +144,7 @@ pub fn mark_block(
     visited: u32,
 ) -> Walk
     requires { ⌜ Walking (now img) (now marks) visited × PointersBelow (now img) (now block) level × Pointers (now img) (now block) level count × (level < 2) ⌝ }
-    ensures { λ r. ⌜ Walked (pages (now (img .entry))) (now (marks .entry)) visited (λ g. sum 512 (λ k. weigh (vol (now (img .entry))) level (slotOf (now (block .entry)) k) g)) (now (marks .exit)) r ⌝ }
+    ensures { λ r. ⌜ Walked (pages (now (img .entry))) (now (marks .entry)) visited (λ g. sum 512 (λ k. weigh (vol (now (img .entry))) level (pointerIn (now (block .entry)) k) g)) (now (marks .exit)) r ⌝ }
 {
     let n = pointers(count, level);
     if level == 0 {

@@ -1,25 +1,18 @@
 // Whether the bit file and the marks agree.
+use bits::word::low_bits;
 use page::WORDS;
 ghost use mathlib.Core.Path.{_≡_};
-ghost use Prim.Native.Nat.{ℕ, _+_, _*_, _%_, _^_, _≤_, _<_};
+ghost use Prim.Native.Nat.{ℕ, _+_, _*_, _≤_, _<_};
 ghost use lib.ListN.{length};
 ghost use Rattle.book.specs.Words.{vol};
-ghost use Rattle.book.specs.Bits.{bit};
+ghost use Rattle.book.specs.Bits.{bit, pageBits};
 ghost use Rattle.book.specs.Decides.{Decides};
 ghost use Rattle.bits.specs.File.{BitsAt};
-ghost use Rattle.walk.specs.Marks.{marked};
-
-// The lowest n bits of w.
-fn low_bits(w: u16, n: usize) -> u16
-    requires { ⌜ n < 16 ⌝ }
-    ensures { λ r. ⌜ r ≡ w % 2 ^ n ⌝ }
-{
-    w & ((1u16 << n) - 1)
-}
+ghost use Rattle.bits.specs.Marks.{marked};
 
 // Two rows of bits are the same below `pages`, word by word, the last word masked.
 fn same_words(a: &[u16], b: &[u16], pages: usize) -> bool
-    requires { ⌜ (length (now a) ≡ 1024) × (length (now b) ≡ 1024) × (pages ≤ 16384) ⌝ }
+    requires { ⌜ (length (now a) ≡ 1024) × (length (now b) ≡ 1024) × (pages ≤ pageBits) ⌝ }
     ensures { λ r. ⌜ Decides r ((p : ℕ) → p < pages → marked (now (a .entry)) p ≡ marked (now (b .entry)) p) ⌝ }
 {
     let full = pages / 16;

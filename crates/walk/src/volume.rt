@@ -1,38 +1,35 @@
 // All that is held: the master page, the bit file, the user file, the object file and the files.
 use crate::Walk;
 use crate::files::mark_files;
-use crate::marks::mark;
 use crate::roots::mark_run;
 use crate::roots::mark_tree;
+use bits::bit_pages;
+use bits::marks::mark;
+use page::BITS;
+use page::OBJECT_PAGES;
+use page::OBJECTS;
+use page::USERS;
 use page::read::flags_at;
 use page::read::page_at;
 ghost use mathlib.Core.Path.{_≡_};
-ghost use Prim.Native.Nat.{_+_, _≤_};
+ghost use Prim.Native.Nat.{_+_};
 ghost use Rattle.book.specs.Words.{vol};
 ghost use Rattle.book.specs.Trees.{weighR};
-ghost use Rattle.book.specs.Bits.{bitPages, bitFile};
-ghost use Rattle.book.specs.Entries.{userFile, objectFile};
+ghost use Rattle.book.specs.Bits.{bitFile};
+ghost use Rattle.book.specs.Entries.{userFile, objectFile, objectPages};
 ghost use Rattle.book.specs.Holders.{system};
 ghost use Rattle.book.specs.Image.{pages as pagesOf};
 ghost use Rattle.tree.specs.Ends.{Ends};
-ghost use Rattle.walk.specs.Marks.{Unmarked};
+ghost use Rattle.bits.specs.Marks.{Unmarked};
 ghost use Rattle.walk.specs.Walked.{Walking, Walked};
 ghost use Rattle.walk.specs.Held.{Held, Volume};
-
-// How many bit pages so many pages ask for.
-fn bit_pages(pages: usize) -> usize
-    requires { ⌜ pages ≤ 16384 ⌝ }
-    ensures { λ r. ⌜ r ≡ bitPages pages ⌝ }
-{
-    (pages + 16383) / 16384
-}
 
 // The pages of the bit file.
 fn mark_bits(img: &[u16], marks: &mut [u16; 1024], pages: usize, visited: u32) -> Walk
     requires { ⌜ Walking (now img) (now marks) visited × Volume (now img) × (pages ≡ pagesOf (now img)) ⌝ }
     ensures { λ r. ⌜ Walked (pagesOf (now (img .entry))) (now (marks .entry)) visited (weighR (vol (now (img .entry))) (bitFile (pagesOf (now (img .entry))) (vol (now (img .entry))))) (now (marks .exit)) r ⌝ }
 {
-    let start = page_at(img, 0, 1020) as usize;
+    let start = page_at(img, 0, BITS) as usize;
     mark_run(img, marks, start, bit_pages(pages), visited)
 }
 
@@ -41,19 +38,19 @@ fn mark_users(img: &[u16], marks: &mut [u16; 1024], visited: u32) -> Walk
     requires { ⌜ Walking (now img) (now marks) visited × Volume (now img) ⌝ }
     ensures { λ r. ⌜ Walked (pagesOf (now (img .entry))) (now (marks .entry)) visited (weighR (vol (now (img .entry))) (userFile (vol (now (img .entry))))) (now (marks .exit)) r ⌝ }
 {
-    let flags = flags_at(img, 0, 1018);
-    let top = page_at(img, 0, 1018) as usize;
+    let flags = flags_at(img, 0, USERS);
+    let top = page_at(img, 0, USERS) as usize;
     mark_tree(img, marks, flags, top, 8, visited)
 }
 
 // How many positions of the object file its blocks are looked at for: of a subindexed one all that it may have, since an index block may be there without pages.
 fn object_positions(flags: u16, ends: usize) -> usize
-    ensures { λ r. ⌜ (flags ≡ 1 → r ≡ ends) × ((flags ≡ 1 → ⊥) → r ≡ 2048) ⌝ }
+    ensures { λ r. ⌜ (flags ≡ 1 → r ≡ ends) × ((flags ≡ 1 → ⊥) → r ≡ objectPages) ⌝ }
 {
     if flags == 1 {
         return ends;
     }
-    2048
+    OBJECT_PAGES
 }
 
 // The pages of the object file.
@@ -61,8 +58,8 @@ fn mark_objects(img: &[u16], marks: &mut [u16; 1024], ends: usize, visited: u32)
     requires { ⌜ Walking (now img) (now marks) visited × Volume (now img) × Ends (now img) ends ⌝ }
     ensures { λ r. ⌜ Walked (pagesOf (now (img .entry))) (now (marks .entry)) visited (weighR (vol (now (img .entry))) (objectFile (vol (now (img .entry))))) (now (marks .exit)) r ⌝ }
 {
-    let flags = flags_at(img, 0, 1016);
-    let top = page_at(img, 0, 1016) as usize;
+    let flags = flags_at(img, 0, OBJECTS);
+    let top = page_at(img, 0, OBJECTS) as usize;
     mark_tree(
         img,
         marks,

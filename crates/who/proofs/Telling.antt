@@ -1,7 +1,7 @@
 -- What is told of page p, from what the searches found. Assumes nothing.
 use mathlib.Core.Path.{_≡_, refl, sym, ap, _∙_, subst}
 use mathlib.Core.Logic.{inl, inr}
-use Prim.Native.Nat.{ℕ, zero, suc, _+_, _/_, _≤_, _<_}
+use Prim.Native.Nat.{ℕ, zero, suc, _+_, _-_, _/_, _≤_, _<_}
 use native.Mathlib.Nat.{not-suc-le-zero}
 use native.Mathlib.Omega.{arith}
 use Rattle.book.specs.declared.Role.{Role}
@@ -12,7 +12,7 @@ use Rattle.book.specs.declared.Holder.the-variants.{Free, Master, BitFile, Obje
 use Rattle.book.specs.Words.{Vol}
 use Rattle.book.specs.Pointers.{page, bitPointer}
 use Rattle.book.specs.Trees.{weighR, pageAt}
-use Rattle.book.specs.Bits.{bitFile, bitPages, bitPage}
+use Rattle.book.specs.Bits.{bitFile, bitPages, bitPage, pageBits, bitPageOf}
 use Rattle.book.specs.Entries.{userFile, objectFile, fileEntry}
 use Rattle.book.specs.Files.{fileAt}
 use Rattle.book.specs.Holders.{hit, system, all, holders, rolePage, Holds, Told}
@@ -41,13 +41,13 @@ module _ (P : ℕ) (v : Vol) where
   unfolding bitPage
   told-bits b p f pos e =
       let z : 0 < P = omega (arith, f .below) in
-      let q : 0 ≡ 0 / 16384 = omega arith in
+      let q : 0 ≡ bitPageOf 0 = omega arith in
       held-told p (BitFile 0) (holds-held P v p (BitFile 0) pos tt (ap (pageAt v (bitFile P v)) q ∙ bit-page P v b f 0 z ∙ sym e))
 
   pub bits-none : (b p : ℕ) → BitsAt P v b → 0 < p → (p ≡ b → ⊥) → weighR v (bitFile P v) (hit p) ≡ 0
   unfolding bitFile bitPages Shallow
   bits-none b p f pos ne =
-      role-none v p (bitFile P v) tt (run-none v p pos (page (v 0) bitPointer) ((P + 16383) / 16384)
+      role-none v p (bitFile P v) tt (run-none v p pos (page (v 0) bitPointer) ((P + (pageBits - 1)) / pageBits)
       (λ i h e. ne (omega (arith, f .most, f .at, h, e))))
 
   -- ---- the user file

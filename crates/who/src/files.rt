@@ -4,6 +4,10 @@ use crate::Place;
 use crate::roles::find_role;
 use book::FileHolder;
 use book::Role;
+use page::OBJECT_PAGES;
+use page::OBJECTS;
+use page::entry::PAGES;
+use page::entry::POINTER;
 use page::read::flags_at;
 use page::read::page_at;
 use tree::entry::entry_flags;
@@ -19,13 +23,6 @@ ghost use Rattle.book.specs.Entries.{objectFile, objectPage};
 ghost use Rattle.book.specs.Files.{fileAt};
 ghost use Rattle.book.specs.Image.{pages, Ready};
 ghost use Rattle.who.specs.Places.{In, Owned};
-
-// The object pointer, in the master page; a file's pages and its pointer, in its entry.
-const OBJECTS: usize = 1016;
-
-const PAGES: usize = 26;
-
-const POINTER: usize = 30;
 
 // The page with this role in the file of object entry e.
 fn holder_of(e: usize, role: Role) -> FileHolder
@@ -83,7 +80,7 @@ pub fn in_files(img: &[u16], p: usize) -> Owner
     let flags = flags_at(img, 0, OBJECTS);
     let top = page_at(img, 0, OBJECTS) as usize;
     let mut i: usize = 0;
-    while i < 2048 {
+    while i < OBJECT_PAGES {
         let q = root_page(img, flags, top, 0, i);
         let r = in_page(img, q, i, p);
         if let Owner::File { holder } = r {

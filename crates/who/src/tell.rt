@@ -5,6 +5,9 @@ use crate::files::in_files;
 use crate::roles::find_master;
 use book::Holder;
 use book::Role;
+use page::BITS;
+use page::OBJECTS;
+use page::USERS;
 use page::read::page_at;
 ghost use mathlib.Core.Path.{_≡_};
 ghost use Prim.Native.Nat.{_<_};
@@ -14,13 +17,6 @@ ghost use Rattle.book.specs.Bits.{bitFile};
 ghost use Rattle.book.specs.Holders.{hit, Told};
 ghost use Rattle.book.specs.Image.{pages, Ready};
 ghost use Rattle.laws.specs.Count.Holder.{joined};
-
-// The pointers of the master page.
-const OBJECTS: usize = 1016;
-
-const USERS: usize = 1018;
-
-const BITS: usize = 1020;
 
 // The holder with this role in the user file, which has no subindex block.
 fn user_holder(role: Role) -> Holder

@@ -1,5 +1,5 @@
 -- A freshly formatted volume is sound: for every number of pages, every name and every bit page. Assumes nothing.
-use mathlib.Core.Path.{_≡_, refl, sym, ap, _∙_, subst}
+use mathlib.Core.Path.{_≡_, refl, sym, ap, ap₂, _∙_, subst}
 use mathlib.Core.Logic.{_≢_, _⊎_, inl, inr}
 use mathlib.Core.List.{List}
 use Prim.Native.Nat.{ℕ, zero, suc, _+_, _-_, _/_, _%_, _≤_, _<_}
@@ -8,15 +8,16 @@ use native.Mathlib.Decide.{ℕ-discrete, decLt}
 use native.Mathlib.Omega.{arith}
 use Rattle.sums.specs.Sum.{sum, is, is-same, is-other, sum-suc, sum-zero, sum-ext, sum-const}
 use Rattle.book.specs.Words.{Vol, two, put2, putWords, wipe}
-use Rattle.book.specs.Pointers.{flags, page, pointer, Zero}
+use Rattle.book.specs.Pointers.{flags, page, pointer, Zero, volumeName, objectPointer, userPointer, bitPointer}
 use Rattle.book.specs.Trees.{weighR, run}
-use Rattle.book.specs.Bits.{digit, bitPages, bitFile, bitPage, bit, mark}
-use Rattle.book.specs.Names.{NameText, packed}
+use Rattle.book.specs.Bits.{digit, pageBits, bitPages, bitPageOf, bitWord, bitPlace, bitFile, bitPage, bit, mark}
+use Rattle.book.specs.Entries.{unreserved}
+use Rattle.book.specs.Names.{NameText, Same, packed}
 use Rattle.book.specs.Holders.{hit, some}
 use Rattle.book.specs.Image.{BitArg}
 use Rattle.book.specs.Rules.{Rule1, Sound}
 use Rattle.book.specs.Format.{wipeRun, markRun, directory, format}
-use Rattle.book.specs.Written.{word-pos, put2-hi, put2-lo, put2-two, put2-word, putWords-here, wipe-here, wipe-page}
+use Rattle.book.specs.Written.{digit-other, word-pos, put-here, put-page, put-word, put2-hi, put2-lo, put2-two, put2-word, putWords-here, wipe-here, wipe-page}
 use Rattle.laws.specs.Bits.Claim.{bitPage-is, bitPage-pos}
 use Rattle.laws.specs.Bits.Mark.{mark-page, mark-master, mark-bit, mark-other}
 use Rattle.laws.specs.File.Packed.{packed-legal}
@@ -65,6 +66,39 @@ run-miss s zero p h = sum-zero (λ i. hit p (s + i))
 run-miss s (suc n) p (inl h) = omega (arith, sum-suc n (λ i. hit p (s + i)), run-miss s n p (inl h), hit-other p (s + n) (omega arith))
 run-miss s (suc n) p (inr h) = omega (arith, sum-suc n (λ i. hit p (s + i)), run-miss s n p (inr (omega arith)), hit-other p (s + n) (omega arith))
 
+-- ---- the bit file
+
+-- is one page, while there are at most 16,384
+pub one-bit-page : (P : ℕ) → 0 < P → P ≤ pageBits → bitPages P ≡ 1
+unfolding bitPages
+one-bit-page P h l = omega arith
+
+-- a bit from P on stays when one below P is marked
+module _ (P : ℕ) (v : Vol) (r : Rule1 P v) (b : ℕ) (at : page (v 0) bitPointer ≡ b) (d x p : ℕ) (hd : d < P) (hx : x < 2) (h : P ≤ p) where
+  abbrev B : ℕ
+  B = bitPage P v d
+
+  abbrev W : ℕ
+  W = bitWord d
+
+  of-d : B ≡ b + d / 16384
+  of-d = bitPage-is P v r d hd ∙ ap (λ (y : ℕ). y + d / 16384) at
+
+  pub mark-past : digit (bitPlace p) (mark P v d x (b + bitPageOf p) (bitWord p)) ≡ digit (bitPlace p) (v (b + bitPageOf p) (bitWord p))
+  unfolding mark
+  mark-past = elim (ℕ-discrete (b + p / 16384) B) [
+    | no a ↦ ap (digit (p % 16)) (put-page v B W _ (b + p / 16384) (p % 16384 / 16) a)
+    | yes q ↦ elim (ℕ-discrete (p % 16384 / 16) W) [
+      | no a ↦ ap (digit (p % 16)) (put-word v B W _ (b + p / 16384) (p % 16384 / 16) a)
+      | yes q′ ↦
+          let ne : p % 16 ≢ d % 16 = λ i. let z : ⊥ = omega (arith, i, q, q′, of-d) in z in
+          ap₂ (λ (y w : ℕ). digit (p % 16) (mark P v d x y w)) q q′
+          ∙ ap (digit (p % 16)) (put-here v B W _) ∙ digit-other (p % 16) (d % 16) _ x ne hx
+          ∙ ap (digit (p % 16)) (word-pos v B W (bitPage-pos P v r d hd))
+          ∙ ap₂ (λ (y w : ℕ). digit (p % 16) (v y w)) (sym q) (sym q′)
+    ]
+  ]
+
 -- ---- the new volume
 
 module _ (P : ℕ) (v : Vol) (name : List ℕ) (b : ℕ) (T : NameText name) (A : BitArg P b) where
@@ -102,6 +136,10 @@ module _ (P : ℕ) (v : Vol) (name : List ℕ) (b : ℕ) (T : NameText name) (A 
     put2-word _ 0 1022 (P - 1 - n) 0 1020 (omega arith) (omega arith) ∙ put2-hi _ 0 1020 (pointer 0 b) ∙ omega arith,
     put2-word _ 0 1022 (P - 1 - n) 0 1021 (omega arith) (omega arith) ∙ put2-lo _ 0 1020 (pointer 0 b) ∙ omega arith,
   )
+
+  dir-bit : two (w₀ 0) 1020 ≡ b
+  unfolding two
+  dir-bit = omega (arith, dir-bits .0, dir-bits .1)
 
   dir-rest : two (w₀ 0) 1022 ≡ P - 1 - n
   unfolding directory
@@ -199,6 +237,38 @@ module _ (P : ℕ) (v : Vol) (name : List ℕ) (b : ℕ) (T : NameText name) (A 
 
       pub formatted-sound : Sound P (format P v name b)
       formatted-sound = format-sound P (format P v name b) pos formatted
+
+      -- the directory entry: the name, no objects and no users, the bit file at b, all but the master page and the bit file unreserved
+      pub format-entry : Same 8 (format P v name b 0) volumeName (packed name) 0 × Zero (format P v name b 0) objectPointer × Zero (format P v name b 0) userPointer
+          × (two (format P v name b 0) bitPointer ≡ b) × (unreserved (format P v name b) ≡ P - 1 - n)
+      unfolding format Same unreserved
+      format-entry = (
+        λ i h. same (1008 + i) ∙ dir-name (1008 + i) (omega arith) (omega arith) ∙ ap (packed name) (let e : 1008 + i - 1008 ≡ 0 + i = omega arith in e),
+        formatted .noObjs,
+        formatted .noUsers,
+        bits-at,
+        two-ext (markRun P w₂ b n 0) (w₀ 0) 1022 (same 1022) (same 1023) ∙ dir-rest,
+      )
+        where
+          same : (k : ℕ) → markRun P w₂ b n 0 k ≡ w₀ 0 k
+          same = same₃ n (omega arith)
+
+          bits-at : two (markRun P w₂ b n 0) 1020 ≡ b
+          bits-at = two-ext (markRun P w₂ b n 0) (w₀ 0) 1020 (same 1020) (same 1021) ∙ dir-bit
+
+      -- the bits from P on are 0
+      past : (p : ℕ) → P ≤ p → bitPageOf p < n → (m : ℕ) → m ≤ n → digit (bitPlace p) (markRun P w₂ b m (b + bitPageOf p) (bitWord p)) ≡ 0
+      unfolding markRun
+      past p h l zero i =
+          mark-past P w₁ (rule-1 w₁ same₁) b (bits-page w₁ same₁) 0 1 p pos (omega arith) h
+          ∙ ap (digit (p % 16)) (wipeRun-in w₀ b n (p / 16384) (p % 16384 / 16) l) ∙ digit-none (p % 16)
+      past p h l (suc m) i =
+          mark-past P (markRun P w₂ b m) (rule-1 (markRun P w₂ b m) (same₃ m (omega arith))) b (bits-page (markRun P w₂ b m) (same₃ m (omega arith))) (b + m) 1 p (omega (arith, A .1)) (omega arith) h
+          ∙ past p h l m (omega arith)
+
+      pub format-past : (p : ℕ) → P ≤ p → bitPageOf p < n → digit (bitPlace p) (format P v name b (b + bitPageOf p) (bitWord p)) ≡ 0
+      unfolding format
+      format-past p h l = past p h l n (omega arith)
 
       -- ---- every other word stays
 

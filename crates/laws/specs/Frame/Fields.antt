@@ -9,7 +9,7 @@ use Rattle.book.specs.Entries.{entryWord, putEntry}
 use Rattle.book.specs.Holders.{hit}
 use Rattle.book.specs.Words.{Words, Vol, put, put2, putWords, setWord, setTwo, setWords, word}
 use Rattle.book.specs.Written.{put-here, put-page, put-word, putWords-here, putWords-page, putWords-low, putWords-high, setWord-here, setWord-other, setWords-in, setWords-low, setWords-high, word-pos, word-ext}
-use Rattle.laws.specs.Frame.Edit.{Outside}
+use Rattle.laws.specs.Frame.Fields.{Outside}
 use Rattle.laws.specs.Tree.Slot.{Agree, hit-same}
 
 -- a volume that is v but for n words of page q from k on, which are those of w

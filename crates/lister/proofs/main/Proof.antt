@@ -11,7 +11,6 @@ use Rattle.io.proofs.read_full.Reads as read-full-reads
 use Rattle.io.proofs.write_all.Reads as write-all-reads
 use Rattle.lister.proofs.answer.Reads as answer-reads
 use Rattle.lister.proofs.image_room.Reads as image-room-reads
-use Rattle.lister.proofs.least.Reads as least-reads
 use Rattle.lister.proofs.refuse.Reads as refuse-reads
 use Rattle.lister.proofs.text_room.Reads as text-room-reads
 
@@ -57,14 +56,11 @@ slice-aggregate-answer-3 c = search needs
 answer-requires : tie.Need-answer-requires
 answer-requires c κs = simp length-take (omega (arith, c .before .before .before .before .image-room .ensures, c .before .before .before .before .before .before .if1 .left, c .before .before .before .before .before .if2 .left))
 
-least-requires : tie.Need-least-requires
-least-requires c κs = search needs
-
 array-share-prefix-text : tie.Need-array-share-prefix-text
 array-share-prefix-text c = search needs
 
 slice-aggregate-write-all : tie.Need-slice-aggregate-write-all
-slice-aggregate-write-all c = sym (length-take-le _ _ (omega (arith, c .before .least .ensures, c .before .before .before .before .before .before .before .before .text-room .ensures)))
+slice-aggregate-write-all c = sym (length-take-le _ _ (omega (arith, c .before .before .before .answer .ensures .0, c .before .before .before .before .before .before .before .text-room .ensures)))
 
 write-all-requires : tie.Need-write-all-requires
 write-all-requires c κs = search needs
@@ -90,7 +86,6 @@ main-spec =
     slice-aggregate-answer-2
     slice-aggregate-answer-3
     answer-requires
-    least-requires
     array-share-prefix-text
     slice-aggregate-write-all
     write-all-requires

@@ -1,52 +1,26 @@
+-- `listing::list` meets its contract. Assumes nothing.
 use mathlib.Core.Bool.{true}
 use Rattle.book.specs.Return.{gate-ready}
 use Rattle.listing.proofs.Reports.{reported-shut, reported-open}
 use borrow.Author.Needs.{needs}
 use Rattle.listing.proofs.list.Statement.{statement}
 use Rattle.listing.proofs.list.Tie as tie
-use Rattle.listing.proofs.list.Reads as reads
-use Rattle.listing.proofs.list.Lts as lts
-use Rattle.listing.proofs.refusal.put_refusal.Reads as put-refusal-reads
-use Rattle.listing.proofs.walk.put_listing.Reads as put-listing-reads
-use Rattle.sound.proofs.gate.Reads as gate-reads
-
-gate-requires : tie.Need-gate-requires
-gate-requires c κs = search needs
-
-enum-known-g : tie.Need-enum-known-g
-enum-known-g c = search needs
-
-put-refusal-requires : tie.Need-put-refusal-requires
-put-refusal-requires c κs = search needs
-
-enum-told : tie.Need-enum-told
-enum-told c = search needs
 
 put-listing-requires : tie.Need-put-listing-requires
 put-listing-requires c κs = gate-ready _ true (c .before .before .before .gate .result) _ (c .before .before .before .gate .ensures) (c .before .enum-told .given .1)
 
-same-length : tie.Need-same-length
-same-length c = search needs
-
 returns : tie.Need-returns
-returns c = reported-shut _ _ _ _ (c .before .before .before .before .before .before .before .gate .result) (c .before .before .before .before .before .before .before .gate .ensures) (c .before .before .before .before .before .g .given .1) (c .before .before .put-refusal .ensures)
-
-same-length-2 : tie.Need-same-length-2
-same-length-2 c = search needs
+returns c =
+    let pr = c .before .before in let g = pr .before .before .before in let ga = g .before .before in
+    reported-shut _ _ _ _ (ga .gate .result) (ga .gate .ensures) (g .g .given .1) (pr .put-refusal .ensures)
 
 returns-2 : tie.Need-returns-2
-returns-2 c = reported-open _ _ _ _ (c .before .before .before .before .before .before .gate .result) (c .before .before .before .before .before .before .gate .ensures) (c .before .before .before .before .enum-told .given .1) (c .before .before .put-listing .ensures)
+returns-2 c =
+    let pl = c .before .before in let et = pl .before .before in let g = et .before .before in
+    reported-open _ _ _ _ (g .gate .result) (g .gate .ensures) (et .enum-told .given .1) (pl .put-listing .ensures)
 
 pub list-spec : {M : Type 1} → statement M
 list-spec =
     tie.close
     (tie.spec
-    gate-requires
-    enum-known-g
-    put-refusal-requires
-    enum-told
-    put-listing-requires
-    same-length
-    returns
-    same-length-2
-    returns-2)
+    (λ c κs. search needs) (λ c. search needs) (λ c κs. search needs) (λ c. search needs) put-listing-requires (λ c. search needs) returns (λ c. search needs) returns-2)

@@ -10,7 +10,7 @@ use Rattle.sound.proofs.judge_held.Reads as reads
 use Rattle.sound.proofs.judge_held.Lts as lts
 use Rattle.page.proofs.read.page_at.Reads as page-at-reads
 use Rattle.shape.proofs.rule10.rule10.Reads as rule10-reads
-use Rattle.walk.proofs.marks.no_marks.Reads as no-marks-reads
+use Rattle.bits.proofs.marks.no_marks.Reads as no-marks-reads
 use Rattle.walk.proofs.same.same_bits.Reads as same-bits-reads
 use Rattle.walk.proofs.volume.mark_all.Reads as mark-all-reads
 

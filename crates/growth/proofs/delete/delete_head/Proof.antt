@@ -1,3 +1,4 @@
+-- `growth::delete::delete_head` meets its contract. Assumes nothing.
 use native.Mathlib.Omega.{arith}
 use mathlib.Core.Path.{ap}
 use Prim.Native.Nat.{ℕ, _-_}
@@ -6,42 +7,33 @@ use Rattle.growth.proofs.Deletes.{erased-freeing, erased-apart, delete-
 use borrow.Author.Needs.{needs}
 use Rattle.growth.proofs.delete.delete_head.Statement.{statement}
 use Rattle.growth.proofs.delete.delete_head.Tie as tie
-use Rattle.growth.proofs.delete.delete_head.Reads as reads
-use Rattle.growth.proofs.delete.delete_head.Lts as lts
-use Rattle.growth.proofs.delete.held.Reads as held-reads
-use Rattle.growth.proofs.entries.erase.Reads as erase-reads
-use Rattle.growth.proofs.free.free_root.Reads as free-root-reads
 
 held-requires : tie.Need-held-requires
 held-requires c κs =
     let s = c .before in let a = s .args in
-    omega (arith, file-count-lt (a .img .now) (a .u) (a .f) (a .h) (s .pre), s .pre .ready .whole .most)
+    omega (arith, file-count-lt (s .pre), s .pre .ready .whole .most)
 
 sub-erase : tie.Need-sub-erase
 sub-erase c =
     let s = c .before .before .before .before in let a = s .args in
-    omega (arith, file-charged (a .img .now) (a .u) (a .f) (a .h) (s .pre), c .before .before .held .ensures)
+    omega (arith, file-charged (s .pre), c .before .before .held .ensures)
 
 erase-requires : tie.Need-erase-requires
 erase-requires c κs =
     let s = c .before .before .before .before in let a = s .args in
-    (s .pre .user, s .pre .file, s .pre .head .ownerIn, s .pre .head .entryIn, omega (arith, file-used-lt (a .img .now) (a .u) (a .f) (a .h) (s .pre), s .pre .ready .whole .most))
+    (s .pre .user, s .pre .file, s .pre .head .ownerIn, s .pre .head .entryIn, omega (arith, file-used-lt (s .pre), s .pre .ready .whole .most))
 
 free-root-requires : tie.Need-free-root-requires
 free-root-requires c κs =
-    let s = c .before .before .before .before .before .before .before .before in let a = s .args in
-    let d = c .before .before .before .erase in (erased-freeing (a .img .now) (a .u) (a .f) (a .h) (s .pre) _ _ (d .kept .0) (d .ensures), erased-apart (a .img .now) (a .u) (a .f) (a .h) (s .pre) _ _ (d .kept .0) (d .ensures))
-
-same-length : tie.Need-same-length
-same-length c = search needs
+    let e = c .before .before .before in let s = e .before .before .before .before .before in
+    let d = e .erase in (erased-freeing (s .pre) _ _ (d .kept .0) (d .ensures), erased-apart (s .pre) _ _ (d .kept .0) (d .ensures))
 
 returns : tie.Need-returns
 returns c =
-    let s = c .before .before .before .before .before .before .before .before .before .before .before in let a = s .args in
-    let d = c .before .before .before .before .before .before .erase in
-    delete-is (a .img .now) (a .u) (a .f) (a .h) (s .pre) _ _ (d .kept .0) (d .ensures) (ap (λ (m : ℕ). a .h .used - m) (c .before .before .before .before .before .before .before .before .before .held .ensures)) _ (c .before .before .free-root .ensures)
+    let fr = c .before .before in let e = fr .before .before .before .before in let h = e .before .before .before in let s = h .before .before in let a = s .args in let d = e .erase in
+    delete-is (s .pre) _ _ (d .kept .0) (d .ensures) (ap (λ (m : ℕ). a .h .used - m) (h .held .ensures)) _ (fr .free-root .ensures)
 
 pub delete-head-spec : {M : Type 1} → statement M
 delete-head-spec =
     tie.close
-    (tie.spec held-requires sub-erase erase-requires free-root-requires same-length returns)
+    (tie.spec held-requires sub-erase erase-requires free-root-requires (λ c. search needs) returns)

@@ -1,3 +1,4 @@
+-- `growth::free::free_block`, `growth::free::free_pointer` meet their contracts. Assumes nothing.
 use mathlib.Core.Path.{_≡_, refl, ap, _∙_}
 use Prim.Native.Nat.{ℕ, _+_, _-_, _*_, _≤_, _<_}
 use native.Mathlib.Omega.{arith}
@@ -102,8 +103,7 @@ free-block-same-length t c = c .before .loop .inv .1
 
 free-block-returns : (t : ℕ) → free-block-lts.Need-returns (block-calls t) (free-block-at t) free-block.Post free-block-Inv-loop free-block-μ-loop
 free-block-returns t c =
-    let a = c .before .before .before .args in let l = c .before .loop in
-    let e : l .i ≡ 512 = omega arith in
+    let a = c .before .before .before .args in let l = c .before .loop in let e : l .i ≡ 512 = omega arith in
     l .inv .2 ∙ ap (λ (m : ℕ). freed (pages (a .img .now)) (vol (a .img .now)) (slotsOf (vol (a .img .now)) (a .level) (a .t) m)) e
 
 free-pointer-returns : (t : ℕ) → free-pointer-lts.Need-returns (pointer-calls t) (free-pointer-at t) free-pointer.Post

@@ -1,3 +1,4 @@
+-- `growth::free::free_run` meets its contract. Assumes nothing.
 use mathlib.Core.Path.{_≡_, refl, ap, _∙_}
 use Prim.Native.Nat.{ℕ, _+_, _-_, _≤_, _<_}
 use native.Mathlib.Omega.{arith}
@@ -8,9 +9,6 @@ use Rattle.book.specs.Image.{pages}
 use Rattle.growth.proofs.Walks.{runOf, freeing-bits, freeing-next, clear-is, run-none, run-more}
 use Rattle.growth.proofs.free.free_run.Statement.{statement}
 use Rattle.growth.proofs.free.free_run.Tie as tie
-use Rattle.growth.proofs.free.free_run.Reads as reads
-use Rattle.growth.proofs.free.free_run.Lts as lts
-use Rattle.bits.proofs.clear.Reads as clear-reads
 
 -- the pages passed are freed
 abbrev Inv-loop : tie.InvT-loop
@@ -38,13 +36,13 @@ loop-less c = omega arith
 
 loop-again : tie.Need-loop-again Inv-loop μ-loop
 loop-again c =
-    let s = c .before .before .before .before .before .before .before in let a = s .args in let l = c .before .before .before .before .before .loop in let d = c .before .before .clear in
+    let cl = c .before .before in let lte = cl .before .before in let lo = lte .before in let s = lo .before .before in let a = s .args in let l = lo .loop in let d = cl .clear in
     let g = runOf (a .s) (l .i) in let F = freeing-next (a .img .now) (a .b) (s .pre .0) (l .img) g (l .inv .1) (l .inv .2) in
-    let lt : a .s + l .i < pages (l .img) = omega (arith, s .pre .1, l .inv .1, c .before .before .before .before .loop-test .taken) in (
+    let lt : a .s + l .i < pages (l .img) = omega (arith, s .pre .1, l .inv .1, lte .loop-test .taken) in (
       omega arith,
       d .kept .0 ∙ l .inv .1,
       run-more (a .img .now) (a .b) (s .pre .0) (l .img) g (l .inv .1) (l .inv .2) (a .s) (l .i) (λ p. refl) _
-          (clear-is (l .img) (a .b) F _ (a .s + l .i) (omega (arith, s .pre .2 (omega (arith, c .before .before .before .before .loop-test .taken)))) lt (d .ensures)),
+          (clear-is (l .img) (a .b) F _ (a .s + l .i) (omega (arith, s .pre .2 (omega (arith, lte .loop-test .taken)))) lt (d .ensures)),
     )
 
 same-length : tie.Need-same-length Inv-loop μ-loop
@@ -52,21 +50,10 @@ same-length c = c .before .loop .inv .1
 
 returns : tie.Need-returns Inv-loop μ-loop
 returns c =
-    let a = c .before .before .before .args in let l = c .before .loop in
-    let e : l .i ≡ a .n = omega arith in
+    let a = c .before .before .before .args in let l = c .before .loop in let e : l .i ≡ a .n = omega arith in
     l .inv .2 ∙ ap (λ (m : ℕ). freed (pages (a .img .now)) (vol (a .img .now)) (runOf (a .s) m)) e
 
 pub free-run-spec : {M : Type 1} → statement M
 free-run-spec =
     tie.close
-    (tie.spec
-    Inv-loop
-    μ-loop
-    loop-holds
-    add-clear
-    clear-requires
-    add-i
-    loop-less
-    loop-again
-    same-length
-    returns)
+    (tie.spec Inv-loop μ-loop loop-holds add-clear clear-requires add-i loop-less loop-again same-length returns)

@@ -1,72 +1,33 @@
+-- `growth::grow::grow_head` meets its contract. Assumes nothing.
 use native.Mathlib.Omega.{arith}
 use Rattle.growth.proofs.Phases.{grow-onward, grow-first, grow-raise, grow-block}
 use borrow.Author.Needs.{needs}
 use Rattle.growth.proofs.grow.grow_head.Statement.{statement}
 use Rattle.growth.proofs.grow.grow_head.Tie as tie
-use Rattle.growth.proofs.grow.grow_head.Reads as reads
-use Rattle.growth.proofs.grow.grow_head.Lts as lts
-use Rattle.growth.proofs.grow.block.Reads as block-reads
-use Rattle.growth.proofs.grow.first.Reads as first-reads
-use Rattle.growth.proofs.grow.onward.Reads as onward-reads
-use Rattle.growth.proofs.grow.raise.Reads as raise-reads
-
-onward-requires : tie.Need-onward-requires
-onward-requires c κs = search needs
-
-same-length : tie.Need-same-length
-same-length c = search needs
 
 returns : tie.Need-returns
 returns c =
-    let s = c .before .before .before .before .before .before in let a = s .args in
-    grow-onward (a .img .now) (a .u) (a .f) (a .h) (s .pre) _ _ (omega arith) (c .before .before .onward .ensures)
-
-first-requires : tie.Need-first-requires
-first-requires c κs = search needs
-
-same-length-2 : tie.Need-same-length-2
-same-length-2 c = search needs
+    let o = c .before .before in let s = o .before .before .before .before in
+    grow-onward (s .pre) _ _ (omega arith) (o .onward .ensures)
 
 returns-2 : tie.Need-returns-2
 returns-2 c =
-    let s = c .before .before .before .before .before .before .before in let a = s .args in
-    grow-first (a .img .now) (a .u) (a .f) (a .h) (s .pre) _ _ (c .before .before .before .before .if2 .taken) (c .before .before .first .ensures)
-
-raise-requires : tie.Need-raise-requires
-raise-requires c κs = search needs
-
-same-length-3 : tie.Need-same-length-3
-same-length-3 c = search needs
+    let f = c .before .before in let i2 = f .before .before in let s = i2 .before .before .before in
+    grow-first (s .pre) _ _ (i2 .if2 .taken) (f .first .ensures)
 
 returns-3 : tie.Need-returns-3
 returns-3 c =
-    let s = c .before .before .before .before .before .before .before .before in let a = s .args in
-    grow-raise (a .img .now) (a .u) (a .f) (a .h) (s .pre) _ _ (c .before .before .before .before .if3 .taken) (c .before .before .raise .ensures)
-
-block-requires : tie.Need-block-requires
-block-requires c κs = search needs
-
-same-length-4 : tie.Need-same-length-4
-same-length-4 c = search needs
+    let r = c .before .before in let i3 = r .before .before in let s = i3 .before .before .before .before in
+    grow-raise (s .pre) _ _ (i3 .if3 .taken) (r .raise .ensures)
 
 returns-4 : tie.Need-returns-4
 returns-4 c =
-    let s = c .before .before .before .before .before .before .before .before in let a = s .args in
-    grow-block (a .img .now) (a .u) (a .f) (a .h) (s .pre) _ _ (omega arith) (omega arith) (c .before .before .block .ensures)
+    let b = c .before .before in let s = b .before .before .before .before .before .before in
+    grow-block (s .pre) _ _ (omega arith) (omega arith) (b .block .ensures)
 
 pub grow-head-spec : {M : Type 1} → statement M
 grow-head-spec =
     tie.close
     (tie.spec
-    onward-requires
-    same-length
-    returns
-    first-requires
-    same-length-2
-    returns-2
-    raise-requires
-    same-length-3
-    returns-3
-    block-requires
-    same-length-4
-    returns-4)
+    (λ c κs. search needs) (λ c. search needs) returns (λ c κs. search needs) (λ c. search needs) returns-2 (λ c κs. search needs) (λ c. search needs) returns-3
+    (λ c κs. search needs) (λ c. search needs) returns-4)

@@ -1,6 +1,6 @@
 use Rattle.book.specs.Decides.{holds, fails}
 use Rattle.heads.proofs.Heads.{rule2-none, rule2-wrong, rule2-one, rule2-two}
-use Rattle.heads.proofs.Told.{told, untold}
+use Rattle.page.proofs.Deciding.{told, untold}
 use borrow.Author.Needs.{needs}
 use Rattle.heads.proofs.master.rule2.Statement.{statement}
 use Rattle.heads.proofs.master.rule2.Tie as tie

@@ -6,7 +6,7 @@ use Rattle.book.specs.Words.{vol}
 use Rattle.book.specs.Entries.{user, used}
 use Rattle.heads.specs.Span.{Span, span-none, span-more, span-at}
 use Rattle.heads.specs.Fine.{Unused}
-use Rattle.heads.proofs.Told.{told, untold}
+use Rattle.page.proofs.Deciding.{told, untold}
 use Rattle.heads.proofs.Pages.{user-on, users-none}
 use Rattle.heads.proofs.objects.page_unused.Statement.{statement}
 use Rattle.heads.proofs.objects.page_unused.Tie as tie

@@ -9,7 +9,7 @@ use Rattle.book.specs.Decides.{holds, fails}
 use Rattle.heads.specs.Span.{Span, span-none, span-join, span-part}
 use Rattle.heads.specs.Stamps.{Stamped}
 use Rattle.heads.specs.Twins.{Fresh}
-use Rattle.heads.proofs.Told.{never}
+use Rattle.page.proofs.Deciding.{never}
 use Rattle.heads.proofs.Hashed.{stamped-none}
 use Rattle.heads.proofs.twins.apart.Statement.{statement}
 use Rattle.heads.proofs.twins.apart.Tie as tie

@@ -7,7 +7,7 @@ use Rattle.book.specs.Trees.{rootBy}
 use Rattle.book.specs.Entries.{entry}
 use Rattle.heads.specs.Span.{Span, span-none, span-more, span-at}
 use Rattle.heads.specs.Twins.{Twins}
-use Rattle.heads.proofs.Told.{told, untold}
+use Rattle.page.proofs.Deciding.{told, untold}
 use Rattle.heads.proofs.twins.fresh.Statement.{statement}
 use Rattle.heads.proofs.twins.fresh.Tie as tie
 

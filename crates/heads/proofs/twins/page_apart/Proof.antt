@@ -8,7 +8,7 @@ use Rattle.book.specs.Decides.{holds, fails}
 use Rattle.heads.specs.Span.{Span, span-none, span-more, span-at}
 use Rattle.heads.specs.Stamps.{Stamped}
 use Rattle.heads.specs.Twins.{Fresh}
-use Rattle.heads.proofs.Told.{never}
+use Rattle.page.proofs.Deciding.{never}
 use Rattle.heads.proofs.Pages.{on-page}
 use Rattle.heads.proofs.Alike.{page-fresh}
 use Rattle.heads.proofs.Hashed.{stamped-page}

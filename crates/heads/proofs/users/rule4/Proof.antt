@@ -5,7 +5,7 @@ use Rattle.book.specs.Entries.{Table}
 use Rattle.book.specs.Decides.{Decides, holds, fails}
 use Rattle.heads.specs.Twins.{Apart}
 use Rattle.heads.proofs.Heads.{users-reach, users-reached}
-use Rattle.heads.proofs.Judged.{users-root, rule4-users, rule4-by}
+use Rattle.heads.proofs.Judged.{users-table, rule4-users, rule4-by}
 use borrow.Author.Needs.{needs}
 use Rattle.heads.proofs.users.rule4.Statement.{statement}
 use Rattle.heads.proofs.users.rule4.Tie as tie
@@ -35,7 +35,7 @@ returns-2 : tie.Need-returns-2
 returns-2 c =
     let v = vol (c .before .before .before .before .before .before .before .before .args .img .now) in
     rule4-by _ (c .apart .result) (holds (c .before .before .before .before .before .before .users-ok .result) _ (c .before .before .before .before .before .before .users-ok .ensures) (c .before .before .before .before .before .if1 .left))
-    (subst (λ (E : Table). Decides (c .apart .result) (Apart E 8 0 256)) (users-root v (c .before .before .before .before .flags-at .result) (c .before .before .before .page-at .result) (c .before .before .before .before .flags-at .ensures .0) (c .before .before .before .page-at .ensures .0)) (c .apart .ensures .0))
+    (subst (λ (E : Table). Decides (c .apart .result) (Apart E 8 0 256)) (users-table v (c .before .before .before .before .flags-at .result) (c .before .before .before .page-at .result) (c .before .before .before .before .flags-at .ensures .0) (c .before .before .before .page-at .ensures .0)) (c .apart .ensures .0))
 
 pub rule4-spec : {M : Type 1} → statement M
 rule4-spec =

@@ -1,4 +1,5 @@
-use mathlib.Core.Path.{sym, ap}
+-- `listing::lines::put_user` meets its contract. Assumes nothing.
+use mathlib.Core.Path.{ap}
 use native.Mathlib.Omega.{arith}
 use Rattle.book.specs.Words.{Words, vol}
 use Rattle.tree.proofs.Ready.{ready-users}
@@ -9,95 +10,45 @@ use Rattle.listing.proofs.Texts.{user-there}
 use borrow.Author.Needs.{needs}
 use Rattle.listing.proofs.lines.put_user.Statement.{statement}
 use Rattle.listing.proofs.lines.put_user.Tie as tie
-use Rattle.listing.proofs.lines.put_user.Reads as reads
-use Rattle.listing.proofs.lines.put_user.Lts as lts
-use Rattle.listing.proofs.name.put_entry_name.Reads as put-entry-name-reads
-use Rattle.listing.proofs.put.put_bytes.Reads as put-bytes-reads
-use Rattle.listing.proofs.put.put_field.Reads as put-field-reads
-use Rattle.seek.proofs.users.given.Reads as given-reads
-use Rattle.seek.proofs.users.used_pages.Reads as used-pages-reads
-use Rattle.tree.proofs.root.user_page.Reads as user-page-reads
 
 user-page-requires : tie.Need-user-page-requires
 user-page-requires c κs = ready-users _ ((c .before .before) .pre .0)
 
-given-requires : tie.Need-given-requires
-given-requires c κs = search needs
-
-cast-had : tie.Need-cast-had
-cast-had c = search needs
-
-used-pages-requires : tie.Need-used-pages-requires
-used-pages-requires c κs = search needs
-
-cast-uses : tie.Need-cast-uses
-cast-uses c = search needs
-
-slice-aggregate-put-field : tie.Need-slice-aggregate-put-field
-slice-aggregate-put-field c = search needs
-
-put-field-requires : tie.Need-put-field-requires
-put-field-requires c κs = search needs
-
-slice-aggregate-put-bytes : tie.Need-slice-aggregate-put-bytes
-slice-aggregate-put-bytes c = search needs
-
-put-bytes-requires : tie.Need-put-bytes-requires
-put-bytes-requires c κs = search needs
-
 put-entry-name-requires : tie.Need-put-entry-name-requires
-put-entry-name-requires c κs = let a = (c .before .before .before .before .before .before .before .before .before .before .before .before .before .before .before .before) .args in
-    (user-there (vol (a .img .now)) (a .u) _ (c .before .before .before .before .before .before .before .before .before .before .before .before .before .user-page .ensures .0) ((c .before .before .before .before .before .before .before .before .before .before .before .before .before .before .before .before) .pre .1), c .before .before .before .before .before .before .before .before .before .before .before .before .before .user-page .ensures .1, omega arith, omega arith, omega (arith, c .before .before .before .put-bytes .ensures .next, c .before .before .before .before .before .before .before .before .put-field .ensures .1, (c .before .before .before .before .before .before .before .before .before .before .before .before .before .before .before .before) .pre .2))
-
-slice-aggregate-put-field-2 : tie.Need-slice-aggregate-put-field-2
-slice-aggregate-put-field-2 c = search needs
-
-put-field-requires-2 : tie.Need-put-field-requires-2
-put-field-requires-2 c κs = search needs
-
-slice-aggregate-put-field-3 : tie.Need-slice-aggregate-put-field-3
-slice-aggregate-put-field-3 c = search needs
+put-entry-name-requires c κs =
+    let pb = c .before .before .before in let pf = pb .before .before .before .before .before in let up = pf .before .before .before .before .before in let s = up .before .before .before in
+    let a = s .args in
+    (user-there (vol (a .img .now)) (a .u) _ (up .user-page .ensures .0) (s .pre .1), up .user-page .ensures .1, omega arith, omega arith, omega (arith, pb .put-bytes .ensures .next, pf .put-field .ensures .1, s .pre .2))
 
 put-field-requires-3 : tie.Need-put-field-requires-3
-put-field-requires-3 c κs = (omega (arith, c .before .before .before .before .put-field2 .ensures .1, c .before .before .before .before .before .before .before .before .before .put-entry-name .ensures .1, c .before .before .before .before .before .before .before .before .before .before .before .before .before .put-bytes .ensures .next, c .before .before .before .before .before .before .before .before .before .before .before .before .before .before .before .before .before .before .put-field .ensures .1, (c .before .before .before .before .before .before .before .before .before .before .before .before .before .before .before .before .before .before .before .before .before .before .before .before .before .before) .pre .2), omega arith)
-
-slice-aggregate-put-bytes-2 : tie.Need-slice-aggregate-put-bytes-2
-slice-aggregate-put-bytes-2 c = search needs
+put-field-requires-3 c κs =
+    let pf2 = c .before .before .before .before in let pen = pf2 .before .before .before .before .before in let pb = pen .before .before .before .before in
+    let pf = pb .before .before .before .before .before in let s = pf .before .before .before .before .before .before .before .before in
+    (omega (arith, pf2 .put-field2 .ensures .1, pen .put-entry-name .ensures .1, pb .put-bytes .ensures .next, pf .put-field .ensures .1, s .pre .2), omega arith)
 
 put-bytes-requires-2 : tie.Need-put-bytes-requires-2
-put-bytes-requires-2 c κs = (omega (arith, c .before .before .before .before .put-field3 .ensures .1, c .before .before .before .before .before .before .before .before .before .put-field2 .ensures .1, c .before .before .before .before .before .before .before .before .before .before .before .before .before .before .put-entry-name .ensures .1, c .before .before .before .before .before .before .before .before .before .before .before .before .before .before .before .before .before .before .put-bytes .ensures .next, c .before .before .before .before .before .before .before .before .before .before .before .before .before .before .before .before .before .before .before .before .before .before .before .put-field .ensures .1, (c .before .before .before .before .before .before .before .before .before .before .before .before .before .before .before .before .before .before .before .before .before .before .before .before .before .before .before .before .before .before .before) .pre .2), omega arith)
-
-same-length : tie.Need-same-length
-same-length c = search needs
+put-bytes-requires-2 c κs =
+    let pf3 = c .before .before .before .before in let pf2 = pf3 .before .before .before .before .before in let pen = pf2 .before .before .before .before .before in
+    let pb = pen .before .before .before .before in let pf = pb .before .before .before .before .before in let s = pf .before .before .before .before .before .before .before .before in
+    (omega (arith, pf3 .put-field3 .ensures .1, pf2 .put-field2 .ensures .1, pen .put-entry-name .ensures .1, pb .put-bytes .ensures .next, pf .put-field .ensures .1, s .pre .2), omega arith)
 
 returns : tie.Need-returns
 unfolding userLine
-returns c = let a = (c .before .before .before .before .before .before .before .before .before .before .before .before .before .before .before .before .before .before .before .before .before .before .before .before .before .before .before .before .before .before .before .before .before .before) .args in
-    let s = ap (λ (w : Words). spelled w 1 16) (user-in (vol (a .img .now)) (a .u) _ (c .before .before .before .before .before .before .before .before .before .before .before .before .before .before .before .before .before .before .before .before .before .before .before .before .before .before .before .before .before .before .before .user-page .ensures .0)) in
-    let n = wrote-then (wrote-then (c .before .before .before .before .before .before .before .before .before .before .before .before .before .before .before .before .before .before .before .before .before .before .before .before .before .before .put-field .ensures .0) (c .before .before .before .before .before .before .before .before .before .before .before .before .before .before .before .before .before .before .before .before .before .put-bytes .ensures)) (wrote-as s (c .before .before .before .before .before .before .before .before .before .before .before .before .before .before .before .before .before .put-entry-name .ensures .0)) in
-    let g = wrote-then n (wrote-as (ap (field givenAre) (c .before .before .before .before .before .before .before .before .before .before .before .before .before .before .before .before .before .before .before .before .before .before .before .before .before .before .before .before .before .before .given .ensures .0)) (c .before .before .before .before .before .before .before .before .before .before .before .before .put-field2 .ensures .0)) in
-    let x = wrote-then g (wrote-as (ap (field usedAre) (c .before .before .before .before .before .before .before .before .before .before .before .before .before .before .before .before .before .before .before .before .before .before .before .before .before .before .before .before .before .used-pages .ensures .0)) (c .before .before .before .before .before .before .before .put-field3 .ensures .0)) in
-    (wrote-then x (c .before .before .put-bytes2 .ensures), omega (arith, c .before .before .put-bytes2 .ensures .next, c .before .before .before .before .before .before .before .put-field3 .ensures .1, c .before .before .before .before .before .before .before .before .before .before .before .before .put-field2 .ensures .1, c .before .before .before .before .before .before .before .before .before .before .before .before .before .before .before .before .before .put-entry-name .ensures .1, c .before .before .before .before .before .before .before .before .before .before .before .before .before .before .before .before .before .before .before .before .before .put-bytes .ensures .next, c .before .before .before .before .before .before .before .before .before .before .before .before .before .before .before .before .before .before .before .before .before .before .before .before .before .before .put-field .ensures .1))
+returns c =
+    let pb2 = c .before .before in let pf3 = pb2 .before .before .before .before .before in let pf2 = pf3 .before .before .before .before .before in
+    let pen = pf2 .before .before .before .before .before in let pb = pen .before .before .before .before in let pf = pb .before .before .before .before .before in
+    let up = pf .before .before .before in let gi = up .before in let upa = gi .before in let st = upa .before .before .before in
+    let a = st .args in
+    let s = ap (λ (w : Words). spelled w 1 16) (user-in (vol (a .img .now)) (a .u) _ (upa .user-page .ensures .0)) in
+    let n = wrote-then (wrote-then (pf .put-field .ensures .0) (pb .put-bytes .ensures)) (wrote-as s (pen .put-entry-name .ensures .0)) in
+    let g = wrote-then n (wrote-as (ap (field givenAre) (gi .given .ensures .0)) (pf2 .put-field2 .ensures .0)) in
+    let x = wrote-then g (wrote-as (ap (field usedAre) (up .used-pages .ensures .0)) (pf3 .put-field3 .ensures .0)) in
+    (wrote-then x (pb2 .put-bytes2 .ensures), omega (arith, pb2 .put-bytes2 .ensures .next, pf3 .put-field3 .ensures .1, pf2 .put-field2 .ensures .1, pen .put-entry-name .ensures .1, pb .put-bytes .ensures .next, pf .put-field .ensures .1))
 
 pub put-user-spec : {M : Type 1} → statement M
 put-user-spec =
     tie.close
     (tie.spec
-    user-page-requires
-    given-requires
-    cast-had
-    used-pages-requires
-    cast-uses
-    slice-aggregate-put-field
-    put-field-requires
-    slice-aggregate-put-bytes
-    put-bytes-requires
-    put-entry-name-requires
-    slice-aggregate-put-field-2
-    put-field-requires-2
-    slice-aggregate-put-field-3
-    put-field-requires-3
-    slice-aggregate-put-bytes-2
-    put-bytes-requires-2
-    same-length
-    returns)
+    user-page-requires (λ c κs. search needs) (λ c. search needs) (λ c κs. search needs) (λ c. search needs) (λ c. search needs) (λ c κs. search needs) (λ c. search needs)
+    (λ c κs. search needs) put-entry-name-requires (λ c. search needs) (λ c κs. search needs) (λ c. search needs) put-field-requires-3 (λ c. search needs)
+    put-bytes-requires-2 (λ c. search needs) returns)

@@ -1,31 +1,17 @@
-use native.Mathlib.Omega.{arith}
+-- `listing::name::put_entry_name` meets its contract. Assumes nothing.
 use Rattle.book.specs.Words.{vol}
 use Rattle.listing.proofs.Writing.{wrote-as}
 use Rattle.listing.proofs.Texts.{spelled-there}
 use borrow.Author.Needs.{needs}
 use Rattle.listing.proofs.name.put_entry_name.Statement.{statement}
 use Rattle.listing.proofs.name.put_entry_name.Tie as tie
-use Rattle.listing.proofs.name.put_entry_name.Reads as reads
-use Rattle.listing.proofs.name.put_entry_name.Lts as lts
-use Rattle.listing.proofs.name.put_name.Reads as put-name-reads
-use Rattle.page.proofs.entry.EntryPlace.of.Reads as of-reads
-
-of-requires : tie.Need-of-requires
-of-requires c κs = search needs
-
-add-put-name : tie.Need-add-put-name
-add-put-name c = search needs
-
-put-name-requires : tie.Need-put-name-requires
-put-name-requires c κs = search needs
-
-same-length : tie.Need-same-length
-same-length c = search needs
 
 returns : tie.Need-returns
-returns c = let a = c .before .before .before .before .before .before .before .args in
-    (wrote-as (spelled-there (vol (a .img .now)) (a .q) (a .n) _ (a .k) (a .m) (c .before .before .before .before .before .before .before .pre .0) (c .before .before .before .before .of .ensures .1)) (c .before .before .put-name .ensures .0), c .before .before .put-name .ensures .1)
+returns c =
+    let pn = c .before .before in let o = pn .before .before in let s = o .before .before .before in
+    let a = s .args in
+    (wrote-as (spelled-there (vol (a .img .now)) (a .q) (a .n) _ (a .k) (a .m) (s .pre .0) (o .of .ensures .1)) (pn .put-name .ensures .0), pn .put-name .ensures .1)
 
 pub put-entry-name-spec : {M : Type 1} → statement M
 put-entry-name-spec =
-    tie.close (tie.spec of-requires add-put-name put-name-requires same-length returns)
+    tie.close (tie.spec (λ c κs. search needs) (λ c. search needs) (λ c κs. search needs) (λ c. search needs) returns)

@@ -1,18 +1,14 @@
+-- `listing::name::put_name` meets its contract. Assumes nothing.
 use mathlib.Core.Path.{_≡_, ap}
-use mathlib.Core.List.{_++_}
-use Prim.Native.Nat.{ℕ, _+_, _-_, _≤_}
+use Prim.Native.Nat.{_+_, _-_, _≤_}
 use native.Mathlib.Omega.{arith}
 use Rattle.book.specs.Words.{vol}
-use Rattle.book.specs.Listing.{Bytes, letter, spelled}
+use Rattle.book.specs.Listing.{letter, spelled}
 use Rattle.listing.specs.Wrote.{Wrote}
 use Rattle.listing.proofs.Writing.{wrote-none, wrote-as, wrote-then, wrote-size}
 use Rattle.listing.proofs.Texts.{spelled-zero, spelled-more}
 use Rattle.listing.proofs.name.put_name.Statement.{statement}
 use Rattle.listing.proofs.name.put_name.Tie as tie
-use Rattle.listing.proofs.name.put_name.Reads as reads
-use Rattle.listing.proofs.name.put_name.Lts as lts
-use Rattle.listing.proofs.name.byte_at.Reads as byte-at-reads
-use Rattle.listing.proofs.put.put_letter.Reads as put-letter-reads
 
 abbrev Inv-loop : tie.InvT-loop
 Inv-loop img out₀ at p k n z₀ i₀ out z i = (i ≤ n) × (z ≤ at + i) × Wrote (spelled (vol img p) k i) out₀ at out z
@@ -36,9 +32,11 @@ loop-less : tie.Need-loop-less Inv-loop μ-loop
 loop-less c = omega arith
 
 loop-again : tie.Need-loop-again Inv-loop μ-loop
-loop-again c = let a = c .before .before .before .before .before .before .before .before .before .args in let l = c .before .before .before .before .before .before .loop in let w = vol (a .img .now) (a .p) in
-    let s = wrote-as (ap letter (c .before .before .before .byte-at .ensures)) (c .before .before .put-letter .ensures .0) in
-    (omega arith, omega (arith, c .before .before .put-letter .ensures .1), wrote-as (spelled-more w (a .k) (l .i)) (wrote-then (l .inv .2) s))
+loop-again c =
+    let pl = c .before .before in let ba = pl .before in let lo = ba .before .before .before in let st = lo .before .before .before in
+    let a = st .args in let l = lo .loop in let w = vol (a .img .now) (a .p) in
+    let s = wrote-as (ap letter (ba .byte-at .ensures)) (pl .put-letter .ensures .0) in
+    (omega arith, omega (arith, pl .put-letter .ensures .1), wrote-as (spelled-more w (a .k) (l .i)) (wrote-then (l .inv .2) s))
 
 same-length : tie.Need-same-length Inv-loop μ-loop
 same-length c = wrote-size (c .before .loop .inv .2)
@@ -51,14 +49,4 @@ returns c = let a = c .before .before .before .before .args in let l = c .before
 pub put-name-spec : {M : Type 1} → statement M
 put-name-spec =
     tie.close
-    (tie.spec
-    Inv-loop
-    μ-loop
-    loop-holds
-    byte-at-requires
-    put-letter-requires
-    add-i
-    loop-less
-    loop-again
-    same-length
-    returns)
+    (tie.spec Inv-loop μ-loop loop-holds byte-at-requires put-letter-requires add-i loop-less loop-again same-length returns)

@@ -1,3 +1,4 @@
+-- `listing::put::put_bytes` meets its contract. Assumes nothing.
 use mathlib.Core.Path.{_≡_, refl, _∙_, ap}
 use Prim.Native.Nat.{_≤_, _-_}
 use native.Mathlib.Omega.{arith}
@@ -7,9 +8,6 @@ use lib.Seq.{sets, length-sets}
 use Rattle.listing.proofs.Writing.{bytes-more, wrote-all}
 use Rattle.listing.proofs.put.put_bytes.Statement.{statement}
 use Rattle.listing.proofs.put.put_bytes.Tie as tie
-use Rattle.listing.proofs.put.put_bytes.Reads as reads
-use Rattle.listing.proofs.put.put_bytes.Lts as lts
-use Rattle.listing.proofs.put.put.Reads as put-reads
 
 abbrev Inv-loop : tie.InvT-loop
 Inv-loop out₀ at s i₀ out i = (i ≤ length s) × (out ≡ sets out₀ at (take i s))
@@ -26,9 +24,6 @@ add-put c = omega arith
 shared-slice-read-put : tie.Need-shared-slice-read-put Inv-loop μ-loop
 shared-slice-read-put c = omega arith
 
-put-requires : tie.Need-put-requires Inv-loop μ-loop
-put-requires c κs = search needs
-
 add-i : tie.Need-add-i Inv-loop μ-loop
 add-i c = omega arith
 
@@ -36,8 +31,10 @@ loop-less : tie.Need-loop-less Inv-loop μ-loop
 loop-less c = omega arith
 
 loop-again : tie.Need-loop-again Inv-loop μ-loop
-loop-again c = let a = c .before .before .before .before .before .before .before .before .before .args in let l = c .before .before .before .before .before .before .loop in
-    (omega arith, bytes-more (a .s .now) (a .out .now) (l .out) (c .before .before .put .last .0) (a .at) (l .i) (c .before .before .before .before .before .loop-test .taken) (l .inv .1) (c .before .before .put .ensures))
+loop-again c =
+    let p = c .before .before in let lt = p .before .before .before in let lo = lt .before in let s = lo .before .before .before in
+    let a = s .args in let l = lo .loop in
+    (omega arith, bytes-more (a .s .now) (a .out .now) (l .out) (p .put .last .0) (a .at) (l .i) (lt .loop-test .taken) (l .inv .1) (p .put .ensures))
 
 add-result : tie.Need-add-result Inv-loop μ-loop
 add-result c = omega arith
@@ -52,15 +49,4 @@ pub put-bytes-spec : {M : Type 1} → statement M
 put-bytes-spec =
     tie.close
     (tie.spec
-    Inv-loop
-    μ-loop
-    loop-holds
-    add-put
-    shared-slice-read-put
-    put-requires
-    add-i
-    loop-less
-    loop-again
-    add-result
-    same-length
-    returns)
+    Inv-loop μ-loop loop-holds add-put shared-slice-read-put (λ c κs. search needs) add-i loop-less loop-again add-result same-length returns)

@@ -1,3 +1,4 @@
+-- `listing::walk::put_page` meets its contract. Assumes nothing.
 use mathlib.Core.Path.{_≡_, ap}
 use Prim.Native.Nat.{ℕ, _+_, _-_, _*_, _≤_}
 use native.Mathlib.Omega.{arith}
@@ -9,10 +10,6 @@ use Rattle.listing.proofs.Writing.{wrote-none, wrote-as, wrote-then, wr
 use Rattle.listing.proofs.Texts.{joined-zero, joined-one, file-on, page-none}
 use Rattle.listing.proofs.walk.put_page.Statement.{statement}
 use Rattle.listing.proofs.walk.put_page.Tie as tie
-use Rattle.listing.proofs.walk.put_page.Reads as reads
-use Rattle.listing.proofs.walk.put_page.Lts as lts
-use Rattle.listing.proofs.lines.put_file.Reads as put-file-reads
-use Rattle.tree.proofs.root.object_page.Reads as object-page-reads
 
 abbrev Inv-loop : tie.InvT-loop
 Inv-loop img out₀ at u i b q z₀ k₀ out z k = (k ≤ 32) × (z ≤ at + 128 * k) × Wrote (joined (λ (j : ℕ). fileOf (vol img) u (32 * i + j)) k) out₀ at out z
@@ -58,9 +55,11 @@ loop-less : tie.Need-loop-less Inv-loop μ-loop
 loop-less c = omega arith
 
 loop-again : tie.Need-loop-again Inv-loop μ-loop
-loop-again c = let a = (c .before .before .before .before .before .before .before .before .before .before) .args in let l = c .before .before .before .before .before .loop in let g : ℕ → Bytes = λ j. fileOf (vol (a .img .now)) (a .u) (32 * a .i + j) in
-    let s = wrote-as (file-on (vol (a .img .now)) (a .u) (a .i) _ (c .before .before .before .before .before .before .before .object-page .ensures .0) (l .k) (c .before .before .before .before .loop-test .taken)) (c .before .before .put-file .ensures .0) in
-    (omega arith, omega (arith, c .before .before .put-file .ensures .1), wrote-as (joined-one g (l .k)) (wrote-then (l .inv .2) s))
+loop-again c =
+    let pf = c .before .before in let lt = pf .before .before in let lo = lt .before in let op = lo .before .before in let st = op .before .before .before in
+    let a = st .args in let l = lo .loop in let g : ℕ → Bytes = λ j. fileOf (vol (a .img .now)) (a .u) (32 * a .i + j) in
+    let s = wrote-as (file-on (vol (a .img .now)) (a .u) (a .i) _ (op .object-page .ensures .0) (l .k) (lt .loop-test .taken)) (pf .put-file .ensures .0) in
+    (omega arith, omega (arith, pf .put-file .ensures .1), wrote-as (joined-one g (l .k)) (wrote-then (l .inv .2) s))
 
 same-length : tie.Need-same-length Inv-loop μ-loop
 same-length c = wrote-size (c .before .loop .inv .2)
@@ -74,20 +73,5 @@ pub put-page-spec : {M : Type 1} → statement M
 put-page-spec =
     tie.close
     (tie.spec
-    Inv-loop
-    μ-loop
-    mul-b
-    mul-b-2
-    add-b
-    object-page-requires
-    returns
-    loop-holds
-    add-put-file
-    mul-put-file
-    add-put-file-2
-    put-file-requires
-    add-k
-    loop-less
-    loop-again
-    same-length
-    returns-2)
+    Inv-loop μ-loop mul-b mul-b-2 add-b object-page-requires returns loop-holds add-put-file mul-put-file add-put-file-2 put-file-requires add-k loop-less loop-again
+    same-length returns-2)

@@ -12,28 +12,27 @@ entry-number-requires : tie.Need-entry-number-requires
 entry-number-requires c κs = let s = c .before .before .before in (s .pre .1, s .pre .4)
 
 file-place-requires : tie.Need-file-place-requires
-file-place-requires c κs = let s = c .before .before .before .before .before in let i = s .args .img .now in (s .pre .0, c .before .entry-number .ensures .1, entry-reached i (s .pre .0) (s .args .u) (s .args .f) (c .before .entry-number .result) (s .pre .1) (s .pre .4) (s .pre .2) (c .before .entry-number .ensures .0), entry-room i (s .pre .0) (s .args .u) (s .args .f) (c .before .entry-number .result) (s .pre .1) (s .pre .4) (s .pre .2) (c .before .entry-number .ensures .0) (s .pre .5))
+file-place-requires c κs =
+    let en = c .before in let s = en .before .before .before .before in
+    (s .pre .0, en .entry-number .ensures .1, entry-reached (s .pre .0) (s .pre .1) (s .pre .4) (s .pre .2) (en .entry-number .ensures .0), entry-room (s .pre .0) (s .pre .1) (s .pre .4) (s .pre .2) (en .entry-number .ensures .0) (s .pre .5))
 
 object-page-requires : tie.Need-object-page-requires
-object-page-requires c κs = let s = c .before .before .before .before .before .before .before .before .before in let i = s .args .img .now in ready-objects _ (file-ready i (s .pre .0) (s .args .u) (s .args .f) (c .before .before .before .before .before .entry-number .result) (s .pre .1) (s .pre .4) (s .pre .2) (c .before .before .before .before .before .entry-number .ensures .0) (s .pre .5) _ (c .before .before .before .file-place .ensures) (omega arith))
+object-page-requires c κs =
+    let fp = c .before .before .before in let en = fp .before .before in let s = en .before .before .before .before in
+    ready-objects _ (file-ready (s .pre .0) (s .pre .1) (s .pre .4) (s .pre .2) (en .entry-number .ensures .0) (s .pre .5) _ (fp .file-place .ensures) (omega arith))
 
 object-entry-requires : tie.Need-object-entry-requires
-object-entry-requires c κs = let s = c .before .before .before .before .before .before .before .before .before .before .before in (omega (arith, c .before .object-page .ensures .1), s .pre .1, c .before .before .before .before .before .before .before .entry-number .ensures .1, omega arith)
-
-same-length : tie.Need-same-length
-same-length c = search needs
+object-entry-requires c κs =
+    let en = c .before .before .before .before .before .before .before in let s = en .before .before .before .before in
+    (omega (arith, c .before .object-page .ensures .1), s .pre .1, en .entry-number .ensures .1, omega arith)
 
 returns : tie.Need-returns
-returns c = let s = c .before .before .before .before .before .before .before .before .before .before .before .before .before .before in let i = s .args .img .now in let a = s .args in create-indexed-is (pages i) (vol i) (a .u) (a .f) (c .before .before .before .before .before .before .before .before .before .before .entry-number .result) (a .name .now) (a .kind .now) (a .created) (s .pre .3) (c .before .before .before .before .before .before .before .before .before .before .entry-number .ensures .0) _ _ (c .before .before .before .before .object-page .result)
-    (c .before .before .before .before .before .before .before .before .file-place .ensures) (c .before .before .before .before .object-page .ensures .0) (c .before .before .object-entry .ensures)
+returns c =
+    let oe = c .before .before in let op = oe .before .before in let fp = op .before .before .before .before in let en = fp .before .before in let s = en .before .before .before .before in
+    let i = s .args .img .now in let a = s .args in create-indexed-is (pages i) (vol i) (a .u) (a .f) (en .entry-number .result) (a .name .now) (a .kind .now) (a .created) (s .pre .3) (en .entry-number .ensures .0) _ _ (op .object-page .result)
+    (fp .file-place .ensures) (op .object-page .ensures .0) (oe .object-entry .ensures)
 
 pub create-indexed-step-spec : {M : Type 1} → statement M
 create-indexed-step-spec =
     tie.close
-    (tie.spec
-    entry-number-requires
-    file-place-requires
-    object-page-requires
-    object-entry-requires
-    same-length
-    returns)
+    (tie.spec entry-number-requires file-place-requires object-page-requires object-entry-requires (λ c. search needs) returns)

@@ -5,18 +5,9 @@ use native.Mathlib.Omega.{arith}
 use Rattle.making.proofs.place.pointer.Statement.{statement}
 use Rattle.making.proofs.place.pointer.Tie as tie
 
-mul-result : tie.Need-mul-result
-mul-result c = search needs
-
-cast-result : tie.Need-cast-result
-cast-result c = search needs
-
-add-result : tie.Need-add-result
-add-result c = search needs
-
 returns : tie.Need-returns
 unfolding pointer
 returns c = omega arith
 
 pub pointer-spec : {M : Type 1} → statement M
-pointer-spec = tie.close (tie.spec mul-result cast-result add-result returns)
+pointer-spec = tie.close (tie.spec (λ c. search needs) (λ c. search needs) (λ c. search needs) returns)

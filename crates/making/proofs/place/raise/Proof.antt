@@ -1,6 +1,4 @@
 -- `making::place::raise` meets its contract. Assumes nothing.
-use Rattle.book.specs.Image.{pages}
-use Rattle.book.specs.Words.{vol}
 use Rattle.making.proofs.Taking.{lowest-there, raise-is}
 use Rattle.tree.proofs.Ready.{ready-some}
 use borrow.Author.Needs.{needs}
@@ -8,52 +6,27 @@ use native.Mathlib.Omega.{arith}
 use Rattle.making.proofs.place.raise.Statement.{statement}
 use Rattle.making.proofs.place.raise.Tie as tie
 
-bit-page-requires : tie.Need-bit-page-requires
-bit-page-requires c κs = search needs
-
-unreserved-requires : tie.Need-unreserved-requires
-unreserved-requires c κs = search needs
-
-page-at-requires : tie.Need-page-at-requires
-page-at-requires c κs = search needs
-
 take-requires : tie.Need-take-requires
-take-requires c κs = let s = c .before .before .before .before .before .before .before .before in let i = s .args .img .now in (omega arith, c .before .before .before .before .before .bit-page .ensures, lowest-there (pages i) (vol i) (s .pre .0 .sound) (ready-some i (s .pre .0)) (s .pre .1) .0)
-
-put-two-requires : tie.Need-put-two-requires
-put-two-requires c κs = search needs
-
-pointer-requires : tie.Need-pointer-requires
-pointer-requires c κs = search needs
-
-put-two-requires-2 : tie.Need-put-two-requires-2
-put-two-requires-2 c κs = search needs
+take-requires c κs =
+    let bp = c .before .before .before .before .before in let s = bp .before .before .before in
+    (omega arith, bp .bit-page .ensures, lowest-there (s .pre .0 .sound) (ready-some _ (s .pre .0)) (s .pre .1) .0)
 
 sub-put-two : tie.Need-sub-put-two
-sub-put-two c = omega (arith, c .before .before .before .before .before .before .before .before .before .before .before .before .before .before .before .before .before .before .before .before .before .pre .1, c .before .before .before .before .before .before .before .before .before .before .before .before .before .before .before .before .unreserved .ensures .0)
-
-put-two-requires-3 : tie.Need-put-two-requires-3
-put-two-requires-3 c κs = search needs
-
-same-length : tie.Need-same-length
-same-length c = search needs
+sub-put-two c =
+    let u = c .before .before .before .before .before .before .before .before .before .before .before .before .before .before .before .before in
+    let s = u .before .before .before .before .before in
+    omega (arith, s .pre .1, u .unreserved .ensures .0)
 
 returns : tie.Need-returns
-returns c = let s = c .before .before .before .before .before .before .before .before .before .before .before .before .before .before .before .before .before .before .before .before .before .before .before .before in let i = s .args .img .now in raise-is (pages i) (vol i) (s .pre .0 .sound) (ready-some i (s .pre .0)) (s .pre .1) _ _ _ _ (c .before .before .before .before .before .before .before .before .before .before .before .before .before .before .before .take .result) (c .before .before .before .before .before .before .before .before .before .before .before .before .before .before .before .before .before .before .before .unreserved .result) (c .before .before .before .before .before .before .before .before .before .before .before .before .before .before .before .before .before .page-at .result) (c .before .before .before .before .before .before .before .pointer .result)
-    (c .before .before .before .before .before .before .before .before .before .before .before .before .before .before .before .take .ensures .0) (c .before .before .before .before .before .before .before .before .before .before .before .before .before .before .before .before .before .before .before .unreserved .ensures .0) (c .before .before .before .before .before .before .before .before .before .before .before .before .before .before .before .before .before .page-at .ensures .0) (c .before .before .before .before .before .before .before .pointer .ensures) (c .before .before .before .before .before .before .before .before .before .before .before .before .before .before .before .take .ensures .2) (c .before .before .before .before .before .before .before .before .before .before .before .put-two .ensures) (c .before .before .before .before .before .before .put-two2 .ensures) (c .before .before .put-two3 .ensures)
+returns c =
+    let pt3 = c .before .before in let pt2 = pt3 .before .before .before .before in let p = pt2 .before in let pt = p .before .before .before .before in
+    let t = pt .before .before .before .before in let pa = t .before .before in let u = pa .before .before in let s = u .before .before .before .before .before in
+    raise-is (s .pre .0 .sound) (ready-some _ (s .pre .0)) (s .pre .1) _ _ _ _ (t .take .result) (u .unreserved .result) (pa .page-at .result) (p .pointer .result)
+    (t .take .ensures .0) (u .unreserved .ensures .0) (pa .page-at .ensures .0) (p .pointer .ensures) (t .take .ensures .2) (pt .put-two .ensures) (pt2 .put-two2 .ensures) (pt3 .put-two3 .ensures)
 
 pub raise-spec : {M : Type 1} → statement M
 raise-spec =
     tie.close
     (tie.spec
-    bit-page-requires
-    unreserved-requires
-    page-at-requires
-    take-requires
-    put-two-requires
-    pointer-requires
-    put-two-requires-2
-    sub-put-two
-    put-two-requires-3
-    same-length
-    returns)
+    (λ c κs. search needs) (λ c κs. search needs) (λ c κs. search needs) take-requires (λ c κs. search needs) (λ c κs. search needs) (λ c κs. search needs) sub-put-two
+    (λ c κs. search needs) (λ c. search needs) returns)

@@ -1,6 +1,4 @@
 -- `making::place::start` meets its contract. Assumes nothing.
-use Rattle.book.specs.Image.{pages}
-use Rattle.book.specs.Words.{vol}
 use Rattle.making.proofs.Taking.{first-there, second-take, third-take, start-is}
 use Rattle.tree.proofs.Ready.{ready-some}
 use borrow.Author.Needs.{needs}
@@ -8,72 +6,40 @@ use native.Mathlib.Omega.{arith}
 use Rattle.making.proofs.place.start.Statement.{statement}
 use Rattle.making.proofs.place.start.Tie as tie
 
-bit-page-requires : tie.Need-bit-page-requires
-bit-page-requires c κs = search needs
-
-unreserved-requires : tie.Need-unreserved-requires
-unreserved-requires c κs = search needs
-
 take-requires : tie.Need-take-requires
-take-requires c κs = let s = c .before .before .before .before .before .before in let i = s .args .img .now in (omega arith, c .before .before .before .bit-page .ensures, first-there (pages i) (vol i) (s .pre .0 .sound) (ready-some i (s .pre .0)) (s .pre .1) .0)
+take-requires c κs =
+    let bp = c .before .before .before in let s = bp .before .before .before in
+    (omega arith, bp .bit-page .ensures, first-there (s .pre .0 .sound) (ready-some _ (s .pre .0)) (s .pre .1) .0)
 
 take-requires-2 : tie.Need-take-requires-2
-take-requires-2 c κs = let s = c .before .before .before .before .before .before .before .before .before .before in let i = s .args .img .now in
-    let B = second-take (pages i) (vol i) (s .pre .0 .sound) (ready-some i (s .pre .0)) (s .pre .1) (c .before .before .before .before .before .before .before .bit-page .result) (c .before .before .before .before .before .before .before .bit-page .ensures) _ (c .before .before .before .take .ensures .2) in (omega arith, B .0, B .1)
+take-requires-2 c κs =
+    let t = c .before .before .before in let bp = t .before .before .before .before in let s = bp .before .before .before in
+    let B = second-take (s .pre .0 .sound) (ready-some _ (s .pre .0)) (s .pre .1) (bp .bit-page .result) (bp .bit-page .ensures) _ (t .take .ensures .2) in (omega arith, B .0, B .1)
 
 take-requires-3 : tie.Need-take-requires-3
-take-requires-3 c κs = let s = c .before .before .before .before .before .before .before .before .before .before .before .before .before .before in let i = s .args .img .now in
-    let B = third-take (pages i) (vol i) (s .pre .0 .sound) (ready-some i (s .pre .0)) (s .pre .1) (c .before .before .before .before .before .before .before .before .before .before .before .bit-page .result) (c .before .before .before .before .before .before .before .before .before .before .before .bit-page .ensures) _ _ (c .before .before .before .before .before .before .before .take .ensures .2) (c .before .before .before .take2 .ensures .2) in (omega arith, B .0, B .1)
-
-pointer-requires : tie.Need-pointer-requires
-pointer-requires c κs = search needs
-
-put-two-requires : tie.Need-put-two-requires
-put-two-requires c κs = search needs
-
-pointer-requires-2 : tie.Need-pointer-requires-2
-pointer-requires-2 c κs = search needs
-
-put-two-requires-2 : tie.Need-put-two-requires-2
-put-two-requires-2 c κs = search needs
-
-cast-put-two : tie.Need-cast-put-two
-cast-put-two c = search needs
-
-put-two-requires-3 : tie.Need-put-two-requires-3
-put-two-requires-3 c κs = search needs
+take-requires-3 c κs =
+    let t2 = c .before .before .before in let t = t2 .before .before .before .before in let bp = t .before .before .before .before in let s = bp .before .before .before in
+    let B = third-take (s .pre .0 .sound) (ready-some _ (s .pre .0)) (s .pre .1) (bp .bit-page .result) (bp .bit-page .ensures) _ _ (t .take .ensures .2) (t2 .take2 .ensures .2) in (omega arith, B .0, B .1)
 
 sub-put-two : tie.Need-sub-put-two
-sub-put-two c = omega (arith, c .before .before .before .before .before .before .before .before .before .before .before .before .before .before .before .before .before .before .before .before .before .before .before .before .before .before .before .before .before .before .before .before .pre .1, c .before .before .before .before .before .before .before .before .before .before .before .before .before .before .before .before .before .before .before .before .before .before .before .before .before .before .before .unreserved .ensures .0)
-
-put-two-requires-4 : tie.Need-put-two-requires-4
-put-two-requires-4 c κs = search needs
-
-same-length : tie.Need-same-length
-same-length c = search needs
+sub-put-two c =
+    let u = c .before .before .before .before .before .before .before .before .before .before .before .before .before .before .before .before .before .before .before .before .before .before .before .before .before .before .before in
+    let s = u .before .before .before .before .before in
+    omega (arith, s .pre .1, u .unreserved .ensures .0)
 
 returns : tie.Need-returns
-returns c = let s = c .before .before .before .before .before .before .before .before .before .before .before .before .before .before .before .before .before .before .before .before .before .before .before .before .before .before .before .before .before .before .before .before .before .before .before in let i = s .args .img .now in start-is (pages i) (vol i) (s .pre .0 .sound) (ready-some i (s .pre .0)) (s .pre .1) _ _ _ _ _ _ _
-    (c .before .before .before .before .before .before .before .before .before .before .before .before .before .before .before .before .before .before .before .before .before .before .before .before .before .before .before .before .take .result) (c .before .before .before .before .before .before .before .before .before .before .before .before .before .before .before .before .before .before .before .before .before .before .before .before .take2 .result) (c .before .before .before .before .before .before .before .before .before .before .before .before .before .before .before .before .before .before .before .before .take3 .result) (c .before .before .before .before .before .before .before .before .before .before .before .before .before .before .before .before .before .before .before .before .before .before .before .before .before .before .before .before .before .before .unreserved .result) (c .before .before .before .before .before .before .before .before .before .before .before .before .before .before .before .before .pointer .result) (c .before .before .before .before .before .before .before .before .before .before .before .pointer2 .result)
-    (c .before .before .before .before .before .before .before .before .before .before .before .before .before .before .before .before .before .before .before .before .before .before .before .before .before .before .before .before .take .ensures .0) (c .before .before .before .before .before .before .before .before .before .before .before .before .before .before .before .before .before .before .before .before .before .before .before .before .take2 .ensures .0) (c .before .before .before .before .before .before .before .before .before .before .before .before .before .before .before .before .before .before .before .before .take3 .ensures .0) (c .before .before .before .before .before .before .before .before .before .before .before .before .before .before .before .before .before .before .before .before .before .before .before .before .before .before .before .before .before .before .unreserved .ensures .0) (c .before .before .before .before .before .before .before .before .before .before .before .before .before .before .before .before .pointer .ensures) (c .before .before .before .before .before .before .before .before .before .before .before .pointer2 .ensures)
-    (c .before .before .before .before .before .before .before .before .before .before .before .before .before .before .before .before .before .before .before .before .before .before .before .before .before .before .before .before .take .ensures .2) (c .before .before .before .before .before .before .before .before .before .before .before .before .before .before .before .before .before .before .before .before .before .before .before .before .take2 .ensures .2) (c .before .before .before .before .before .before .before .before .before .before .before .before .before .before .before .before .before .before .before .before .take3 .ensures .2) (c .before .before .before .before .before .before .before .before .before .before .before .before .before .before .before .put-two .ensures) (c .before .before .before .before .before .before .before .before .before .before .put-two2 .ensures) (c .before .before .before .before .before .before .put-two3 .ensures) (c .before .before .put-two4 .ensures)
+returns c =
+    let pt4 = c .before .before in let pt3 = pt4 .before .before .before .before in let pt2 = pt3 .before .before .before .before in let p2 = pt2 .before in
+    let pt = p2 .before .before .before .before in let p = pt .before in let t3 = p .before .before .before .before in let t2 = t3 .before .before .before .before in
+    let t = t2 .before .before .before .before in let u = t .before .before in let s = u .before .before .before .before .before in
+    start-is (s .pre .0 .sound) (ready-some _ (s .pre .0)) (s .pre .1) _ _ _ _ _ _ _
+    (t .take .result) (t2 .take2 .result) (t3 .take3 .result) (u .unreserved .result) (p .pointer .result) (p2 .pointer2 .result)
+    (t .take .ensures .0) (t2 .take2 .ensures .0) (t3 .take3 .ensures .0) (u .unreserved .ensures .0) (p .pointer .ensures) (p2 .pointer2 .ensures)
+    (t .take .ensures .2) (t2 .take2 .ensures .2) (t3 .take3 .ensures .2) (pt .put-two .ensures) (pt2 .put-two2 .ensures) (pt3 .put-two3 .ensures) (pt4 .put-two4 .ensures)
 
 pub start-spec : {M : Type 1} → statement M
 start-spec =
     tie.close
     (tie.spec
-    bit-page-requires
-    unreserved-requires
-    take-requires
-    take-requires-2
-    take-requires-3
-    pointer-requires
-    put-two-requires
-    pointer-requires-2
-    put-two-requires-2
-    cast-put-two
-    put-two-requires-3
-    sub-put-two
-    put-two-requires-4
-    same-length
-    returns)
+    (λ c κs. search needs) (λ c κs. search needs) take-requires take-requires-2 take-requires-3 (λ c κs. search needs) (λ c κs. search needs) (λ c κs. search needs)
+    (λ c κs. search needs) (λ c. search needs) (λ c κs. search needs) sub-put-two (λ c κs. search needs) (λ c. search needs) returns)

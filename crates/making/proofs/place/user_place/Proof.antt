@@ -3,7 +3,7 @@ use Prim.Native.Nat.{_≤_, _<_}
 use Rattle.book.specs.Create.{raises}
 use Rattle.book.specs.Entries.{unreserved}
 use Rattle.book.specs.Image.{pages}
-use Rattle.book.specs.Pointers.{page}
+use Rattle.book.specs.Pointers.{page, userPointer}
 use Rattle.book.specs.Words.{vol, Vol}
 use Rattle.making.proofs.Between.{with-page, place-first, place-later}
 use Rattle.making.proofs.Ready.{ready-next}
@@ -15,41 +15,31 @@ use native.Mathlib.Omega.{arith}
 use Rattle.making.proofs.place.user_place.Statement.{statement}
 use Rattle.making.proofs.place.user_place.Tie as tie
 
-page-at-requires : tie.Need-page-at-requires
-page-at-requires c κs = search needs
-
 start-requires : tie.Need-start-requires
-start-requires c κs = let s = c .before .before .before .before .before in let i = s .args .img .now in let z : page (vol i 0) 1018 ≡ 0 = omega (arith, c .before .before .page-at .ensures .0) in (s .pre .0, omega (arith, s .pre .2, need-first (vol i) (s .args .u) z))
-
-same-length : tie.Need-same-length
-same-length c = search needs
+start-requires c κs = let s = c .before .before .before .before .before in let i = s .args .img .now in let z : page (vol i 0) userPointer ≡ 0 = omega (arith, c .before .before .page-at .ensures .0) in (s .pre .0, omega (arith, s .pre .2, need-first (vol i) (s .args .u) z))
 
 returns : tie.Need-returns
-returns c = let s = c .before .before .before .before .before .before .before .before in let i = s .args .img .now in let z : page (vol i 0) 1018 ≡ 0 = omega (arith, c .before .before .before .before .before .page-at .ensures .0) in place-first (pages i) (vol i) (s .args .u) z _ (c .before .before .start .ensures)
+returns c =
+    let st = c .before .before in let pa = st .before .before .before in let s = pa .before .before .before in
+    let i = s .args .img .now in let z : page (vol i 0) userPointer ≡ 0 = omega (arith, pa .page-at .ensures .0) in place-first (pages i) (vol i) (s .args .u) z _ (st .start .ensures)
 
 with-user-page-requires : tie.Need-with-user-page-requires
-with-user-page-requires c κs = let s = c .before .before .before .before .before in let i = s .args .img .now in let h : 0 < page (vol i 0) 1018 = omega (arith, c .before .before .page-at .ensures .0) in (s .pre .0, s .pre .1, h, omega (arith, s .pre .2, need-later (vol i) (s .args .u) h))
+with-user-page-requires c κs = let s = c .before .before .before .before .before in let i = s .args .img .now in let h : 0 < page (vol i 0) userPointer = omega (arith, c .before .before .page-at .ensures .0) in (s .pre .0, s .pre .1, h, omega (arith, s .pre .2, need-later (vol i) (s .args .u) h))
 
 with-subindex-requires : tie.Need-with-subindex-requires
-with-subindex-requires c κs = let s = c .before .before .before .before .before .before .before .before .before in let i = s .args .img .now in let h : 0 < page (vol i 0) 1018 = omega (arith, c .before .before .before .before .before .before .page-at .ensures .0) in
-    let W = with-page (pages i) (vol i) (s .pre .0 .sound) (ready-some i (s .pre .0)) (s .args .u) (s .pre .1) h (omega (arith, s .pre .2, need-later (vol i) (s .args .u) h)) in let E = c .before .before .before .with-user-page .ensures in
+with-subindex-requires c κs =
+    let wup = c .before .before .before in let pa = wup .before .before .before in let s = pa .before .before .before in
+    let i = s .args .img .now in let h : 0 < page (vol i 0) userPointer = omega (arith, pa .page-at .ensures .0) in
+    let W = with-page (pages i) (vol i) (s .pre .0 .sound) (ready-some _ (s .pre .0)) (s .args .u) (s .pre .1) h (omega (arith, s .pre .2, need-later (vol i) (s .args .u) h)) in let E = wup .with-user-page .ensures in
     (ready-next i _ (s .pre .0) _ E (W .sound) (omega arith), subst (λ (x : Vol). raises x (s .args .u) ≤ unreserved x) (sym E) (omega (arith, W .asks, W .left, s .pre .2, need-later (vol i) (s .args .u) h)))
 
-same-length-2 : tie.Need-same-length-2
-same-length-2 c = search needs
-
 returns-2 : tie.Need-returns-2
-returns-2 c = let s = c .before .before .before .before .before .before .before .before .before .before .before .before in let i = s .args .img .now in let h : 0 < page (vol i 0) 1018 = omega (arith, c .before .before .before .before .before .before .before .before .before .page-at .ensures .0) in place-later (pages i) (vol i) (s .args .u) h _ _ (c .before .before .before .before .before .before .with-user-page .ensures) _ (c .before .before .with-subindex .ensures) (omega arith)
+returns-2 c =
+    let ws = c .before .before in let wup = ws .before .before .before .before in let pa = wup .before .before .before in let s = pa .before .before .before in
+    let i = s .args .img .now in let h : 0 < page (vol i 0) userPointer = omega (arith, pa .page-at .ensures .0) in place-later (pages i) (vol i) (s .args .u) h _ _ (wup .with-user-page .ensures) _ (ws .with-subindex .ensures) (omega arith)
 
 pub user-place-spec : {M : Type 1} → statement M
 user-place-spec =
     tie.close
     (tie.spec
-    page-at-requires
-    start-requires
-    same-length
-    returns
-    with-user-page-requires
-    with-subindex-requires
-    same-length-2
-    returns-2)
+    (λ c κs. search needs) start-requires (λ c. search needs) returns with-user-page-requires with-subindex-requires (λ c. search needs) returns-2)

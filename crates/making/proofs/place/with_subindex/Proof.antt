@@ -7,24 +7,17 @@ use native.Mathlib.Omega.{arith}
 use Rattle.making.proofs.place.with_subindex.Statement.{statement}
 use Rattle.making.proofs.place.with_subindex.Tie as tie
 
-raises-requires : tie.Need-raises-requires
-raises-requires c κs = search needs
-
-same-length : tie.Need-same-length
-same-length c = search needs
-
 returns : tie.Need-returns
 returns c = let s = c .before .before .before .before in let i = s .args .img .now in sub-kept (pages i) (vol i) (s .args .u) (omega (arith, c .before .raises .ensures .0))
 
 raise-requires : tie.Need-raise-requires
 raise-requires c κs = let s = c .before .before .before .before .before in (s .pre .0, omega (arith, c .before .before .raises .ensures .0, s .pre .1))
 
-same-length-2 : tie.Need-same-length-2
-same-length-2 c = search needs
-
 returns-2 : tie.Need-returns-2
-returns-2 c = let s = c .before .before .before .before .before .before .before .before in let i = s .args .img .now in sub-new (pages i) (vol i) (s .args .u) (omega (arith, c .before .before .before .before .before .raises .ensures .0)) _ (c .before .before .raise .ensures)
+returns-2 c =
+    let r = c .before .before in let ra = r .before .before .before in let s = ra .before .before .before in
+    let i = s .args .img .now in sub-new (pages i) (vol i) (s .args .u) (omega (arith, ra .raises .ensures .0)) _ (r .raise .ensures)
 
 pub with-subindex-spec : {M : Type 1} → statement M
 with-subindex-spec =
-    tie.close (tie.spec raises-requires same-length returns raise-requires same-length-2 returns-2)
+    tie.close (tie.spec (λ c κs. search needs) (λ c. search needs) returns raise-requires (λ c. search needs) returns-2)

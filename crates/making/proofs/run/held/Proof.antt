@@ -12,11 +12,8 @@ returns c = let a = c .before .before .args in ((λ P w B h D. sym (D .taken (a 
 returns-2 : tie.Need-returns-2
 returns-2 c = let a = c .before .before .before .args in ((λ P w B h D. sym (D .taken (a .p) h (inr (c .if2 .taken)))), omega arith)
 
-test-requires : tie.Need-test-requires
-test-requires c κs = search needs
-
 returns-3 : tie.Need-returns-3
 returns-3 c = let a = c .before .before .before .before .args in ((λ P w B h D. c .test .ensures .0 P B h ∙ sym (D .other (a .p) h (c .before .before .if1 .left) (c .before .if2 .left))), c .test .ensures .1)
 
 pub held-spec : {M : Type 1} → statement M
-held-spec = tie.close (tie.spec returns returns-2 test-requires returns-3)
+held-spec = tie.close (tie.spec returns returns-2 (λ c κs. search needs) returns-3)

@@ -27,22 +27,26 @@ loop-less : tie.Need-loop-less Inv-loop μ-loop
 loop-less c = omega arith
 
 loop-again : tie.Need-loop-again Inv-loop μ-loop
-loop-again c = let s = c .before .before .before .before .before in let l = c .before .before .before .loop in
+loop-again c =
+    let lo = c .before .before .before in let s = lo .before .before in let l = lo .loop in
     (omega (arith, l .inv .0), s .pre .2, (λ w D. let e = c .before .held .ensures .0 (s .args .count) w (s .pre .1) (omega (arith, l .inv .0)) D in seen-reserved (s .args .count) w (s .args .n) (l .p) (l .run) (l .inv .2 w D) (omega arith) (s .pre .2) (omega (arith, e))))
 
 add-run : tie.Need-add-run Inv-loop μ-loop
 add-run c = omega (arith, c .before .before .before .loop .inv .1)
 
 returns : tie.Need-returns Inv-loop μ-loop
-returns c = let s = c .before .before .before .before .before .before in let l = c .before .before .before .before .loop in λ w D. let e = c .before .before .held .ensures .0 (s .args .count) w (s .pre .1) (omega (arith, l .inv .0)) D in
-    sym (seen-found (s .args .count) w (s .args .n) (l .p) (l .run) (l .inv .2 w D) (omega arith) (omega arith) (omega (arith, e, c .before .before .held .ensures .1)))
+returns c =
+    let h = c .before .before in let lo = h .before .before in let s = lo .before .before in
+    let l = lo .loop in λ w D. let e = h .held .ensures .0 (s .args .count) w (s .pre .1) (omega (arith, l .inv .0)) D in
+    sym (seen-found (s .args .count) w (s .args .n) (l .p) (l .run) (l .inv .2 w D) (omega arith) (omega arith) (omega (arith, e, h .held .ensures .1)))
 
 loop-less-2 : tie.Need-loop-less-2 Inv-loop μ-loop
 loop-less-2 c = omega arith
 
 loop-again-2 : tie.Need-loop-again-2 Inv-loop μ-loop
-loop-again-2 c = let s = c .before .before .before .before .before .before in let l = c .before .before .before .before .loop in
-    (omega (arith, l .inv .0), omega (arith, l .inv .1), (λ w D. let e = c .before .before .held .ensures .0 (s .args .count) w (s .pre .1) (omega (arith, l .inv .0)) D in seen-free (s .args .count) w (s .args .n) (l .p) (l .run) (l .inv .2 w D) (omega arith) (omega (arith, l .inv .1)) (omega (arith, e, c .before .before .held .ensures .1))))
+loop-again-2 c =
+    let h = c .before .before in let lo = h .before .before in let s = lo .before .before in let l = lo .loop in
+    (omega (arith, l .inv .0), omega (arith, l .inv .1), (λ w D. let e = h .held .ensures .0 (s .args .count) w (s .pre .1) (omega (arith, l .inv .0)) D in seen-free (s .args .count) w (s .args .n) (l .p) (l .run) (l .inv .2 w D) (omega arith) (omega (arith, l .inv .1)) (omega (arith, e, h .held .ensures .1))))
 
 returns-2 : tie.Need-returns-2 Inv-loop μ-loop
 returns-2 c = let s = c .before .before .before in let l = c .before .loop in λ w D. sym (seen-none (s .args .count) w (s .args .n) (l .p) (l .run) (omega arith) (l .inv .2 w D))
@@ -50,16 +54,4 @@ returns-2 c = let s = c .before .before .before in let l = c .before .loop in λ
 pub highest-beside-spec : {M : Type 1} → statement M
 highest-beside-spec =
     tie.close
-    (tie.spec
-    Inv-loop
-    μ-loop
-    loop-holds
-    sub-p
-    held-requires
-    loop-less
-    loop-again
-    add-run
-    returns
-    loop-less-2
-    loop-again-2
-    returns-2)
+    (tie.spec Inv-loop μ-loop loop-holds sub-p held-requires loop-less loop-again add-run returns loop-less-2 loop-again-2 returns-2)

@@ -24,7 +24,9 @@ held-requires c κs = let s = c .before .before .before in (s .pre .0, omega (ar
 
 returns : tie.Need-returns Inv-loop μ-loop
 unfolding lowestFree
-returns c = let s = c .before .before .before .before .before in let l = c .before .before .before .loop in λ w D. let e = c .before .held .ensures .0 (s .args .count) w (s .pre .1) (omega (arith, l .inv .0)) D in
+returns c =
+    let lo = c .before .before .before in let s = lo .before .before in
+    let l = lo .loop in λ w D. let e = c .before .held .ensures .0 (s .args .count) w (s .pre .1) (omega (arith, l .inv .0)) D in
     sym (lowest-at (λ j. 1 - bit (s .args .count) w j) (s .args .count) (l .p) (omega arith) (omega (arith, e)) (l .inv .1 w D))
 
 add-p : tie.Need-add-p Inv-loop μ-loop
@@ -34,7 +36,9 @@ loop-less : tie.Need-loop-less Inv-loop μ-loop
 loop-less c = omega arith
 
 loop-again : tie.Need-loop-again Inv-loop μ-loop
-loop-again c = let s = c .before .before .before .before .before in let l = c .before .before .before .loop in (omega arith, (λ w D. let e = c .before .held .ensures .0 (s .args .count) w (s .pre .1) (omega (arith, l .inv .0)) D in below-more _ (l .p) (l .inv .1 w D) (omega (arith, e, c .before .held .ensures .1))))
+loop-again c =
+    let h = c .before in let lo = h .before .before in let s = lo .before .before in
+    let l = lo .loop in (omega arith, (λ w D. let e = h .held .ensures .0 (s .args .count) w (s .pre .1) (omega (arith, l .inv .0)) D in below-more _ (l .p) (l .inv .1 w D) (omega (arith, e, h .held .ensures .1))))
 
 returns-2 : tie.Need-returns-2 Inv-loop μ-loop
 unfolding lowestFree
@@ -43,13 +47,4 @@ returns-2 c = let s = c .before .before .before in let l = c .before .loop in λ
 pub next-free-spec : {M : Type 1} → statement M
 next-free-spec =
     tie.close
-    (tie.spec
-    Inv-loop
-    μ-loop
-    loop-holds
-    held-requires
-    returns
-    add-p
-    loop-less
-    loop-again
-    returns-2)
+    (tie.spec Inv-loop μ-loop loop-holds held-requires returns add-p loop-less loop-again returns-2)

@@ -4,14 +4,8 @@ use native.Mathlib.Omega.{arith}
 use Rattle.seek.proofs.files.grows.Statement.{statement}
 use Rattle.seek.proofs.files.grows.Tie as tie
 
-file-flags-requires : tie.Need-file-flags-requires
-file-flags-requires c κs = search needs
-
 returns : tie.Need-returns
 returns c = λ h. c .if1 .taken (omega (arith, h .0))
-
-page-count-requires : tie.Need-page-count-requires
-page-count-requires c κs = search needs
 
 returns-2 : tie.Need-returns-2
 returns-2 c = λ h. omega (arith, h .1)
@@ -21,4 +15,4 @@ returns-3 c = λ h. h (omega arith, omega arith)
 
 pub grows-spec : {M : Type 1} → statement M
 grows-spec =
-    tie.close (tie.spec file-flags-requires returns page-count-requires returns-2 returns-3)
+    tie.close (tie.spec (λ c κs. search needs) returns (λ c κs. search needs) returns-2 returns-3)

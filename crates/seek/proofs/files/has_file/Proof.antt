@@ -8,24 +8,17 @@ use borrow.Author.Needs.{needs}
 use Rattle.seek.proofs.files.has_file.Statement.{statement}
 use Rattle.seek.proofs.files.has_file.Tie as tie
 
-has-user-requires : tie.Need-has-user-requires
-has-user-requires c κs = search needs
-
 returns : tie.Need-returns
 returns c = λ h. fails (c .before .has-user .result) _ (c .before .has-user .ensures) (c .if1 .taken) (h .0)
 
-entry-number-requires : tie.Need-entry-number-requires
-entry-number-requires c κs = search needs
-
-object-used-requires : tie.Need-object-used-requires
-object-used-requires c κs = search needs
-
 returns-2 : tie.Need-returns-2
-returns-2 c = let a = c .before .before .before .before .before .args in
-    decides-and (c .object-used .result) _ _ (holds (c .before .before .before .has-user .result) _ (c .before .before .before .has-user .ensures) (c .before .before .if1 .left))
+returns-2 c =
+    let i1 = c .before .before in let hu = i1 .before in let s = hu .before .before in
+    let a = s .args in
+    decides-and (c .object-used .result) _ _ (holds (hu .has-user .result) _ (hu .has-user .ensures) (i1 .if1 .left))
     (subst (λ (e : ℕ). Decides (c .object-used .result) (0 < used (object (vol (a .img .now)) e))) (c .before .entry-number .ensures .0) (c .object-used .ensures))
 
 pub has-file-spec : {M : Type 1} → statement M
 has-file-spec =
     tie.close
-    (tie.spec has-user-requires returns entry-number-requires object-used-requires returns-2)
+    (tie.spec (λ c κs. search needs) returns (λ c κs. search needs) (λ c κs. search needs) returns-2)

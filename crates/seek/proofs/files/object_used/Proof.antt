@@ -13,12 +13,9 @@ use Rattle.seek.proofs.files.object_used.Tie as tie
 object-page-requires : tie.Need-object-page-requires
 object-page-requires c κs = ready-objects _ (c .before .pre)
 
-entry-used-requires : tie.Need-entry-used-requires
-entry-used-requires c κs = search needs
-
 returns : tie.Need-returns
 returns c = let a = c .before .before .before .args in
     subst (λ (w : Words). Decides (c .entry-used .result) (0 < used w)) (object-in (vol (a .img .now)) (a .e) (c .before .object-page .result) (c .before .object-page .ensures .0)) (c .entry-used .ensures)
 
 pub object-used-spec : {M : Type 1} → statement M
-object-used-spec = tie.close (tie.spec object-page-requires entry-used-requires returns)
+object-used-spec = tie.close (tie.spec object-page-requires (λ c κs. search needs) returns)

@@ -28,20 +28,16 @@ root-page-requires c κs = c .before .before .before .before .before .pre .0
 find-on-requires : tie.Need-find-on-requires Inv-loop μ-loop
 find-on-requires c κs = (c .root-page .ensures .1, c .before .before .before .before .before .before .pre .2)
 
-enum-known-r : tie.Need-enum-known-r Inv-loop μ-loop
-enum-known-r c = search needs
-
 index-at-requires : tie.Need-index-at-requires Inv-loop μ-loop
 index-at-requires c κs = let f = c .before .before .before .find-on in
     (omega arith, found-at _ (f .result) (c .before .r .given .0 .0) (c .before .r .given .1) (f .ensures) .0)
 
 returns : tie.Need-returns Inv-loop μ-loop
-returns c = let a = c .before .before .before .before .before .before .before .before .before .before .before .args in let v = vol (a .img .now) in let q = c .before .before .before .before .before .root-page in let f = c .before .before .before .before .find-on in let k = c .before .before .r .given .0 .0 in
-    found-on v (rootBy (a .flags) (a .top) 0) (a .b) (c .before .before .before .before .before .before .before .loop .i) (q .result) (q .ensures .0) (Fits (a .m) (a .name .now) (a .kind .now)) k (c .index-at .result) (omega arith) (c .index-at .ensures)
-    (found-at _ (f .result) k (c .before .before .r .given .1) (f .ensures))
-
-enum-told : tie.Need-enum-told Inv-loop μ-loop
-enum-told c = search needs
+returns c =
+    let r = c .before .before in let fo = r .before .before in let rp = fo .before in let l = rp .before .before in let s = l .before .before .before .before in
+    let a = s .args in let v = vol (a .img .now) in let q = rp .root-page in let f = fo .find-on in let k = r .r .given .0 .0 in
+    found-on v (rootBy (a .flags) (a .top) 0) (a .b) (l .loop .i) (q .result) (q .ensures .0) (Fits (a .m) (a .name .now) (a .kind .now)) k (c .index-at .result) (omega arith) (c .index-at .ensures)
+    (found-at _ (f .result) k (r .r .given .1) (f .ensures))
 
 add-i : tie.Need-add-i Inv-loop μ-loop
 add-i c = omega arith
@@ -50,11 +46,13 @@ loop-less : tie.Need-loop-less Inv-loop μ-loop
 loop-less c = omega arith
 
 loop-again : tie.Need-loop-again Inv-loop μ-loop
-loop-again c = let a = c .before .before .before .before .before .before .before .before .before .args in let v = vol (a .img .now) in let q = c .before .before .before .root-page in let f = c .before .before .find-on in let l = c .before .before .before .before .before .loop in (
-  omega arith,
-  none-on v (rootBy (a .flags) (a .top) 0) (a .b) (l .i) (q .result) (q .ensures .0) (Fits (a .m) (a .name .now) (a .kind .now)) (l .inv .1)
-      (found-none _ (f .result) (c .enum-told .given .1) (f .ensures)),
-)
+loop-again c =
+    let fo = c .before .before in let rp = fo .before in let lo = rp .before .before in let s = lo .before .before .before .before in
+    let a = s .args in let v = vol (a .img .now) in let q = rp .root-page in let f = fo .find-on in let l = lo .loop in (
+      omega arith,
+      none-on v (rootBy (a .flags) (a .top) 0) (a .b) (l .i) (q .result) (q .ensures .0) (Fits (a .m) (a .name .now) (a .kind .now)) (l .inv .1)
+          (found-none _ (f .result) (c .enum-told .given .1) (f .ensures)),
+    )
 
 returns-2 : tie.Need-returns-2 Inv-loop μ-loop
 returns-2 c = λ n h. c .before .loop .inv .1 n (omega (arith, h .0)) (h .1)
@@ -63,17 +61,5 @@ pub find-in-spec : {M : Type 1} → statement M
 find-in-spec =
     tie.close
     (tie.spec
-    Inv-loop
-    μ-loop
-    loop-holds
-    add-root-page
-    root-page-requires
-    find-on-requires
-    enum-known-r
-    index-at-requires
-    returns
-    enum-told
-    add-i
-    loop-less
-    loop-again
+    Inv-loop μ-loop loop-holds add-root-page root-page-requires find-on-requires (λ c. search needs) index-at-requires returns (λ c. search needs) add-i loop-less loop-again
     returns-2)

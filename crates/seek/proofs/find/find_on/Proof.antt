@@ -49,15 +49,4 @@ returns-3 c = λ i h. c .before .loop .inv .1 i (omega (arith, h .0)) (h .1)
 pub find-on-spec : {M : Type 1} → statement M
 find-on-spec =
     tie.close
-    (tie.spec
-    Inv-loop
-    μ-loop
-    returns
-    loop-holds
-    cast-fits
-    fits-requires
-    returns-2
-    add-k
-    loop-less
-    loop-again
-    returns-3)
+    (tie.spec Inv-loop μ-loop returns loop-holds cast-fits fits-requires returns-2 add-k loop-less loop-again returns-3)

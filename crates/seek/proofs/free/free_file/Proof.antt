@@ -27,9 +27,11 @@ object-used-requires c κs = c .before .before .before .before .pre .0
 
 returns : tie.Need-returns Inv-loop μ-loop
 unfolding newFile
-returns c = let a = c .before .before .before .before .before .before .args in let l = c .before .before .before .before .loop in
-    let e = ap (λ (x : ℕ). used (object (vol (a .img .now)) x)) (c .before .before .entry-number .ensures .0) in
-    (sym (lowest-at _ 256 (l .f) (omega arith) (omega (arith, e, fails (c .before .object-used .result) _ (c .before .object-used .ensures) (c .if1 .taken))) (l .inv .1)), l .inv .0)
+returns c =
+    let ou = c .before in let en = ou .before in let lo = en .before .before in let s = lo .before .before in
+    let a = s .args in let l = lo .loop in
+    let e = ap (λ (x : ℕ). used (object (vol (a .img .now)) x)) (en .entry-number .ensures .0) in
+    (sym (lowest-at _ 256 (l .f) (omega arith) (omega (arith, e, fails (ou .object-used .result) _ (ou .object-used .ensures) (c .if1 .taken))) (l .inv .1)), l .inv .0)
 
 add-f : tie.Need-add-f Inv-loop μ-loop
 add-f c = omega arith
@@ -38,9 +40,11 @@ loop-less : tie.Need-loop-less Inv-loop μ-loop
 loop-less c = omega arith
 
 loop-again : tie.Need-loop-again Inv-loop μ-loop
-loop-again c = let a = c .before .before .before .before .before .before .args in let l = c .before .before .before .before .loop in
-    let e = ap (λ (x : ℕ). used (object (vol (a .img .now)) x)) (c .before .before .entry-number .ensures .0) in
-    (omega arith, below-more _ (l .f) (l .inv .1) (omega (arith, e, holds (c .before .object-used .result) _ (c .before .object-used .ensures) (c .if1 .left))))
+loop-again c =
+    let ou = c .before in let en = ou .before in let lo = en .before .before in let s = lo .before .before in
+    let a = s .args in let l = lo .loop in
+    let e = ap (λ (x : ℕ). used (object (vol (a .img .now)) x)) (en .entry-number .ensures .0) in
+    (omega arith, below-more _ (l .f) (l .inv .1) (omega (arith, e, holds (ou .object-used .result) _ (ou .object-used .ensures) (c .if1 .left))))
 
 returns-2 : tie.Need-returns-2 Inv-loop μ-loop
 unfolding newFile
@@ -49,14 +53,4 @@ returns-2 c = (sym (lowest-none _ 256 (λ j h. c .before .loop .inv .1 j (omega 
 pub free-file-spec : {M : Type 1} → statement M
 free-file-spec =
     tie.close
-    (tie.spec
-    Inv-loop
-    μ-loop
-    loop-holds
-    entry-number-requires
-    object-used-requires
-    returns
-    add-f
-    loop-less
-    loop-again
-    returns-2)
+    (tie.spec Inv-loop μ-loop loop-holds entry-number-requires object-used-requires returns add-f loop-less loop-again returns-2)

@@ -44,13 +44,4 @@ returns-2 c = (sym (lowest-none _ 256 (λ j h. c .before .loop .inv .1 j (omega 
 pub free-user-spec : {M : Type 1} → statement M
 free-user-spec =
     tie.close
-    (tie.spec
-    Inv-loop
-    μ-loop
-    loop-holds
-    has-user-requires
-    returns
-    add-u
-    loop-less
-    loop-again
-    returns-2)
+    (tie.spec Inv-loop μ-loop loop-holds has-user-requires returns add-u loop-less loop-again returns-2)

@@ -26,10 +26,12 @@ object-used-requires : tie.Need-object-used-requires Inv-loop μ-loop
 object-used-requires c κs = c .before .before .before .before .pre .0
 
 returns : tie.Need-returns Inv-loop μ-loop
-returns c = λ h.
-    let a = c .before .before .before .before .before .before .args in let l = c .before .before .before .before .loop in
-    let e = ap (λ (x : ℕ). used (object (vol (a .img .now)) x)) (c .before .before .entry-number .ensures .0) in
-    omega (arith, e, h (l .f) (omega arith), holds (c .before .object-used .result) _ (c .before .object-used .ensures) (ap not (c .if1 .taken)))
+returns c =
+    let ou = c .before in let en = ou .before in let lo = en .before .before in let s = lo .before .before in
+    λ h.
+    let a = s .args in let l = lo .loop in
+    let e = ap (λ (x : ℕ). used (object (vol (a .img .now)) x)) (en .entry-number .ensures .0) in
+    omega (arith, e, h (l .f) (omega arith), holds (ou .object-used .result) _ (ou .object-used .ensures) (ap not (c .if1 .taken)))
 
 add-f : tie.Need-add-f Inv-loop μ-loop
 add-f c = omega arith
@@ -38,9 +40,11 @@ loop-less : tie.Need-loop-less Inv-loop μ-loop
 loop-less c = omega arith
 
 loop-again : tie.Need-loop-again Inv-loop μ-loop
-loop-again c = let a = c .before .before .before .before .before .before .args in let l = c .before .before .before .before .loop in
-    let e = ap (λ (x : ℕ). used (object (vol (a .img .now)) x)) (c .before .before .entry-number .ensures .0) in
-    (omega arith, below-more _ (l .f) (l .inv .1) (omega (arith, e, fails (c .before .object-used .result) _ (c .before .object-used .ensures) (ap not (c .if1 .left)))))
+loop-again c =
+    let ou = c .before in let en = ou .before in let lo = en .before .before in let s = lo .before .before in
+    let a = s .args in let l = lo .loop in
+    let e = ap (λ (x : ℕ). used (object (vol (a .img .now)) x)) (en .entry-number .ensures .0) in
+    (omega arith, below-more _ (l .f) (l .inv .1) (omega (arith, e, fails (ou .object-used .result) _ (ou .object-used .ensures) (ap not (c .if1 .left)))))
 
 returns-2 : tie.Need-returns-2 Inv-loop μ-loop
 returns-2 c = λ j h. c .before .loop .inv .1 j (omega arith)
@@ -48,14 +52,4 @@ returns-2 c = λ j h. c .before .loop .inv .1 j (omega arith)
 pub no-files-spec : {M : Type 1} → statement M
 no-files-spec =
     tie.close
-    (tie.spec
-    Inv-loop
-    μ-loop
-    loop-holds
-    entry-number-requires
-    object-used-requires
-    returns
-    add-f
-    loop-less
-    loop-again
-    returns-2)
+    (tie.spec Inv-loop μ-loop loop-holds entry-number-requires object-used-requires returns add-f loop-less loop-again returns-2)

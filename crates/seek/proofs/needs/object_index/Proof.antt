@@ -11,35 +11,31 @@ use native.Mathlib.Omega.{arith}
 use Rattle.seek.proofs.needs.object_index.Statement.{statement}
 use Rattle.seek.proofs.needs.object_index.Tie as tie
 
-flags-at-requires : tie.Need-flags-at-requires
-flags-at-requires c κs = search needs
-
-page-at-requires : tie.Need-page-at-requires
-page-at-requires c κs = search needs
-
-cast-top : tie.Need-cast-top
-cast-top c = search needs
-
 returns : tie.Need-returns
-returns c = let s = c .before .before .before .before in let v = vol (s .args .img .now) in let x = c .before .before .flags-at .result in let t = c .before .page-at .result in
-    let r = index-read v (s .args .e) x t (c .before .before .flags-at .ensures .0) (c .before .page-at .ensures .0) in
+returns c =
+    let pa = c .before in let fa = pa .before in let s = fa .before .before in
+    let v = vol (s .args .img .now) in let x = fa .flags-at .result in let t = pa .page-at .result in
+    let r = index-read v (s .args .e) x t (fa .flags-at .ensures .0) (pa .page-at .ensures .0) in
     (sym (r ∙ index-none v x t _ (omega arith)), ready-some _ (s .pre .0))
 
 returns-2 : tie.Need-returns-2
-returns-2 c = let s = c .before .before .before .before .before in let v = vol (s .args .img .now) in let x = c .before .before .before .flags-at .result in let t = c .before .before .page-at .result in
-    let r = index-read v (s .args .e) x t (c .before .before .before .flags-at .ensures .0) (c .before .before .page-at .ensures .0) in
-    (sym (r ∙ index-one v x t _ (omega arith)), omega (arith, c .before .before .page-at .ensures .0, object-top (pages (s .args .img .now)) v (s .pre .0 .sound) (ready-some _ (s .pre .0))))
-
-of-requires : tie.Need-of-requires
-of-requires c κs = search needs
+returns-2 c =
+    let pa = c .before .before in let fa = pa .before in let s = fa .before .before in
+    let v = vol (s .args .img .now) in let x = fa .flags-at .result in let t = pa .page-at .result in
+    let r = index-read v (s .args .e) x t (fa .flags-at .ensures .0) (pa .page-at .ensures .0) in
+    (sym (r ∙ index-one v x t _ (omega arith)), omega (arith, pa .page-at .ensures .0, object-top (pages (s .args .img .now)) v (s .pre .0 .sound) (ready-some _ (s .pre .0))))
 
 slot-at-requires : tie.Need-slot-at-requires
-slot-at-requires c κs = let s = c .before .before .before .before .before .before in let v = vol (s .args .img .now) in
-    (omega (arith, c .before .before .before .page-at .ensures .0, object-top (pages (s .args .img .now)) v (s .pre .0 .sound) (ready-some _ (s .pre .0))), omega arith)
+slot-at-requires c κs =
+    let pa = c .before .before .before in let s = pa .before .before .before in
+    let v = vol (s .args .img .now) in
+    (omega (arith, pa .page-at .ensures .0, object-top (pages (s .args .img .now)) v (s .pre .0 .sound) (ready-some _ (s .pre .0))), omega arith)
 
 returns-3 : tie.Need-returns-3
-returns-3 c = let s = c .before .before .before .before .before .before .before in let v = vol (s .args .img .now) in let x = c .before .before .before .before .before .flags-at .result in let t = c .before .before .before .before .page-at .result in
-    let r = index-read v (s .args .e) x t (c .before .before .before .before .before .flags-at .ensures .0) (c .before .before .before .before .page-at .ensures .0) in
+returns-3 c =
+    let pa = c .before .before .before .before in let fa = pa .before in let s = fa .before .before in
+    let v = vol (s .args .img .now) in let x = fa .flags-at .result in let t = pa .page-at .result in
+    let r = index-read v (s .args .e) x t (fa .flags-at .ensures .0) (pa .page-at .ensures .0) in
     let e = c .slot-at .ensures .0 ∙ ap (λ (n : ℕ). slot v t (n / 512)) (c .before .of .ensures .0) ∙ sym (r ∙ index-two v x t _ (omega arith)) in
     (e, omega (arith, e, index-below (pages (s .args .img .now)) v (s .pre .0 .sound) (ready-some _ (s .pre .0)) (s .args .e) (s .pre .1)))
 
@@ -47,11 +43,4 @@ pub object-index-spec : {M : Type 1} → statement M
 object-index-spec =
     tie.close
     (tie.spec
-    flags-at-requires
-    page-at-requires
-    cast-top
-    returns
-    returns-2
-    of-requires
-    slot-at-requires
-    returns-3)
+    (λ c κs. search needs) (λ c κs. search needs) (λ c. search needs) returns returns-2 (λ c κs. search needs) slot-at-requires returns-3)

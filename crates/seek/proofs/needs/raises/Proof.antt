@@ -5,15 +5,12 @@ use native.Mathlib.Nat.{zero-mul, mul-zero}
 use Rattle.sums.specs.Sum.{is, is-same, is-other}
 use Rattle.sums.specs.Search.{atLeast}
 use Rattle.book.specs.Words.{vol}
-use Rattle.book.specs.Pointers.{flags}
+use Rattle.book.specs.Pointers.{flags, objectPointer}
 use Rattle.book.specs.Create.{raises}
 use borrow.Author.Needs.{needs}
 use native.Mathlib.Omega.{arith}
 use Rattle.seek.proofs.needs.raises.Statement.{statement}
 use Rattle.seek.proofs.needs.raises.Tie as tie
-
-flags-at-requires : tie.Need-flags-at-requires
-flags-at-requires c κs = search needs
 
 returns : tie.Need-returns
 unfolding raises
@@ -23,7 +20,7 @@ returns c = let u = c .before .before .before .args .u in
 
 returns-2 : tie.Need-returns-2
 unfolding raises
-returns-2 c = let a = c .before .before .before .before .args in let i = is (flags (vol (a .img .now) 0) 1016) 1 in
+returns-2 c = let a = c .before .before .before .before .args in let i = is (flags (vol (a .img .now) 0) objectPointer) 1 in
     let z : atLeast 64 (a .u) ≡ 0 = omega arith in
     (sym (ap (λ (x : ℕ). i * x) z ∙ mul-zero i), omega arith)
 
@@ -34,4 +31,4 @@ returns-3 c = let o : atLeast 64 (c .before .before .before .before .args .u) �
     (sym (ap₂ (λ (x y : ℕ). is x 1 * y) f o ∙ ap (λ (x : ℕ). x * 1) (is-same 1)), omega arith)
 
 pub raises-spec : {M : Type 1} → statement M
-raises-spec = tie.close (tie.spec flags-at-requires returns returns-2 returns-3)
+raises-spec = tie.close (tie.spec (λ c κs. search needs) returns returns-2 returns-3)

@@ -13,9 +13,6 @@ use native.Mathlib.Omega.{arith}
 use Rattle.seek.proofs.positions.address.Statement.{statement}
 use Rattle.seek.proofs.positions.address.Tie as tie
 
-entry-number-requires : tie.Need-entry-number-requires
-entry-number-requires c κs = search needs
-
 file-page-requires : tie.Need-file-page-requires
 file-page-requires c κs = let s = c .before .before in (ready-objects _ (s .pre .0), ready-file _ (s .pre .0) (c .entry-number .result) (c .entry-number .ensures .1))
 
@@ -25,4 +22,4 @@ returns c = let s = c .before .before .before in let v = vol (s .args .img .now)
     (e, c .file-page .ensures .1, λ h. omega (arith, e, position-page (pages (s .args .img .now)) v (s .pre .0 .sound) (fileEntry (s .args .u) (s .args .f)) n (omega arith) (h .1) (h .2)))
 
 pub address-spec : {M : Type 1} → statement M
-address-spec = tie.close (tie.spec entry-number-requires file-page-requires returns)
+address-spec = tie.close (tie.spec (λ c κs. search needs) file-page-requires returns)

@@ -4,12 +4,9 @@ use borrow.Author.Needs.{needs}
 use Rattle.seek.proofs.users.given.Statement.{statement}
 use Rattle.seek.proofs.users.given.Tie as tie
 
-user-two-requires : tie.Need-user-two-requires
-user-two-requires c κs = search needs
-
 returns : tie.Need-returns
 unfolding given
 returns c = c .user-two .ensures
 
 pub given-spec : {M : Type 1} → statement M
-given-spec = tie.close (tie.spec user-two-requires returns)
+given-spec = tie.close (tie.spec (λ c κs. search needs) returns)

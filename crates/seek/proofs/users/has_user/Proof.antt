@@ -13,12 +13,9 @@ use Rattle.seek.proofs.users.has_user.Tie as tie
 user-page-requires : tie.Need-user-page-requires
 user-page-requires c κs = ready-users _ (c .before .pre)
 
-entry-used-requires : tie.Need-entry-used-requires
-entry-used-requires c κs = search needs
-
 returns : tie.Need-returns
 returns c = let a = c .before .before .before .args in
     subst (λ (w : Words). Decides (c .entry-used .result) (0 < used w)) (user-in (vol (a .img .now)) (a .u) (c .before .user-page .result) (c .before .user-page .ensures .0)) (c .entry-used .ensures)
 
 pub has-user-spec : {M : Type 1} → statement M
-has-user-spec = tie.close (tie.spec user-page-requires entry-used-requires returns)
+has-user-spec = tie.close (tie.spec user-page-requires (λ c κs. search needs) returns)

@@ -6,12 +6,6 @@ use native.Mathlib.Omega.{arith}
 use Rattle.seek.proofs.users.spare.Statement.{statement}
 use Rattle.seek.proofs.users.spare.Tie as tie
 
-given-requires : tie.Need-given-requires
-given-requires c κs = search needs
-
-used-pages-requires : tie.Need-used-pages-requires
-used-pages-requires c κs = search needs
-
 sub-result : tie.Need-sub-result
 sub-result c = let s = c .before .before .before in omega (arith, ready-within _ (s .pre .0) (s .args .u) (s .pre .1) (s .pre .2))
 
@@ -20,4 +14,4 @@ unfolding spare
 returns c = omega arith
 
 pub spare-spec : {M : Type 1} → statement M
-spare-spec = tie.close (tie.spec given-requires used-pages-requires sub-result returns)
+spare-spec = tie.close (tie.spec (λ c κs. search needs) (λ c κs. search needs) sub-result returns)

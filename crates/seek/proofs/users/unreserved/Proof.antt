@@ -4,12 +4,9 @@ use borrow.Author.Needs.{needs}
 use Rattle.seek.proofs.users.unreserved.Statement.{statement}
 use Rattle.seek.proofs.users.unreserved.Tie as tie
 
-two-at-requires : tie.Need-two-at-requires
-two-at-requires c κs = search needs
-
 returns : tie.Need-returns
 unfolding unreserved
 returns c = c .two-at .ensures
 
 pub unreserved-spec : {M : Type 1} → statement M
-unreserved-spec = tie.close (tie.spec two-at-requires returns)
+unreserved-spec = tie.close (tie.spec (λ c κs. search needs) returns)

@@ -4,12 +4,9 @@ use borrow.Author.Needs.{needs}
 use Rattle.seek.proofs.users.used_pages.Statement.{statement}
 use Rattle.seek.proofs.users.used_pages.Tie as tie
 
-user-two-requires : tie.Need-user-two-requires
-user-two-requires c κs = search needs
-
 returns : tie.Need-returns
 unfolding usedPages
 returns c = c .user-two .ensures
 
 pub used-pages-spec : {M : Type 1} → statement M
-used-pages-spec = tie.close (tie.spec user-two-requires returns)
+used-pages-spec = tie.close (tie.spec (λ c κs. search needs) returns)

@@ -25,11 +25,11 @@ page-at-requires c κs = omega arith
 cast-top : tie.Need-cast-top Inv-loop μ-loop
 cast-top c = omega arith
 
-no-blocks-requires : tie.Need-no-blocks-requires Inv-loop μ-loop
-no-blocks-requires c κs = search needs
+no-marks-requires : tie.Need-no-marks-requires Inv-loop μ-loop
+no-marks-requires c κs = search needs
 
 loop-holds : tie.Need-loop-holds Inv-loop μ-loop
-loop-holds c = (omega arith, known-none _ _ _ (c .no-blocks .ensures .0) (c .no-blocks .ensures .1), right-none _ _ 0)
+loop-holds c = (omega arith, known-none _ _ _ (c .no-marks .ensures), right-none _ _ 0)
 
 position-ok-requires : tie.Need-position-ok-requires Inv-loop μ-loop
 position-ok-requires c κs =
@@ -70,7 +70,7 @@ rule7-spec =
     flags-at-requires
     page-at-requires
     cast-top
-    no-blocks-requires
+    no-marks-requires
     loop-holds
     position-ok-requires
     returns

@@ -9,16 +9,11 @@ use Rattle.steps.proofs.write.write_step.Tie as tie
 file-page-requires : tie.Need-file-page-requires
 file-page-requires c κs = let s = c .before .before .before in (ready-objects _ (s .pre .0), ready-file _ (s .pre .0) (s .args .e) (s .pre .1))
 
-copy-page-requires : tie.Need-copy-page-requires
-copy-page-requires c κs = search needs
-
-same-length : tie.Need-same-length
-same-length c = search needs
-
 returns : tie.Need-returns
 returns c =
-    let z = c .before .before in let q = z .before .before in let a = q .before .before .before .before .args in
+    let z = c .before .before in
+    let q = z .before .before in let a = q .before .before .before .before .args in
     written-is (vol (a .img .now)) _ (a .e) (a .n) (q .file-page .result) (a .«data» .now) (q .file-page .ensures .0) (z .copy-page .ensures)
 
 pub write-step-spec : {M : Type 1} → statement M
-write-step-spec = tie.close (tie.spec file-page-requires copy-page-requires same-length returns)
+write-step-spec = tie.close (tie.spec file-page-requires (λ c κs. search needs) (λ c. search needs) returns)

@@ -4,12 +4,13 @@ use native.Mathlib.Omega.{arith}
 use borrow.Author.Needs.{needs}
 use borrow.Author.Count.{below-none, below-more}
 use lib.ListN.{length}
-use Rattle.tree.specs.Blocks.{Blank}
+use Rattle.book.specs.Words.{zeros}
+use Rattle.page.specs.Parts.{Begins}
 use Rattle.tree.proofs.block.blank.Statement.{statement}
 use Rattle.tree.proofs.block.blank.Tie as tie
 
 abbrev Inv-loop : tie.InvT-loop
-Inv-loop part any₀ i₀ any i = (i ≤ length part) × (any ≡ 0 → Blank part i) × (Blank part i → any ≡ 0)
+Inv-loop part any₀ i₀ any i = (i ≤ length part) × (any ≡ 0 → Begins i part zeros) × (Begins i part zeros → any ≡ 0)
 
 abbrev μ-loop : tie.MeasureT-loop
 μ-loop part any₀ i₀ any i = length part - i

@@ -8,9 +8,10 @@ use Rattle.book.specs.Image.{pages}
 use Rattle.walk.specs.declared.Walk.the-variants.{On, Met}
 use Rattle.walk.specs.Walked.{WalkedOn}
 use Rattle.walk.specs.Short.{PointersBelow}
-use Rattle.walk.proofs.Marked.{marking-new, marking-old}
+use Rattle.bits.proofs.Marked.{marking-new, marking-old}
+use Rattle.tree.proofs.Blocks.{pointer-read}
 use Rattle.walk.proofs.Walks.{rowOf, row-start, row-on, row-met, row-end}
-use Rattle.walk.proofs.Pointers.{below-top, slotsOf, slot-read, slot-below, slot-short, slot-weigh, block-walking, block-below, block-short, block-all, row-level, pointer-none, pointer-met, pointer-block, mark-fits, mark-walking}
+use Rattle.walk.proofs.Pointers.{below-top, slotsOf, slot-below, slot-short, slot-weigh, block-walking, block-below, block-short, block-all, row-level, pointer-none, pointer-met, pointer-block, mark-fits, mark-walking}
 use Rattle.walk.proofs.pages.mark_block.Reads as mark-block
 use Rattle.walk.proofs.pages.mark_block.Kinds as mark-block-kinds
 use Rattle.walk.proofs.pages.+mark_block+mark_pointer.Lts-mark_block as mark-block-lts
@@ -18,7 +19,7 @@ use Rattle.walk.proofs.pages.mark_pointer.Reads as mark-pointer
 use Rattle.walk.proofs.pages.mark_pointer.Kinds as mark-pointer-kinds
 use Rattle.walk.proofs.pages.+mark_block+mark_pointer.Lts-mark_pointer as mark-pointer-lts
 use Rattle.page.proofs.read.dword.Reads as dword-reads
-use Rattle.walk.proofs.marks.mark.Reads as mark-reads
+use Rattle.bits.proofs.marks.mark.Reads as mark-reads
 use Rattle.walk.proofs.pages.mark_pages.Reads as mark-pages-reads
 use Rattle.walk.proofs.pages.pointers.Reads as pointers-reads
 use Rattle.walk.proofs.pages.under.Reads as under-reads
@@ -111,7 +112,7 @@ mark-block-under-requires t c κs = omega arith
 
 mark-block-mark-pointer-requires : (t : ℕ) → mark-block-lts.Need-mark-pointer-requires (block-calls t) (mark-block-at t) mark-block.Post mark-block-Inv-loop mark-block-μ-loop
 mark-block-mark-pointer-requires t c κs =
-    let s = c .before .before .before .before .before .before .before .before .before in let a = s .args in let img = a .img .now in let bk = a .block .now in let l = c .before .before .before .before .loop in let e = slot-read bk (l .i) _ (c .before .before .dword .result) refl (c .before .before .dword .ensures .0) in (
+    let s = c .before .before .before .before .before .before .before .before .before in let a = s .args in let img = a .img .now in let bk = a .block .now in let l = c .before .before .before .before .loop in let e = pointer-read bk (l .i) _ (c .before .before .dword .ensures .0) in (
       omega (arith, s .pre .0),
       (
         block-walking img bk _ (s .pre .1 .1) (l .i) (omega arith) _ _ _ _ (s .pre .1 .0) (l .inv .1),
@@ -132,7 +133,7 @@ mark-block-returns-2 : (t : ℕ) → mark-block-lts.Need-returns-2 (block-calls 
 mark-block-returns-2 t c =
     let s = c .before .before .before .before .before .before .before .before .before .before .before .before in let a = s .args in let img = a .img .now in let bk = a .block .now in let l = c .before .before .before .before .before .before .before .loop in let n = c .before .before .before .before .before .before .before .before .before .pointers in
     block-all img bk (a .level) (a .count) (s .pre .1 .2) (n .result) (n .ensures .0) (n .ensures .1) (pages img) (a .marks .now) (a .visited) (a .marks .now) Met
-    (row-met _ _ _ (slotsOf img (a .level) bk) (l .i) _ _ (l .inv .1) _ (slot-weigh img bk _ (s .pre .1 .1) (l .i) _ (slot-read bk (l .i) _ (c .before .before .before .before .before .dword .result) refl (c .before .before .before .before .before .dword .ensures .0))) _ _
+    (row-met _ _ _ (slotsOf img (a .level) bk) (l .i) _ _ (l .inv .1) _ (slot-weigh img bk _ (s .pre .1 .1) (l .i) _ (pointer-read bk (l .i) _ (c .before .before .before .before .before .dword .ensures .0))) _ _
     (c .before .before .mark-pointer .ensures) (c .enum-told .given .1) (n .result) (omega arith) (a .marks .now))
 
 mark-block-add-i : (t : ℕ) → mark-block-lts.Need-add-i (block-calls t) (mark-block-at t) mark-block.Post mark-block-Inv-loop mark-block-μ-loop
@@ -145,7 +146,7 @@ mark-block-loop-again : (t : ℕ) → mark-block-lts.Need-loop-again (block-call
 mark-block-loop-again t c =
     let s = c .before .before .before .before .before .before .before .before .before .before .before .before .before in let a = s .args in let img = a .img .now in let bk = a .block .now in let l = c .before .before .before .before .before .before .before .before .loop in (
       omega arith,
-      row-on _ _ _ (slotsOf img (a .level) bk) (l .i) _ _ (l .inv .1) _ (slot-weigh img bk _ (s .pre .1 .1) (l .i) _ (slot-read bk (l .i) _ (c .before .before .before .before .before .before .dword .result) refl (c .before .before .before .before .before .before .dword .ensures .0))) _ _
+      row-on _ _ _ (slotsOf img (a .level) bk) (l .i) _ _ (l .inv .1) _ (slot-weigh img bk _ (s .pre .1 .1) (l .i) _ (pointer-read bk (l .i) _ (c .before .before .before .before .before .before .dword .ensures .0))) _ _
           (c .before .before .before .mark-pointer .ensures) _ (c .before .x .given .1),
     )
 

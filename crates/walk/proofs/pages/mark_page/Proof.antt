@@ -7,7 +7,7 @@ use Rattle.book.specs.Trees.{weigh}
 use Rattle.book.specs.Image.{pages}
 use Rattle.walk.specs.declared.Walk.the-variants.{On}
 use Rattle.walk.specs.Walked.{Walked}
-use Rattle.walk.proofs.Marked.{marking-new, marking-old, new-other}
+use Rattle.bits.proofs.Marked.{marking-new, marking-old, new-other}
 use Rattle.walk.proofs.Pointers.{below-top, pointer-none, pointer-met, pointer-page, mark-fits}
 use Rattle.walk.proofs.pages.mark_page.Statement.{statement}
 use Rattle.walk.proofs.pages.mark_page.Tie as tie

@@ -2,7 +2,7 @@ use Prim.Native.Nat.{ℕ, _-_, _*_, _/_, _%_, _^_, _≤_, _<_}
 use mathlib.Core.Path.{_≡_, sym, ap, _∙_}
 use native.Mathlib.Omega.{arith}
 use borrow.Author.Needs.{needs}
-use Rattle.walk.specs.Marks.{marked}
+use Rattle.bits.specs.Marks.{marked}
 use Rattle.walk.proofs.Lows.{low-whole, words-same, words-differ}
 use Rattle.walk.proofs.same.same_words.Statement.{statement}
 use Rattle.walk.proofs.same.same_words.Tie as tie

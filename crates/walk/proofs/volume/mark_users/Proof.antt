@@ -1,7 +1,8 @@
 use Rattle.book.specs.Image.{pages}
 use Rattle.book.specs.Words.{vol}
 use Rattle.walk.proofs.Entries.{walked-root}
-use Rattle.walk.proofs.Holding.{user-root, below-same}
+use Rattle.tree.proofs.Reach.{user-root}
+use Rattle.walk.proofs.Holding.{below-same}
 use Rattle.walk.proofs.Short.{short-same}
 use borrow.Author.Needs.{needs}
 use Rattle.walk.proofs.volume.mark_users.Statement.{statement}

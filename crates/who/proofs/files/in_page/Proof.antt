@@ -10,10 +10,6 @@ use Rattle.who.specs.Places.{In}
 use Rattle.who.proofs.Among.{Without, entry-at, absent-none, page-all, entry-held}
 use Rattle.who.proofs.files.in_page.Statement.{statement}
 use Rattle.who.proofs.files.in_page.Tie as tie
-use Rattle.who.proofs.files.in_page.Reads as reads
-use Rattle.who.proofs.files.in_page.Lts as lts
-use Rattle.who.proofs.files.holder_of.Reads as holder-of-reads
-use Rattle.who.proofs.files.in_entry.Reads as in-entry-reads
 
 abbrev Inv-loop : tie.InvT-loop
 Inv-loop img q i p k₀ k = (k ≤ 32) × ((j : ℕ) → j < k → Without (vol img) p (32 * i + j))
@@ -37,18 +33,14 @@ in-entry-requires : tie.Need-in-entry-requires Inv-loop μ-loop
 in-entry-requires c κs = let s = c .before .before .before .before in let a = s .args in let v = vol (a .img .now) in let k = c .before .loop .k in let h : (32 * a .i + k) / 32 ≡ a .i = omega arith in
     (s .pre .0, omega arith, entry-at v (a .q) (a .i) (32 * a .i + k) (s .pre .2) h, s .pre .3, s .pre .4, s .pre .5)
 
-enum-known-r : tie.Need-enum-known-r Inv-loop μ-loop
-enum-known-r c = search needs
-
 holder-of-requires : tie.Need-holder-of-requires Inv-loop μ-loop
 holder-of-requires c κs = omega arith
 
 returns-2 : tie.Need-returns-2 Inv-loop μ-loop
-returns-2 c = let s = c .before .before .before .before .before .before .before .before .before in let a = s .args in let v = vol (a .img .now) in let e = 32 * a .i + c .before .before .before .before .before .before .loop .k in let r = c .before .before .r .given in
-    entry-held v (a .p) e (r .0 .0) (c .holder-of .result) (omega arith) (c .holder-of .ensures) (subst (In v (fileAt v e) (a .p)) (r .1) (c .before .before .before .before .in-entry .ensures))
-
-enum-told : tie.Need-enum-told Inv-loop μ-loop
-enum-told c = search needs
+returns-2 c =
+    let rx = c .before .before in let ie = rx .before .before in let l = ie .before .before in let s = l .before .before .before in
+    let a = s .args in let v = vol (a .img .now) in let e = 32 * a .i + l .loop .k in let r = rx .r .given in
+    entry-held v (a .p) e (r .0 .0) (c .holder-of .result) (omega arith) (c .holder-of .ensures) (subst (In v (fileAt v e) (a .p)) (r .1) (ie .in-entry .ensures))
 
 add-k : tie.Need-add-k Inv-loop μ-loop
 add-k c = omega arith
@@ -57,8 +49,10 @@ loop-less : tie.Need-loop-less Inv-loop μ-loop
 loop-less c = omega arith
 
 loop-again : tie.Need-loop-again Inv-loop μ-loop
-loop-again c = let s = c .before .before .before .before .before .before .before in let a = s .args in let v = vol (a .img .now) in let l = c .before .before .before .before .loop in
-    (omega arith, below-more (λ (j : ℕ). Without v (a .p) (32 * a .i + j)) (l .k) (l .inv .1) (subst (In v (fileAt v (32 * a .i + l .k)) (a .p)) (c .enum-told .given .1) (c .before .before .in-entry .ensures)))
+loop-again c =
+    let ie = c .before .before in let lo = ie .before .before in let s = lo .before .before .before in
+    let a = s .args in let v = vol (a .img .now) in let l = lo .loop in
+    (omega arith, below-more (λ (j : ℕ). Without v (a .p) (32 * a .i + j)) (l .k) (l .inv .1) (subst (In v (fileAt v (32 * a .i + l .k)) (a .p)) (c .enum-told .given .1) (ie .in-entry .ensures)))
 
 returns-3 : tie.Need-returns-3 Inv-loop μ-loop
 returns-3 c = let s = c .before .before .before .before in let a = s .args in let v = vol (a .img .now) in let l = c .before .loop in page-all (Without v (a .p)) (a .i) (λ k h. l .inv .1 k (omega (arith, h)))
@@ -67,18 +61,4 @@ pub in-page-spec : {M : Type 1} → statement M
 in-page-spec =
     tie.close
     (tie.spec
-    Inv-loop
-    μ-loop
-    returns
-    loop-holds
-    mul-e
-    add-e
-    in-entry-requires
-    enum-known-r
-    holder-of-requires
-    returns-2
-    enum-told
-    add-k
-    loop-less
-    loop-again
-    returns-3)
+    Inv-loop μ-loop returns loop-holds mul-e add-e in-entry-requires (λ c. search needs) holder-of-requires returns-2 (λ c. search needs) add-k loop-less loop-again returns-3)

@@ -7,27 +7,15 @@ use Rattle.who.specs.Places.{In}
 use borrow.Author.Needs.{needs}
 use Rattle.who.proofs.roles.find_master.Statement.{statement}
 use Rattle.who.proofs.roles.find_master.Tie as tie
-use Rattle.who.proofs.roles.find_master.Reads as reads
-use Rattle.who.proofs.roles.find_master.Lts as lts
-use Rattle.page.proofs.read.flags_at.Reads as flags-at-reads
-use Rattle.page.proofs.read.page_at.Reads as page-at-reads
-use Rattle.who.proofs.roles.find_role.Reads as find-role-reads
-
-flags-at-requires : tie.Need-flags-at-requires
-flags-at-requires c κs = search needs
-
-page-at-requires : tie.Need-page-at-requires
-page-at-requires c κs = search needs
-
-cast-top : tie.Need-cast-top
-cast-top c = search needs
 
 find-role-requires : tie.Need-find-role-requires
 find-role-requires c κs = let s = c .before .before .before in let a = s .args in let v = vol (a .img .now) in (reach-same _ _ _ (root-read (v 0) (a .k) 0 (c .before .flags-at .result) (c .page-at .result) 0 (c .before .flags-at .ensures .0) (c .page-at .ensures .0) refl) (s .pre .0), s .pre .2, s .pre .3)
 
 returns : tie.Need-returns
-returns c = let s = c .before .before .before .before in let a = s .args in let v = vol (a .img .now) in subst (λ (r : Root). In v r (a .p) (c .find-role .result)) (sym (root-read (v 0) (a .k) 0 (c .before .before .flags-at .result) (c .before .page-at .result) 0 (c .before .before .flags-at .ensures .0) (c .before .page-at .ensures .0) refl)) (c .find-role .ensures)
+returns c =
+    let pa = c .before in let fa = pa .before in let s = fa .before .before in
+    let a = s .args in let v = vol (a .img .now) in subst (λ (r : Root). In v r (a .p) (c .find-role .result)) (sym (root-read (v 0) (a .k) 0 (fa .flags-at .result) (pa .page-at .result) 0 (fa .flags-at .ensures .0) (pa .page-at .ensures .0) refl)) (c .find-role .ensures)
 
 pub find-master-spec : {M : Type 1} → statement M
 find-master-spec =
-    tie.close (tie.spec flags-at-requires page-at-requires cast-top find-role-requires returns)
+    tie.close (tie.spec (λ c κs. search needs) (λ c κs. search needs) (λ c. search needs) find-role-requires returns)

@@ -10,11 +10,6 @@ use Rattle.who.proofs.ByKind.{by-run, by-one, by-two, by-bad, empty-non
 use borrow.Author.Needs.{needs}
 use Rattle.who.proofs.roles.find_role.Statement.{statement}
 use Rattle.who.proofs.roles.find_role.Tie as tie
-use Rattle.who.proofs.roles.find_role.Reads as reads
-use Rattle.who.proofs.roles.find_role.Lts as lts
-use Rattle.who.proofs.roles.find_one.Reads as find-one-reads
-use Rattle.who.proofs.roles.find_run.Reads as find-run-reads
-use Rattle.who.proofs.roles.find_two.Reads as find-two-reads
 
 find-one-requires : tie.Need-find-one-requires
 find-one-requires c κs = let s = c .before .before in let a = s .args in let v = vol (a .img .now) in (slots-one v _ (a .flags) (a .top) (a .count) (s .pre .0 .below) (c .if1 .taken) 0 (omega arith) .0, s .pre .1)
@@ -28,9 +23,6 @@ find-two-requires c κs = let s = c .before .before .before in let a = s .args i
 returns-2 : tie.Need-returns-2
 returns-2 c = let s = c .before .before .before .before in let a = s .args in let v = vol (a .img .now) in subst (λ (r : Root). In v r (a .p) (c .find-two .result)) (sym (by-two (a .flags) (a .top) (a .count) (c .before .if2 .taken))) (c .find-two .ensures)
 
-find-run-requires : tie.Need-find-run-requires
-find-run-requires c κs = search needs
-
 returns-3 : tie.Need-returns-3
 returns-3 c = let s = c .before .before .before .before .before in let a = s .args in let v = vol (a .img .now) in subst (λ (r : Root). In v r (a .p) (c .find-run .result)) (sym (by-run (a .flags) (a .top) (a .count) (c .before .if3 .taken))) (c .find-run .ensures v)
 
@@ -40,11 +32,4 @@ returns-4 c = let s = c .before .before .before .before in let a = s .args in le
 pub find-role-spec : {M : Type 1} → statement M
 find-role-spec =
     tie.close
-    (tie.spec
-    find-one-requires
-    returns
-    find-two-requires
-    returns-2
-    find-run-requires
-    returns-3
-    returns-4)
+    (tie.spec find-one-requires returns find-two-requires returns-2 (λ c κs. search needs) returns-3 returns-4)

@@ -41,14 +41,4 @@ returns-2 c = λ i h. c .before .loop .inv .1 i (omega (arith, h .0)) (h .1)
 pub find-slot-spec : {M : Type 1} → statement M
 find-slot-spec =
     tie.close
-    (tie.spec
-    Inv-loop
-    μ-loop
-    loop-holds
-    cast-slot-at
-    slot-at-requires
-    returns
-    add-k
-    loop-less
-    loop-again
-    returns-2)
+    (tie.spec Inv-loop μ-loop loop-holds cast-slot-at slot-at-requires returns add-k loop-less loop-again returns-2)

@@ -10,9 +10,6 @@ use Rattle.who.specs.Places.{InSlot}
 use Rattle.who.proofs.ByKind.{two-top, two-none}
 use Rattle.who.proofs.roles.find_two.Statement.{statement}
 use Rattle.who.proofs.roles.find_two.Tie as tie
-use Rattle.who.proofs.roles.find_two.Reads as reads
-use Rattle.who.proofs.roles.find_two.Lts as lts
-use Rattle.who.proofs.roles.find_under.Reads as find-under-reads
 
 abbrev Inv-loop : tie.InvT-loop
 Inv-loop img top p k₀ k = (k ≤ 512) × ((i : ℕ) → i < k → InSlot (vol img) top i p Nowhere)
@@ -29,14 +26,10 @@ loop-holds c = (omega arith, below-none _)
 find-under-requires : tie.Need-find-under-requires Inv-loop μ-loop
 find-under-requires c κs = let s = c .before .before .before .before in (s .pre .0, omega arith, s .pre .1)
 
-enum-known-r : tie.Need-enum-known-r Inv-loop μ-loop
-enum-known-r c = search needs
-
 returns-2 : tie.Need-returns-2 Inv-loop μ-loop
-returns-2 c = let a = c .before .before .before .before .before .before .before .before .args in let f = c .before .before .before .find-under in subst (InSlot (vol (a .img .now)) (a .top) (c .before .before .before .before .before .loop .k) (a .p)) (c .before .r .given .1) (f .ensures)
-
-enum-told : tie.Need-enum-told Inv-loop μ-loop
-enum-told c = search needs
+returns-2 c =
+    let fu = c .before .before .before in let l = fu .before .before in let s = l .before .before .before in
+    let a = s .args in let f = fu .find-under in subst (InSlot (vol (a .img .now)) (a .top) (l .loop .k) (a .p)) (c .before .r .given .1) (f .ensures)
 
 add-k : tie.Need-add-k Inv-loop μ-loop
 add-k c = omega arith
@@ -45,7 +38,9 @@ loop-less : tie.Need-loop-less Inv-loop μ-loop
 loop-less c = omega arith
 
 loop-again : tie.Need-loop-again Inv-loop μ-loop
-loop-again c = let a = c .before .before .before .before .before .before .before .args in let v = vol (a .img .now) in let l = c .before .before .before .before .loop in let f = c .before .before .find-under in
+loop-again c =
+    let fu = c .before .before in let lo = fu .before .before in let s = lo .before .before .before in
+    let a = s .args in let v = vol (a .img .now) in let l = lo .loop in let f = fu .find-under in
     (omega arith, below-more (λ (i : ℕ). InSlot v (a .top) i (a .p) Nowhere) (l .k) (l .inv .1) (subst (InSlot v (a .top) (l .k) (a .p)) (c .enum-told .given .1) (f .ensures)))
 
 returns-3 : tie.Need-returns-3 Inv-loop μ-loop
@@ -55,15 +50,4 @@ pub find-two-spec : {M : Type 1} → statement M
 find-two-spec =
     tie.close
     (tie.spec
-    Inv-loop
-    μ-loop
-    returns
-    loop-holds
-    find-under-requires
-    enum-known-r
-    returns-2
-    enum-told
-    add-k
-    loop-less
-    loop-again
-    returns-3)
+    Inv-loop μ-loop returns loop-holds find-under-requires (λ c. search needs) returns-2 (λ c. search needs) add-k loop-less loop-again returns-3)

@@ -9,11 +9,6 @@ use Rattle.who.proofs.ByKind.{two-below, two-index, two-data}
 use borrow.Author.Needs.{needs}
 use Rattle.who.proofs.roles.find_under.Statement.{statement}
 use Rattle.who.proofs.roles.find_under.Tie as tie
-use Rattle.who.proofs.roles.find_under.Reads as reads
-use Rattle.who.proofs.roles.find_under.Lts as lts
-use Rattle.page.proofs.read.slot_at.Reads as slot-at-reads
-use Rattle.who.proofs.roles.find_slot.Reads as find-slot-reads
-use Rattle.who.proofs.roles.position.Reads as position-reads
 
 slot-at-requires : tie.Need-slot-at-requires
 slot-at-requires c κs = let s = c .before in let a = s .args in (omega (arith, two-below (a .img .now) (a .top) (a .k) (s .pre .0) (s .pre .1) .0), omega arith)
@@ -24,36 +19,29 @@ returns c = let s = c .before .before .before in let a = s .args in two-index (v
 find-slot-requires : tie.Need-find-slot-requires
 find-slot-requires c κs = let s = c .before .before .before in let a = s .args in omega (arith, c .before .slot-at .ensures .0, two-below (a .img .now) (a .top) (a .k) (s .pre .0) (s .pre .1) .1)
 
-enum-known-r : tie.Need-enum-known-r
-enum-known-r c = search needs
-
 position-requires : tie.Need-position-requires
-position-requires c κs = let s = c .before .before .before .before .before .before .before in let a = s .args in let v = vol (a .img .now) in let b = c .before .before .before .before .before .slot-at in let f = c .before .before .before .find-slot in let r = c .before .r .given in
+position-requires c κs =
+    let fs = c .before .before .before in let sa = fs .before .before in let s = sa .before .before in
+    let a = s .args in let v = vol (a .img .now) in let b = sa .slot-at in let f = fs .find-slot in let r = c .before .r .given in
     (s .pre .1, found-at (λ (j : ℕ). (j < 512) × (slot v (b .result) j ≡ a .p)) (f .result) (r .0 .0) (r .1) (f .ensures) .0)
 
 returns-2 : tie.Need-returns-2
-returns-2 c = let s = c .before .before .before .before .before .before .before .before in let a = s .args in let v = vol (a .img .now) in let b = c .before .before .before .before .before .before .slot-at in let f = c .before .before .before .before .find-slot in let r = c .before .before .r .given in
+returns-2 c =
+    let rx = c .before .before in let fs = rx .before .before in let sa = fs .before .before in let s = sa .before .before in
+    let a = s .args in let v = vol (a .img .now) in let b = sa .slot-at in let f = fs .find-slot in let r = rx .r .given in
     let d = found-at (λ (j : ℕ). (j < 512) × (slot v (b .result) j ≡ a .p)) (f .result) (r .0 .0) (r .1) (f .ensures) in
     two-data v (a .p) (a .top) (a .k) (r .0 .0) (c .position .result) (s .pre .1) (d .0) (c .position .ensures) (ap (λ (x : ℕ). slot v x (r .0 .0)) (sym (b .ensures .0)) ∙ d .1)
 
-enum-told : tie.Need-enum-told
-enum-told c = search needs
-
 returns-3 : tie.Need-returns-3
-returns-3 c = let s = c .before .before .before .before .before .before in let a = s .args in let v = vol (a .img .now) in let b = c .before .before .before .before .slot-at in let f = c .before .before .find-slot in (
-  λ e. c .before .before .before .if1 .left (b .ensures .0 ∙ e),
-  λ j h. found-none (λ (j : ℕ). (j < 512) × (slot v (b .result) j ≡ a .p)) (f .result) (c .enum-told .given .1) (f .ensures) j (h .0, ap (λ (x : ℕ). slot v x j) (b .ensures .0) ∙ h .1),
-)
+returns-3 c =
+    let fs = c .before .before in let i1 = fs .before in let sa = i1 .before in let s = sa .before .before in
+    let a = s .args in let v = vol (a .img .now) in let b = sa .slot-at in let f = fs .find-slot in (
+      λ e. i1 .if1 .left (b .ensures .0 ∙ e),
+      λ j h. found-none (λ (j : ℕ). (j < 512) × (slot v (b .result) j ≡ a .p)) (f .result) (c .enum-told .given .1) (f .ensures) j (h .0, ap (λ (x : ℕ). slot v x j) (b .ensures .0) ∙ h .1),
+    )
 
 pub find-under-spec : {M : Type 1} → statement M
 find-under-spec =
     tie.close
     (tie.spec
-    slot-at-requires
-    returns
-    find-slot-requires
-    enum-known-r
-    position-requires
-    returns-2
-    enum-told
-    returns-3)
+    slot-at-requires returns find-slot-requires (λ c. search needs) position-requires returns-2 (λ c. search needs) returns-3)

@@ -10,49 +10,33 @@ use Rattle.who.proofs.Telling.{told-master, told-bits, bits-none}
 use borrow.Author.Needs.{needs}
 use Rattle.who.proofs.tell.who.Statement.{statement}
 use Rattle.who.proofs.tell.who.Tie as tie
-use Rattle.who.proofs.tell.who.Reads as reads
-use Rattle.who.proofs.tell.who.Lts as lts
-use Rattle.bits.proofs.test.Reads as test-reads
-use Rattle.page.proofs.read.page_at.Reads as page-at-reads
-use Rattle.who.proofs.tell.held.Reads as held-reads
 
 returns : tie.Need-returns
 returns c = let s = c .before .before in let a = s .args in let v = vol (a .img .now) in told-master (pages (a .img .now)) v (a .p) (c .if1 .taken)
-
-page-at-requires : tie.Need-page-at-requires
-page-at-requires c κs = search needs
-
-cast-b : tie.Need-cast-b
-cast-b c = search needs
 
 test-requires : tie.Need-test-requires
 test-requires c κs = let s = c .before .before .before in let a = s .args in let v = vol (a .img .now) in let P = pages (a .img .now) in let g = c .page-at in let f = subst (BitsAt P v) (sym (g .ensures .0)) (bits-at P v (s .pre .0 .whole .most) (s .pre .0 .sound .r1)) in
     (omega (arith, f .below), omega (arith, s .pre .1, s .pre .0 .whole .most))
 
 returns-2 : tie.Need-returns-2
-returns-2 c = let s = c .before .before .before .before .before in let a = s .args in let v = vol (a .img .now) in let P = pages (a .img .now) in let g = c .before .before .page-at in let f = subst (BitsAt P v) (sym (g .ensures .0)) (bits-at P v (s .pre .0 .whole .most) (s .pre .0 .sound .r1)) in
+returns-2 c =
+    let pa = c .before .before in let s = pa .before .before .before in
+    let a = s .args in let v = vol (a .img .now) in let P = pages (a .img .now) in let g = pa .page-at in let f = subst (BitsAt P v) (sym (g .ensures .0)) (bits-at P v (s .pre .0 .whole .most) (s .pre .0 .sound .r1)) in
     told-free P v (s .pre .0 .sound) (a .p) (s .pre .1) (sym (c .before .test .ensures .0 P f (s .pre .1)) ∙ c .if2 .taken)
 
 returns-3 : tie.Need-returns-3
-returns-3 c = let s = c .before .before .before .before .before .before in let a = s .args in let v = vol (a .img .now) in let P = pages (a .img .now) in let g = c .before .before .before .page-at in let f = subst (BitsAt P v) (sym (g .ensures .0)) (bits-at P v (s .pre .0 .whole .most) (s .pre .0 .sound .r1)) in
+returns-3 c =
+    let pa = c .before .before .before in let s = pa .before .before .before in
+    let a = s .args in let v = vol (a .img .now) in let P = pages (a .img .now) in let g = pa .page-at in let f = subst (BitsAt P v) (sym (g .ensures .0)) (bits-at P v (s .pre .0 .whole .most) (s .pre .0 .sound .r1)) in
     told-bits P v (g .result) (a .p) f (omega arith) (c .if3 .taken)
 
 held-requires : tie.Need-held-requires
-held-requires c κs = let s = c .before .before .before .before .before .before in let a = s .args in let v = vol (a .img .now) in let P = pages (a .img .now) in let g = c .before .before .before .page-at in let f = subst (BitsAt P v) (sym (g .ensures .0)) (bits-at P v (s .pre .0 .whole .most) (s .pre .0 .sound .r1)) in
+held-requires c κs =
+    let pa = c .before .before .before in let s = pa .before .before .before in
+    let a = s .args in let v = vol (a .img .now) in let P = pages (a .img .now) in let g = pa .page-at in let f = subst (BitsAt P v) (sym (g .ensures .0)) (bits-at P v (s .pre .0 .whole .most) (s .pre .0 .sound .r1)) in
     (s .pre .0, omega arith, s .pre .1, bits-none P v (g .result) (a .p) f (omega arith) (c .if3 .left))
-
-returns-4 : tie.Need-returns-4
-returns-4 c = search needs
 
 pub who-spec : {M : Type 1} → statement M
 who-spec =
     tie.close
-    (tie.spec
-    returns
-    page-at-requires
-    cast-b
-    test-requires
-    returns-2
-    returns-3
-    held-requires
-    returns-4)
+    (tie.spec returns (λ c κs. search needs) (λ c. search needs) test-requires returns-2 returns-3 held-requires (λ c. search needs))

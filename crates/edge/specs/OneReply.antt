@@ -1,0 +1,139 @@
+-- Two replies that meet a call's statement are the same, and so is the image afterwards: once for any call that gives one value, then for each call. Assumes nothing.
+use mathlib.Core.Path.{_≡_, sym, ap, subst, _∙_}
+use mathlib.Core.List.{List}
+use Prim.Native.Nat.{ℕ}
+use native.Mathlib.Decide.{ℕ-discrete}
+use Rattle.book.specs.Answers.{Numbers}
+use Rattle.book.specs.Outcome.{Call, Single}
+use Rattle.book.specs.Coincide.{one-outcome}
+use Rattle.book.specs.Calls.{checkCall, findUserCall, findFileCall, addressCall, whoCall, formatCall, formatDefaultCall, createUserCall, deleteUserCall, giveCall, takeCall}
+use Rattle.book.specs.Calls.{createIndexedCall, createContiguousCall, growCall, shrinkCall, deleteFileCall, writeCall, openCall}
+use Rattle.book.specs.Format.{middle}
+use Rattle.book.specs.Image.{pages}
+use Rattle.book.specs.declared.Holder.{Holder}
+use Rattle.laws.specs.Call.Singles.{single-check, single-address, single-create-user, single-delete-user, single-give, single-take, single-create-indexed, single-create-contiguous, single-grow, single-shrink, single-delete-file, single-write, single-open, single-find-user, single-find-file}
+use Rattle.laws.specs.Count.Who.{single-who}
+use Rattle.laws.specs.Format.Call.{single-format}
+use Rattle.edge.specs.Replied.{inNumbers, Replied, HeldAs, Held, Placed, Lies}
+use Rattle.edge.specs.declared.spell.Reply.{Reply}
+use Rattle.edge.specs.declared.spell.HolderReply.{HolderReply}
+use Rattle.edge.specs.declared.spell.Part.{Part}
+
+-- ---- structs with equal fields are equal
+
+same-reply : (r s : Reply) → r .number ≡ s .number → r .rule ≡ s .rule → r .value ≡ s .value → r ≡ s
+same-reply r s a b c =
+    ap (λ (x : ℕ). mk x (r .rule) (r .value)) a ∙ ap (λ (x : ℕ). mk (s .number) x (r .value)) b ∙ ap (λ (x : ℕ). mk (s .number) (s .rule) x) c
+  where
+    mk : ℕ → ℕ → ℕ → Reply
+    mk n x y = record { number = n; rule = x; value = y }
+
+same-holder : (r s : HolderReply) → r .number ≡ s .number → r .rule ≡ s .rule → r .kind ≡ s .kind → r .user ≡ s .user → r .file ≡ s .file → r .position ≡ s .position → r ≡ s
+same-holder r s a b c d e f =
+    ap (λ (x : ℕ). mk x (r .rule) (r .kind) (r .user) (r .file) (r .position)) a
+    ∙ ap (λ (x : ℕ). mk (s .number) x (r .kind) (r .user) (r .file) (r .position)) b
+    ∙ ap (λ (x : ℕ). mk (s .number) (s .rule) x (r .user) (r .file) (r .position)) c
+    ∙ ap (λ (x : ℕ). mk (s .number) (s .rule) (s .kind) x (r .file) (r .position)) d
+    ∙ ap (λ (x : ℕ). mk (s .number) (s .rule) (s .kind) (s .user) x (r .position)) e
+    ∙ ap (λ (x : ℕ). mk (s .number) (s .rule) (s .kind) (s .user) (s .file) x) f
+  where
+    mk : ℕ → ℕ → ℕ → ℕ → ℕ → ℕ → HolderReply
+    mk n x k u g p = record { number = n; rule = x; kind = k; user = u; file = g; position = p }
+
+same-part : (r s : Part) → r .offset ≡ s .offset → r .length ≡ s .length → r ≡ s
+same-part r s a b = ap (λ (x : ℕ). mk x (r .length)) a ∙ ap (λ (x : ℕ). mk (s .offset) x) b
+  where
+    mk : ℕ → ℕ → Part
+    mk o l = record { offset = o; length = l }
+
+-- ---- for any call that gives one value
+
+-- a reply, and the image afterwards
+pub one-reply : (C : Call ℕ) → Single C → (img : List ℕ) (r s : Reply) (a b : List ℕ) → Replied C img r a → Replied C img s b → (r ≡ s) × (a ≡ b)
+unfolding Replied
+one-reply C u img r s a b x y =
+    let o = one-outcome C u img (inNumbers (r .number) (r .value) (r .rule)) (inNumbers (s .number) (s .value) (s .rule)) a b x y in
+    (same-reply r s (ap (λ (n : Numbers ℕ). n .number) (o .0)) (ap (λ (n : Numbers ℕ). n .rule) (o .0)) (ap (λ (n : Numbers ℕ). n .value) (o .0)), o .1)
+
+-- a holder
+pub one-held : (C : Call Holder) → Single C → (img : List ℕ) (r s : HolderReply) → Held C img r → Held C img s → r ≡ s
+unfolding Held
+one-held C u img r s (m, x, p) (n, y, q) =
+    let t : HeldAs m s = subst (λ (k : Numbers Holder). HeldAs k s) (sym (one-outcome C u img m n img img x y .0)) q in
+    same-holder r s (p .0 ∙ sym (t .0)) (p .1 ∙ sym (t .1)) (p .2 ∙ sym (t .2)) (p .3 ∙ sym (t .3)) (p .4 ∙ sym (t .4)) (p .5 ∙ sym (t .5))
+
+-- a part of the image
+pub one-lies : (C : Call ℕ) → Single C → (img : List ℕ) (r s : Part) → Lies C img r → Lies C img s → r ≡ s
+unfolding Lies
+one-lies C u img r s (m, x, p) (n, y, q) =
+    let t : Placed m s = subst (λ (k : Numbers ℕ). Placed k s) (sym (one-outcome C u img m n img img x y .0)) q in
+    elim (ℕ-discrete (m .number) 0) [
+      | yes h ↦ same-part r s (p .0 h .0 ∙ sym (t .0 h .0)) (p .0 h .1 ∙ sym (t .0 h .1))
+      | no h ↦ same-part r s (p .1 h .0 ∙ sym (t .1 h .0)) (p .1 h .1 ∙ sym (t .1 h .1))
+    ]
+
+-- ---- for each call
+
+-- the call has one reply and leaves one image
+abbrev pub OneReply : List ℕ → Call ℕ → Type 0
+OneReply img C = (r s : Reply) (a b : List ℕ) → Replied C img r a → Replied C img s b → (r ≡ s) × (a ≡ b)
+
+module _ (img : List ℕ) where
+  pub one-check : OneReply img (checkCall img)
+  one-check = one-reply _ (single-check img) img
+
+  pub one-find-user : (name : List ℕ) → OneReply img (findUserCall img name)
+  one-find-user name = one-reply _ (single-find-user img name) img
+
+  pub one-format : (name : List ℕ) (b : ℕ) → OneReply img (formatCall img name b)
+  one-format name b = one-reply _ (single-format img name b) img
+
+  pub one-format-default : (name : List ℕ) → OneReply img (formatDefaultCall img name)
+  one-format-default name = one-format name (middle (pages img))
+
+  pub one-create-user : (name : List ℕ) → OneReply img (createUserCall img name)
+  one-create-user name = one-reply _ (single-create-user img name) img
+
+  pub one-who : (page : ℕ) (r s : HolderReply) → Held (whoCall img page) img r → Held (whoCall img page) img s → r ≡ s
+  one-who page = one-held _ (single-who img page) img
+
+  module _ (u : ℕ) where
+    pub one-find-file : (name type : List ℕ) → OneReply img (findFileCall img u name type)
+    one-find-file name type = one-reply _ (single-find-file img u name type) img
+
+    pub one-delete-user : OneReply img (deleteUserCall img u)
+    one-delete-user = one-reply _ (single-delete-user img u) img
+
+    pub one-give : (n : ℕ) → OneReply img (giveCall img u n)
+    one-give n = one-reply _ (single-give img u n) img
+
+    pub one-take : (n : ℕ) → OneReply img (takeCall img u n)
+    one-take n = one-reply _ (single-take img u n) img
+
+    pub one-create-indexed : (name type : List ℕ) (created : ℕ) → OneReply img (createIndexedCall img u name type created)
+    one-create-indexed name type created = one-reply _ (single-create-indexed img u name type created) img
+
+    pub one-create-contiguous : (name type : List ℕ) (created n : ℕ) → OneReply img (createContiguousCall img u name type created n)
+    one-create-contiguous name type created n = one-reply _ (single-create-contiguous img u name type created n) img
+
+    module _ (f : ℕ) where
+      pub one-address : (n : ℕ) → OneReply img (addressCall img u f n)
+      one-address n = one-reply _ (single-address img u f n) img
+
+      pub one-read : (n : ℕ) (r s : Part) → Lies (addressCall img u f n) img r → Lies (addressCall img u f n) img s → r ≡ s
+      one-read n = one-lies _ (single-address img u f n) img
+
+      pub one-grow : OneReply img (growCall img u f)
+      one-grow = one-reply _ (single-grow img u f) img
+
+      pub one-shrink : OneReply img (shrinkCall img u f)
+      one-shrink = one-reply _ (single-shrink img u f) img
+
+      pub one-delete-file : OneReply img (deleteFileCall img u f)
+      one-delete-file = one-reply _ (single-delete-file img u f) img
+
+      pub one-write : (n : ℕ) (d : List ℕ) → OneReply img (writeCall img u f n d)
+      one-write n d = one-reply _ (single-write img u f n d) img
+
+      pub one-open : OneReply img (openCall img u f)
+      one-open = one-reply _ (single-open img u f) img
