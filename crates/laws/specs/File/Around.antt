@@ -5,7 +5,7 @@ use Prim.Native.Nat.{ℕ, _+_, _*_, _/_, _%_, _<_, suc}
 use native.Mathlib.Omega.{arith}
 use Rattle.book.specs.Bits.{bitPage, bitWord, mark, claim}
 use Rattle.book.specs.Entries.{objectPage, userPage, Table, user, object, usedPages}
-use Rattle.book.specs.Files.{fileAt, need}
+use Rattle.book.specs.Files.{fileAt, need, pageBytes}
 use Rattle.book.specs.Grow.{finish}
 use Rattle.book.specs.Holders.{hit}
 use Rattle.book.specs.Pointers.{setSlot}
@@ -55,7 +55,7 @@ unfolding finish
 only-finish A v U O a e n ptr x o u =
     only-trans A v v₃ _ (only-trans A v v₂ v₃ (only-trans A v v₁ v₂
     (only-wider _ A v v₁ (λ p j h. o p j (h .0, omega (arith, h .1), omega (arith, h .2))) (only-put2 v O (w + 26) n))
-    (only-wider _ A v₁ v₂ (λ p j h. o p j (h .0, omega (arith, h .1), omega (arith, h .2))) (only-put2 v₁ O (w + 28) (2048 * n))))
+    (only-wider _ A v₁ v₂ (λ p j h. o p j (h .0, omega (arith, h .1), omega (arith, h .2))) (only-put2 v₁ O (w + 28) (pageBytes * n))))
     (only-wider _ A v₂ v₃ (λ p j h. o p j (h .0, omega (arith, h .1), omega (arith, h .2))) (only-put2 v₂ O (w + 30) ptr)))
     (only-wider _ A v₃ _ u (only-put2 v₃ U (32 * (a % 32) + 16) x))
   where
@@ -66,7 +66,7 @@ only-finish A v U O a e n ptr x o u =
     v₁ = put2 v O (w + 26) n
 
     v₂ : Vol
-    v₂ = put2 v₁ O (w + 28) (2048 * n)
+    v₂ = put2 v₁ O (w + 28) (pageBytes * n)
 
     v₃ : Vol
     v₃ = put2 v₂ O (w + 30) ptr

@@ -6,11 +6,11 @@ use native.Mathlib.Nat.{le-trans, eq-zero-or-pos}
 use native.Mathlib.Decide.{ℕ-discrete, decLt}
 use native.Mathlib.Omega.{arith}
 use Rattle.sums.specs.Sum.{sum, sum-at, sum-at₂, sum-none, sum-change}
-use Rattle.book.specs.Bits.{bitFile, bitPage, bit, digit}
+use Rattle.book.specs.Bits.{bitFile, bitPage, bit, digit, bitWord, pageBits}
 use Rattle.book.specs.Entries.{entry, userFile, objectFile, user, object, used, usedPages, grant, unreserved}
 use Rattle.book.specs.Files.{fileAt}
 use Rattle.book.specs.Holders.{hit, some, all, system, mine, systemPages}
-use Rattle.book.specs.Pointers.{flags}
+use Rattle.book.specs.Pointers.{flags, objectPointer, unreservedCount}
 use Rattle.book.specs.Rules.{Rule10}
 use Rattle.book.specs.Trees.{Root, weighR, blocksR, pageAt}
 use Rattle.book.specs.Words.{Vol, two, word}
@@ -132,7 +132,7 @@ module _ (P : ℕ) (v : Vol) (hand : ℕ → ℕ) (G : Good P v hand) (pos : 0 <
     pub none : D 0 ≡ 0
     pub only : all P v D ≡ weighR v (fileAt v (256 * a + f)) D
     pub agree : Agree (λ x. D x + (hit O x + hit U x)) v v′
-    pub master : (k : ℕ) → k < 1022 → v′ 0 k ≡ v 0 k
+    pub master : (k : ℕ) → k < unreservedCount → v′ 0 k ≡ v 0 k
     pub onO : (k : ℕ) → Outside (256 * a + f) k → word v′ O k ≡ word v O k
     pub onU : (k : ℕ) → Outside a k → word v′ U k ≡ word v U k
 
@@ -256,9 +256,9 @@ module _ (P : ℕ) (v : Vol) (hand : ℕ → ℕ) (G : Good P v hand) (pos : 0 <
     pub bits-same : (p : ℕ) → p < P → bit P v′ p ≡ bit P v p
     unfolding bit bitPage Agree
     bits-same p h =
-        ap (λ (r : Root). digit (p % 16) (word v′ (pageAt v′ r (p / 16384)) (p % 16384 / 16))) (bits-root v v′ roots P)
-        ∙ ap (λ (x : ℕ). digit (p % 16) (word v′ x (p % 16384 / 16))) (pageAt-frame v v′ C (E .agree) (bitFile P v) (omega (arith, c-bits, blocksR-le v (bitFile P v) C)) (p / 16384))
-        ∙ ap (digit (p % 16)) (E .agree (pageAt v (bitFile P v) (p / 16384)) (omega (arith, c-bits, pageAt-le v C c0 (bitFile P v) (p / 16384))) (p % 16384 / 16))
+        ap (λ (r : Root). digit (p % 16) (word v′ (pageAt v′ r (p / pageBits)) (bitWord p))) (bits-root v v′ roots P)
+        ∙ ap (λ (x : ℕ). digit (p % 16) (word v′ x (bitWord p))) (pageAt-frame v v′ C (E .agree) (bitFile P v) (omega (arith, c-bits, blocksR-le v (bitFile P v) C)) (p / pageBits))
+        ∙ ap (digit (p % 16)) (E .agree (pageAt v (bitFile P v) (p / pageBits)) (omega (arith, c-bits, pageAt-le v C c0 (bitFile P v) (p / pageBits))) (bitWord p))
 
     -- the trees' weights
     pub zeroB : (r : Root) → weighR v r C ≡ 0 → blocksR v r C ≡ 0
@@ -306,8 +306,8 @@ module _ (P : ℕ) (v : Vol) (hand : ℕ → ℕ) (G : Good P v hand) (pos : 0 <
       pub userNew : UserNew v′ a
       pub fileNew : FileNew P v′ a f
       pub owner : (h : ℕ) → h < 256 → 0 < used (object v′ (256 * a + h)) → 0 < used (user v′ a)
-      pub high : flags (v 0) 1016 ≡ 1 → 63 < a → used (user v′ a) ≡ 0
-      pub balance : two (v′ 0) 1022 + grant (user v′) a ≡ two (v 0) 1022 + grant (user v) a
+      pub high : flags (v 0) objectPointer ≡ 1 → 63 < a → used (user v′ a) ≡ 0
+      pub balance : two (v′ 0) unreservedCount + grant (user v′) a ≡ two (v 0) unreservedCount + grant (user v) a
       pub count : 0 < used (user v′ a) → usedPages (user v′) a ≡ mine v′ a some
 
     module _ (gone new : (ℕ → ℕ) → ℕ) (hand′ : ℕ → ℕ) (F : Fine gone new hand′) where
@@ -333,7 +333,7 @@ module _ (P : ℕ) (v : Vol) (hand : ℕ → ℕ) (G : Good P v hand) (pos : 0 <
             )
           ]
 
-      five : flags (v 0) 1016 ≡ 1 → (u : ℕ) → 63 < u → u < 256 → used (user v u) ≡ 0 → used (user v′ u) ≡ 0
+      five : flags (v 0) objectPointer ≡ 1 → (u : ℕ) → 63 < u → u < 256 → used (user v u) ≡ 0 → used (user v′ u) ≡ 0
       five k u i j z = elim (ℕ-discrete u a) [
         | yes q ↦ subst (λ (x : ℕ). used (user v′ x) ≡ 0) (sym q) (F .high k (omega arith))
         | no n ↦ used-same P v v′ a f ha hf entries u j n ∙ z

@@ -5,6 +5,7 @@ use Prim.Native.Nat.{ℕ, _+_, _≤_, _<_}
 use native.Mathlib.Decide.{ℕ-discrete, decLt}
 use native.Mathlib.Omega.{arith}
 use Rattle.book.specs.Entries.{entryWord}
+use Rattle.book.specs.Pointers.{unreservedCount}
 use Rattle.book.specs.Words.{Words, Vol, put, put2, putWords, wipe}
 use Rattle.book.specs.Written.{put-page, put-word, put2-page, put2-word, putWords-page, putWords-low, putWords-high, wipe-page}
 
@@ -33,7 +34,7 @@ FieldOf q n j m = WordsOf q (entryWord n + j) m
 
 -- the unreserved pages' two words of page 0
 abbrev pub UnreservedWords : Places
-UnreservedWords = WordsOf 0 1022 2
+UnreservedWords = WordsOf 0 unreservedCount 2
 
 abbrev pub Either : Places → Places → Places
 Either A B p k = A p k ⊎ B p k
