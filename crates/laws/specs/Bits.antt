@@ -1,6 +1,7 @@
 -- Bits and pages in hand: chosen, claimed, marked, given back.
 pub mod Choose
 pub mod Claim
+pub mod Claims
 pub mod Freed
 pub mod Highest
 pub mod Mark

@@ -21,7 +21,8 @@ use Rattle.book.specs.Words.{Vol, vol, word}
 use Rattle.book.specs.Written.{word-ext}
 use Rattle.laws.specs.Call.After.{Stepped, Called, called}
 use Rattle.laws.specs.Count.Good.{Good, good, most, bit-le, sound-within}
-use Rattle.laws.specs.Frame.Edit.{Outside, obj-page, position, entry-other}
+use Rattle.laws.specs.Frame.Edit.{obj-page, position, entry-other}
+use Rattle.laws.specs.Frame.Fields.{Outside}
 use Rattle.laws.specs.Frame.Places.{Places, FieldOf, OnlyAt, only-put}
 use Rattle.laws.specs.Frame.Quiet.{Quiet, Stays, quiet-address, quiet-sound}
 use Rattle.laws.specs.Frame.Rest.{rest, all-rest}

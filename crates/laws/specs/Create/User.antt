@@ -24,8 +24,8 @@ use Rattle.laws.specs.Count.Good.{Good, good, sound, free, mine-unused, 
 use Rattle.laws.specs.Create.NewEntry.{user-used, user-name, user-own, user-zero}
 use Rattle.laws.specs.Create.UserPlace.{UserPlaceWords, UserPlaced, user-placed}
 use Rattle.laws.specs.File.Packed.{packed-legal}
-use Rattle.laws.specs.Frame.Edit.{Outside, user-page}
-use Rattle.laws.specs.Frame.Fields.{entry-page, entry-agree, entry-outside, entry-here}
+use Rattle.laws.specs.Frame.Edit.{user-page}
+use Rattle.laws.specs.Frame.Fields.{Outside, entry-page, entry-agree, entry-outside, entry-here}
 use Rattle.laws.specs.Frame.Places.{Places, EntryOf, Either, OnlyAt, only-then, only-wider, only-putWords}
 use Rattle.laws.specs.Frame.Renewed.{UserNew}
 use Rattle.laws.specs.Frame.Roots.{zero-none, Roots, blocksR-le}

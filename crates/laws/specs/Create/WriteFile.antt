@@ -12,8 +12,8 @@ use Rattle.book.specs.Words.{Vol, Words, two, word}
 use Rattle.book.specs.Written.{word-pos, word-ext}
 use Rattle.laws.specs.Count.Good.{Good}
 use Rattle.laws.specs.Frame.Beside.{Beside, edit-beside}
-use Rattle.laws.specs.Frame.Edit.{Outside, Change, user-page, user-at, obj-at, bits-same}
-use Rattle.laws.specs.Frame.Fields.{entry-page, entry-outside, entry-here}
+use Rattle.laws.specs.Frame.Edit.{Change, user-page, user-at, obj-at, bits-same}
+use Rattle.laws.specs.Frame.Fields.{Outside, entry-page, entry-outside, entry-here}
 use Rattle.laws.specs.Frame.Roots.{weighR-nobody, pageAt-le}
 use Rattle.laws.specs.Shrink.Shrunk.{all-zero}
 use Rattle.laws.specs.Tree.Slot.{Agree, hit-zero, hit-same}

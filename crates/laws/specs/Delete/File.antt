@@ -19,7 +19,8 @@ use Rattle.laws.specs.Count.Good.{Good, good, sound, bit-le}
 use Rattle.laws.specs.Delete.Entry.{delete-good}
 use Rattle.laws.specs.File.Finish.{isO, isU, UO, owner-used}
 use Rattle.laws.specs.Frame.Beside.{Beside, still-beside, beside-trans, edit-beside}
-use Rattle.laws.specs.Frame.Edit.{Outside, Change, user-at, obj-at}
+use Rattle.laws.specs.Frame.Edit.{Change, user-at, obj-at}
+use Rattle.laws.specs.Frame.Fields.{Outside}
 use Rattle.laws.specs.Frame.Places.{only-trans, Places, WordsOf, EntryOf, FieldOf, Either, OnlyAt, only-wider, only-putWords, only-put2}
 use Rattle.laws.specs.Frame.Roots.{weighR-nobody}
 use Rattle.laws.specs.Frame.Still.{bitPage-same}

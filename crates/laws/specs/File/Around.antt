@@ -1,17 +1,16 @@
 -- The words of a file's last position (Around), and a file that is one page longer in one volume than in another (Longer). Assumes nothing.
-use mathlib.Core.Path.{_≡_, sym, _∙_, subst, ap}
+use mathlib.Core.Path.{_≡_, sym, _∙_, ap}
 use mathlib.Core.Logic.{_⊎_, inl, inr}
 use Prim.Native.Nat.{ℕ, _+_, _*_, _/_, _%_, _<_, suc}
 use native.Mathlib.Omega.{arith}
-use Rattle.book.specs.Bits.{bitPage, bitWord, mark, claim}
+use Rattle.book.specs.Bits.{bitPage, bitWord, claim}
 use Rattle.book.specs.Entries.{objectPage, userPage, Table, user, object, usedPages}
 use Rattle.book.specs.Files.{fileAt, need, pageBytes}
 use Rattle.book.specs.Grow.{finish}
 use Rattle.book.specs.Holders.{hit}
-use Rattle.book.specs.Pointers.{setSlot}
 use Rattle.book.specs.Trees.{Root, indexAt, subindexOf, weighR, pageAt}
 use Rattle.book.specs.Words.{Vol, put2, two}
-use Rattle.laws.specs.Frame.Places.{Places, PageOf, WordsOf, FieldOf, Either, OnlyAt, only-wider, only-put, only-put2, only-wipe, only-trans}
+use Rattle.laws.specs.Frame.Places.{Places, WordsOf, FieldOf, Either, OnlyAt, only-wider, only-put2, only-trans, only-claim}
 use Rattle.laws.specs.Frame.Still.{SamePlaces, bitPage-same, Still}
 use Rattle.laws.specs.Tree.Levels.{last}
 
@@ -37,18 +36,6 @@ Around P v a e n = Either (BitsOf P v (fileAt v e) n) (Either (SlotOf v (fileAt 
 
 abbrev pub AroundNew : ℕ → Vol → ℕ → ℕ → ℕ → Places
 AroundNew P v a e n = Either (λ p k. Needs v (fileAt v e) n p) (Around P v a e n)
-
-pub only-slot : (A : Places) (v : Vol) (b k d : ℕ) → ((p j : ℕ) → WordsOf b (2 * k) 2 p j → A p j) → OnlyAt A v (setSlot v b k d)
-unfolding setSlot
-only-slot A v b k d w = only-wider (WordsOf b (2 * k) 2) A v _ w (only-put2 v b (2 * k) d)
-
-pub only-mark : (A : Places) (P : ℕ) (v : Vol) (d x : ℕ) → ((p j : ℕ) → WordsOf (bitPage P v d) (bitWord d) 1 p j → A p j) → OnlyAt A v (mark P v d x)
-unfolding mark
-only-mark A P v d x w = only-wider (WordsOf (bitPage P v d) (bitWord d) 1) A v _ w (only-put v (bitPage P v d) (bitWord d) _)
-
-pub only-claim : (A : Places) (P : ℕ) (v : Vol) (d : ℕ) → ((p j : ℕ) → WordsOf (bitPage P v d) (bitWord d) 1 p j → A p j) → ((j : ℕ) → A d j) → OnlyAt A v (claim P v d)
-unfolding claim
-only-claim A P v d w c = only-trans A v (mark P v d 1) _ (only-mark A P v d 1 w) (only-wider (PageOf d) A _ _ (λ p j e. subst (λ (q : ℕ). A q j) (sym e) (c j)) (only-wipe (mark P v d 1) d))
 
 pub only-finish : (A : Places) (v : Vol) (U O a e n ptr x : ℕ) → ((p j : ℕ) → FieldOf O e 26 6 p j → A p j) → ((p j : ℕ) → FieldOf U a 16 2 p j → A p j) → OnlyAt A v (finish v U O a e n ptr x)
 unfolding finish

@@ -15,7 +15,8 @@ use Rattle.book.specs.Words.{Vol, two, word, put2}
 use Rattle.book.specs.Written.{word-pos, word-ext, put2-hi, put2-lo, put2-page, put2-word}
 use Rattle.laws.specs.Count.Good.{Good, bit-le, sound-within}
 use Rattle.laws.specs.File.Named.{Legal-ext, SameName-ext, SameFile-ext}
-use Rattle.laws.specs.Frame.Edit.{Outside, Change, obj-page, user-page, user-at, obj-at, entries, edit-good, edit-mine, Fine}
+use Rattle.laws.specs.Frame.Edit.{Change, obj-page, user-page, user-at, obj-at, entries, edit-good, edit-mine, Fine}
+use Rattle.laws.specs.Frame.Fields.{Outside}
 use Rattle.laws.specs.Frame.Renewed.{Shape-frame, Entries, used-same, obj-used-same}
 use Rattle.laws.specs.Frame.Rest.{rest, all-rest, file-le}
 use Rattle.laws.specs.Frame.Roots.{weighR-add, pageAt-le, pageAt-below, pageAt-frame, weighR-frame, blocksR-le, used-page}

@@ -1,9 +1,9 @@
 -- One file of one user changes, with his entry: all else stays. Assumes nothing.
 use mathlib.Core.Path.{_≡_, sym, ap, _∙_, subst}
-use mathlib.Core.Logic.{_≢_, _⊎_, inl, inr}
+use mathlib.Core.Logic.{_≢_, inl, inr}
 use Prim.Native.Nat.{ℕ, _+_, _-_, _*_, _/_, _%_, _≤_, _<_}
 use native.Mathlib.Nat.{le-trans, eq-zero-or-pos}
-use native.Mathlib.Decide.{ℕ-discrete, decLt}
+use native.Mathlib.Decide.{ℕ-discrete}
 use native.Mathlib.Omega.{arith}
 use Rattle.sums.specs.Sum.{sum, sum-at, sum-at₂, sum-none, sum-change}
 use Rattle.book.specs.Bits.{bitFile, bitPage, bit, digit, bitWord, pageBits}
@@ -16,6 +16,7 @@ use Rattle.book.specs.Trees.{Root, weighR, blocksR, pageAt}
 use Rattle.book.specs.Words.{Vol, two, word}
 use Rattle.laws.specs.Count.Good.{Good, bit-le, sound-within}
 use Rattle.laws.specs.Count.Reach.{Within}
+use Rattle.laws.specs.Frame.Fields.{Outside, outside}
 use Rattle.laws.specs.Frame.Renewed.{Master, Entries, UserNew, FileNew, rule1, rule2, rule3, rule4, rule5, rule6, rule7, used-same, spent-same, grant-same}
 use Rattle.laws.specs.Frame.Rest.{rest, all-rest, file-le}
 use Rattle.laws.specs.Frame.Roots.{weighR-add, blocksR-add, pageAt-le, pageAt-le₂, pageAt-below, pageAt-frame, weighR-frame, Roots, bits-root, users-root, objs-root, blocksR-le, file-kept, mine-other, mine-change, all-change, weighR-nobody}
@@ -90,14 +91,6 @@ module _ (P : ℕ) (v : Vol) (hand : ℕ → ℕ) (G : Good P v hand) (pos : 0 <
   ]
 
 -- ---- one entry of an entry file changes: the others stay
-
--- outside the 32 words of entry n of its page
-unfoldable pub Outside : ℕ → ℕ → Type 0
-Outside n k = (k < 32 * (n % 32)) ⊎ (32 * (n % 32) + 32 ≤ k)
-
-outside : (n m k : ℕ) → n % 32 ≢ m % 32 → k < 32 → Outside m (32 * (n % 32) + k)
-unfolding Outside
-outside n m k ne h = elim (decLt (n % 32) (m % 32)) [ yes l ↦ inl (omega arith) | no l ↦ inr (omega arith) ]
 
 module _ (v v′ : Vol) (C : ℕ → ℕ) (A : Agree C v v′) (r : Root) (bz : blocksR v r C ≡ 0) (m : ℕ)
     (uniq : (i : ℕ) → 0 < pageAt v r (m / 32) → pageAt v r (m / 32) ≡ pageAt v r i → m / 32 ≡ i)

@@ -13,12 +13,12 @@ use Rattle.book.specs.Pointers.{slot, flags, page, pointer, setSlot}
 use Rattle.book.specs.Trees.{Root, tree, run, weigh, blocks, weighR, pageAt, indexAt, subindexOf, upto, leaf, rootBy, Fill, Below}
 use Rattle.book.specs.Words.{Vol, two}
 use Rattle.laws.specs.Count.Good.{Good}
-use Rattle.laws.specs.File.Around.{AroundNew, Needs, SlotOf, CountsOf, only-slot, Longer}
+use Rattle.laws.specs.File.Around.{AroundNew, Needs, SlotOf, CountsOf, Longer}
 use Rattle.laws.specs.File.Finish.{Blocks, Regrown}
 use Rattle.laws.specs.File.Finished.{Finished, finished}
 use Rattle.laws.specs.File.Own.{own, loose, root-is, shape-is}
 use Rattle.laws.specs.Frame.Beside.{Beside}
-use Rattle.laws.specs.Frame.Places.{only-trans, Places, Either, OnlyAt, only-wider}
+use Rattle.laws.specs.Frame.Places.{only-slot, only-trans, Places, Either, OnlyAt, only-wider}
 use Rattle.laws.specs.Frame.Roots.{upto-in}
 use Rattle.laws.specs.Grow.Grown.{Grown, grown-page, grown-block, grown-up, part-old}
 use Rattle.laws.specs.Tree.Levels.{last, last-mid, last-block, need-mid, need-block, index-1}

@@ -14,11 +14,11 @@ use Rattle.book.specs.Trees.{Root, tree, weigh, blocks, weighR, pageAt, indexAt
 use Rattle.book.specs.Words.{Vol, two}
 use Rattle.book.specs.Written.{word-ext}
 use Rattle.laws.specs.Count.Good.{Good}
-use Rattle.laws.specs.File.Around.{Needs, only-slot}
+use Rattle.laws.specs.File.Around.{Needs}
 use Rattle.laws.specs.File.Finish.{Blocks, Regrown}
 use Rattle.laws.specs.File.Finished.{finished}
 use Rattle.laws.specs.File.Own.{own, loose, root-is, shape-is}
-use Rattle.laws.specs.Frame.Places.{only-trans}
+use Rattle.laws.specs.Frame.Places.{only-slot, only-trans}
 use Rattle.laws.specs.Frame.Rest.{all-add}
 use Rattle.laws.specs.Frame.Roots.{weighR-add, upto-in}
 use Rattle.laws.specs.Grow.Grown.{Grown, grown-page, grown-block, grown-up, raise-weight, raise-fill, raise-below, raise-old, raise-at, part-old}

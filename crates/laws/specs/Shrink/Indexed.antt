@@ -13,12 +13,12 @@ use Rattle.book.specs.Rules.{Rule4, Rule10}
 use Rattle.book.specs.Trees.{Root, tree, weigh, weighR, pageAt, indexAt, upto, rootBy, Fill, Below}
 use Rattle.book.specs.Words.{Vol, two}
 use Rattle.laws.specs.Count.Good.{Good}
-use Rattle.laws.specs.File.Around.{Around, Needs, SlotOf, only-slot, Longer}
+use Rattle.laws.specs.File.Around.{Around, Needs, SlotOf, Longer}
 use Rattle.laws.specs.File.Finish.{Blocks, owner-used}
 use Rattle.laws.specs.File.Finished.{Finished, finished}
 use Rattle.laws.specs.File.Own.{own, root-is, shape-is}
 use Rattle.laws.specs.Frame.Beside.{Beside}
-use Rattle.laws.specs.Frame.Places.{only-trans, OnlyAt, only-wider}
+use Rattle.laws.specs.Frame.Places.{only-slot, only-trans, OnlyAt, only-wider}
 use Rattle.laws.specs.Frame.Roots.{weighR-nobody}
 use Rattle.laws.specs.Shrink.Shrunk.{Shrunk, shrunk-page, shrunk-block, shrunk-leaf, all-zero}
 use Rattle.laws.specs.Tree.Levels.{last, last-mid, last-block, need-mid, need-block, page-1, index-1}

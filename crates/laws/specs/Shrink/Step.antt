@@ -15,11 +15,11 @@ use Rattle.book.specs.Words.{Vol, two}
 use Rattle.laws.specs.Bits.Mark.{release-good}
 use Rattle.laws.specs.Bits.Marked.{alone, mark-still}
 use Rattle.laws.specs.Count.Good.{Good, good, sound}
-use Rattle.laws.specs.File.Around.{Around, only-mark, longer-still}
+use Rattle.laws.specs.File.Around.{Around, longer-still}
 use Rattle.laws.specs.File.Kinds.{kind-low, kind-high}
 use Rattle.laws.specs.File.Own.{shape-is}
 use Rattle.laws.specs.Frame.Beside.{still-beside, beside-trans}
-use Rattle.laws.specs.Frame.Places.{only-trans}
+use Rattle.laws.specs.Frame.Places.{only-mark, only-trans}
 use Rattle.laws.specs.Frame.Still.{Still, still-sym, bitPage-same}
 use Rattle.laws.specs.Shrink.Indexed.{Lost, Real, lost-first, lost-onward}
 use Rattle.laws.specs.Shrink.Subindexed.{lost-raise, lost-onward-sub, lost-block}

@@ -14,10 +14,10 @@ use Rattle.book.specs.Trees.{Root, tree, weigh, blocks, weighR, pageAt, indexAt
 use Rattle.book.specs.Words.{Vol, two}
 use Rattle.book.specs.Written.{word-ext}
 use Rattle.laws.specs.Count.Good.{Good}
-use Rattle.laws.specs.File.Around.{only-slot}
 use Rattle.laws.specs.File.Finish.{Blocks}
 use Rattle.laws.specs.File.Finished.{finished}
 use Rattle.laws.specs.File.Own.{own, root-is, shape-is}
+use Rattle.laws.specs.Frame.Places.{only-slot}
 use Rattle.laws.specs.Frame.Roots.{weighR-nobody}
 use Rattle.laws.specs.Grow.Grown.{part-here}
 use Rattle.laws.specs.Shrink.Indexed.{Lost, Real, lost, paid, within}

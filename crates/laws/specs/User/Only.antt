@@ -15,7 +15,8 @@ use Rattle.book.specs.Trees.{Root, weighR, blocksR, pageAt}
 use Rattle.book.specs.Words.{Vol, two, word}
 use Rattle.laws.specs.Count.Good.{Good}
 use Rattle.laws.specs.File.Named.{Legal-ext, SameFile-ext}
-use Rattle.laws.specs.Frame.Edit.{Outside, Change, user-page, obj-at, objs-words, user-at, users-words, bits-same, edit-mine, edit-good}
+use Rattle.laws.specs.Frame.Edit.{Change, user-page, obj-at, objs-words, user-at, users-words, bits-same, edit-mine, edit-good}
+use Rattle.laws.specs.Frame.Fields.{Outside}
 use Rattle.laws.specs.Frame.Renewed.{UserNew, FileNew, shape-same}
 use Rattle.laws.specs.Frame.Rest.{file-le}
 use Rattle.laws.specs.Frame.Roots.{weighR-nobody, pageAt-le, weighR-frame, blocksR-le, file-kept}

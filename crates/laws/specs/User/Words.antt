@@ -12,7 +12,8 @@ use Rattle.book.specs.Trees.{pageAt}
 use Rattle.book.specs.Words.{Vol, word}
 use Rattle.book.specs.Written.{word-pos, word-ext}
 use Rattle.laws.specs.Count.Good.{Good, good, sound}
-use Rattle.laws.specs.Frame.Edit.{Outside, user-page}
+use Rattle.laws.specs.Frame.Edit.{user-page}
+use Rattle.laws.specs.Frame.Fields.{Outside}
 use Rattle.laws.specs.Frame.Places.{EntryOf, UnreservedWords, Either, OnlyAt, only-either}
 use Rattle.laws.specs.Frame.Renewed.{UserNew}
 use Rattle.laws.specs.Frame.Roots.{used-page, Roots, objs-root}
