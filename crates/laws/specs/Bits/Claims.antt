@@ -1,5 +1,6 @@
 -- Pages are taken one after the other: each is chosen when those before it are taken; one induction for all that is then known. Assumes nothing.
 use mathlib.Core.Path.{_≡_, refl, sym, _∙_, subst}
+use mathlib.Core.Logic.{inr}
 use Prim.Native.Nat.{ℕ, zero, suc, _+_, _≤_, _<_}
 use native.Mathlib.Nat.{not-suc-le-zero}
 use native.Mathlib.Decide.{ℕ-discrete}
@@ -7,16 +8,16 @@ use native.Mathlib.Omega.{arith}
 use Rattle.sums.specs.Sum.{sum, sum-at}
 use Rattle.book.specs.Bits.{bit, bitPage, bitWord, claim}
 use Rattle.book.specs.Holders.{hit}
-use Rattle.book.specs.Pointers.{slot}
 use Rattle.book.specs.Rules.{Sound}
-use Rattle.book.specs.Words.{Vol}
+use Rattle.book.specs.Words.{Vol, word}
 use Rattle.laws.specs.Bits.Choose.{Chooser}
 use Rattle.laws.specs.Bits.Claim.{claim-good, claim-keeps, claim-zero, claim-free, free-pos}
 use Rattle.laws.specs.Bits.Marked.{claim-still}
+use Rattle.laws.specs.Bits.Taking.{Taking, NoWords, no-words, taking-none, taking-then, claim-taking}
 use Rattle.laws.specs.Count.Good.{Good, good, free}
 use Rattle.laws.specs.Frame.Places.{only-trans, only-claim, Places, WordsOf, OnlyAt}
 use Rattle.laws.specs.Frame.Still.{Still, still-refl, still-trans, bitPage-same}
-use Rattle.laws.specs.Tree.Slot.{slot-bare, hit-same, slot-same}
+use Rattle.laws.specs.Tree.Slot.{hit-same}
 
 -- the volume with i pages taken, and the page chosen next
 unfoldable pub claims : (Vol → ℕ) → ℕ → Vol → ℕ → Vol
@@ -32,7 +33,7 @@ pub record Claimed (choose : Vol → ℕ) (P : ℕ) (v : Vol) (i : ℕ) : Type 1
   pub still : Still P v (claims choose P v i)
   pub left : free P (claims choose P v i) + i ≡ free P v
   pub real : (j : ℕ) → j < i → (0 < newPage choose P v j) × (newPage choose P v j < P)
-  pub bare : (j : ℕ) → j < i → (k : ℕ) → slot (claims choose P v i) (newPage choose P v j) k ≡ 0
+  pub zero : (j : ℕ) → j < i → (k : ℕ) → word (claims choose P v i) (newPage choose P v j) k ≡ 0
   pub words : (A : Places) → ((j : ℕ) → j < i → (k : ℕ) → A (newPage choose P v j) k)
       → ((j : ℕ) → j < i → (p k : ℕ) → WordsOf (bitPage P v (newPage choose P v j)) (bitWord (newPage choose P v j)) 1 p k → A p k) → OnlyAt A v (claims choose P v i)
 
@@ -53,11 +54,10 @@ module _ (choose : Vol → ℕ) (P : ℕ) (ch : Chooser P choose) (v : Vol) wher
       | yes e ↦ subst (λ (x : ℕ). (0 < new x) × (new x < P)) (sym e) (free-pos P (w i) hand (C .good) (new i) (ok .0) (ok .1), ok .0)
       | no ne ↦ C .real j (omega arith)
     ];
-    bare = λ j a k. elim (ℕ-discrete j i) [
-      | yes e ↦ subst (λ (x : ℕ). slot (w (suc i)) (new x) k ≡ 0) (sym e) (slot-bare (w (suc i)) (new i) (claim-zero P (w i) hand (C .good) (new i) (ok .0) (ok .1)) k)
+    zero = λ j a k. elim (ℕ-discrete j i) [
+      | yes e ↦ subst (λ (x : ℕ). word (w (suc i)) (new x) k ≡ 0) (sym e) (claim-zero P (w i) hand (C .good) (new i) (ok .0) (ok .1) k)
       | no ne ↦ let b : j < i = omega arith in
-          slot-same (w i) (w (suc i)) (new j) (claim-keeps P (w i) hand (C .good) (new i) (ok .0) (ok .1) (new j)
-          (omega (arith, hit-same (new j) (C .real j b .0), sum-at i (λ x. hit (new x) (new j)) j b))) k ∙ C .bare j b k
+          claim-keeps P (w i) hand (C .good) (new i) (ok .0) (ok .1) (new j) (omega (arith, hit-same (new j) (C .real j b .0), sum-at i (λ x. hit (new x) (new j)) j b)) k ∙ C .zero j b k
     ];
     words = λ A a b. only-trans A v (w i) (w (suc i)) (C .words A (λ j x. a j (omega arith)) (λ j x. b j (omega arith)))
         (only-claim A P (w i) (new i) (λ p k x. b i (omega arith) p k (x .0 ∙ bitPage-same P v (w i) (C .still .places) (new i), x .1, x .2)) (a i (omega arith)));
@@ -76,7 +76,7 @@ module _ (choose : Vol → ℕ) (P : ℕ) (ch : Chooser P choose) (v : Vol) wher
     still = still-refl P v;
     left = omega arith;
     real = λ j a. absurd (not-suc-le-zero a);
-    bare = λ j a. absurd (not-suc-le-zero a);
+    zero = λ j a. absurd (not-suc-le-zero a);
     words = λ A a b p k x. refl;
   }
   claimed S (suc i) h = more i h (claimed S i (omega arith))
@@ -85,3 +85,12 @@ module _ (choose : Vol → ℕ) (P : ℕ) (ch : Chooser P choose) (v : Vol) wher
   pub found : Sound P v → (i j : ℕ) → i ≤ free P v → j < i → (new j < P) × (bit P (w j) (new j) ≡ 0)
   unfolding Chooser
   found S i j h a = ch (w j) (omega (arith, claimed S j (omega arith) .left))
+
+  -- i pages are taken, none is paid
+  pub claims-taking : Sound P v → (i : ℕ) → i ≤ free P v → Taking P v (w i) NoWords i 0
+  unfolding claims
+  claims-taking S zero h = taking-none P v
+  claims-taking S (suc i) h =
+      let o : (new i < P) × (bit P (w i) (new i) ≡ 0) = found S (suc i) i h (omega arith) in
+      taking-then P v (w i) (w (suc i)) NoWords NoWords NoWords i 0 1 0 (suc i) 0 (claims-taking S i (omega arith))
+      (claim-taking P (w i) (λ p. sum i (λ j. hit (new j) p)) (claimed S i (omega arith) .good) (new i) (o .0) (o .1)) (omega arith) refl (λ p k q. inr (no-words NoWords p k q))

@@ -119,6 +119,9 @@ sound P v hand g z = record {
   r10 = g .most .r10;
 }
 
+pub Good-ext : (P : ℕ) (v : Vol) (h k : ℕ → ℕ) → ((p : ℕ) → p < P → h p ≡ k p) → Good P v h → Good P v k
+Good-ext P v h k e g = record { most = g .most; held = λ p i. omega (arith, g .held p i, e p i) }
+
 unfoldable pub free : ℕ → Vol → ℕ
 free P v = sum P (λ p. 1 - bit P v p)
 

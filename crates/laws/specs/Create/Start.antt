@@ -12,11 +12,12 @@ use Rattle.book.specs.Rules.{Sound}
 use Rattle.book.specs.Trees.{Root, tree, pageAt, blocksR, blocks}
 use Rattle.book.specs.Words.{Vol, two, word, put2}
 use Rattle.book.specs.Written.{word-ext, put2-page, put2-word}
-use Rattle.laws.specs.Bits.Choose.{chosen, Chooser}
-use Rattle.laws.specs.Bits.Claim.{free-pos, claim-good, claim-master, claim-zero, claim-keeps, claim-bit}
-use Rattle.laws.specs.Bits.Taking.{TakenWords, NoWords, no-words, Taking, taking-then, claim-taking, settled-taking}
-use Rattle.laws.specs.Count.Good.{Good, good, sound, free, bit-le}
+use Rattle.laws.specs.Bits.Choose.{Chooser}
+use Rattle.laws.specs.Bits.Claims.{claims, newPage, Claimed, claimed, found, claims-taking}
+use Rattle.laws.specs.Bits.Taking.{TakenWords, NoWords, Taking, taking-then, settled-taking}
+use Rattle.laws.specs.Count.Good.{Good-ext, Good, good, sound, free, bit-le}
 use Rattle.laws.specs.Count.Room.{system-room}
+use Rattle.laws.specs.Count.Sums.{sum-3}
 use Rattle.laws.specs.Create.First.{first-user}
 use Rattle.laws.specs.Create.Join.{only-pay, pay-page, pay-below, pay-less, SlotWords, join-good, join-slot, join-taking}
 use Rattle.laws.specs.Create.Placed.{Placed}
@@ -41,73 +42,64 @@ module _ (choose : Vol → ℕ) (P : ℕ) (ch : Chooser P choose) (v : Vol) (S :
   abbrev i : ℕ
   i = choose v
 
-  iOk : (i < P) × (bit P v i ≡ 0)
-  iOk = chosen choose P ch v (omega (arith, rooms))
-
   abbrev v₁ : Vol
   v₁ = claim P v i
-
-  G1 : Good P v₁ (λ p. 0 + hit i p)
-  G1 = claim-good P v (λ p. 0) G i (iOk .0) (iOk .1)
-
-  C1 : Taking P v v₁ NoWords 1 0
-  C1 = claim-taking P v (λ p. 0) G i (iOk .0) (iOk .1)
 
   abbrev u : ℕ
   u = choose v₁
 
-  uOk : (u < P) × (bit P v₁ u ≡ 0)
-  uOk = chosen choose P ch v₁ (omega (arith, rooms, C1 .left))
-
   abbrev v₂ : Vol
   v₂ = claim P v₁ u
-
-  G2 : Good P v₂ (λ p. 0 + hit i p + hit u p)
-  G2 = claim-good P v₁ (λ p. 0 + hit i p) G1 u (uOk .0) (uOk .1)
-
-  C2 : Taking P v₁ v₂ NoWords 1 0
-  C2 = claim-taking P v₁ (λ p. 0 + hit i p) G1 u (uOk .0) (uOk .1)
 
   abbrev o : ℕ
   o = choose v₂
 
-  oOk : (o < P) × (bit P v₂ o ≡ 0)
-  oOk = chosen choose P ch v₂ (omega (arith, rooms, C1 .left, C2 .left))
-
   abbrev v₃ : Vol
   v₃ = claim P v₂ o
 
-  G3 : Good P v₃ (λ p. 0 + hit i p + hit u p + hit o p)
-  G3 = claim-good P v₂ (λ p. 0 + hit i p + hit u p) G2 o (oOk .0) (oOk .1)
+  C : Claimed choose P v 3
+  C = claimed choose P ch v S 3 rooms
 
-  C3 : Taking P v₂ v₃ NoWords 1 0
-  C3 = claim-taking P v₂ (λ p. 0 + hit i p + hit u p) G2 o (oOk .0) (oOk .1)
+  G3 : Good P v₃ (λ p. hit i p + hit u p + hit o p)
+  unfolding claims
+  G3 = Good-ext P v₃ _ _ (λ p h. sum-3 (λ j. hit (newPage choose P v j) p)) (C .good)
 
-  pi : 0 < i
-  pi = free-pos P v (λ p. 0) G i (iOk .0) (iOk .1)
+  T3 : Taking P v v₃ NoWords 3 0
+  unfolding claims
+  T3 = claims-taking choose P ch v S 3 rooms
 
-  pu : 0 < u
-  pu = free-pos P v₁ (λ p. 0 + hit i p) G1 u (uOk .0) (uOk .1)
+  free-i : bit P v i ≡ 0
+  unfolding claims
+  free-i = found choose P ch v S 3 0 rooms (omega arith) .1
 
-  po : 0 < o
-  po = free-pos P v₂ (λ p. 0 + hit i p + hit u p) G2 o (oOk .0) (oOk .1)
+  iOk : (0 < i) × (i < P)
+  unfolding claims
+  iOk = C .real 0 (omega arith)
 
-  -- all three are zeros still
-  zero-o : (j : ℕ) → word v₃ o j ≡ 0
-  zero-o = claim-zero P v₂ (λ p. 0 + hit i p + hit u p) G2 o (oOk .0) (oOk .1)
+  uOk : (0 < u) × (u < P)
+  unfolding claims
+  uOk = C .real 1 (omega arith)
+
+  oOk : (0 < o) × (o < P)
+  unfolding claims
+  oOk = C .real 2 (omega arith)
+
+  -- the pages are zeros still
+  zero-i : (j : ℕ) → word v₃ i j ≡ 0
+  unfolding claims
+  zero-i = C .zero 0 (omega arith)
 
   zero-u : (j : ℕ) → word v₃ u j ≡ 0
-  zero-u j = claim-keeps P v₂ (λ p. 0 + hit i p + hit u p) G2 o (oOk .0) (oOk .1) u (omega (arith, hit-same u pu)) j
-      ∙ claim-zero P v₁ (λ p. 0 + hit i p) G1 u (uOk .0) (uOk .1) j
+  unfolding claims
+  zero-u = C .zero 1 (omega arith)
 
-  zero-i : (j : ℕ) → word v₃ i j ≡ 0
-  zero-i j = claim-keeps P v₂ (λ p. 0 + hit i p + hit u p) G2 o (oOk .0) (oOk .1) i (omega (arith, hit-same i pi)) j
-      ∙ claim-keeps P v₁ (λ p. 0 + hit i p) G1 u (uOk .0) (uOk .1) i (omega (arith, hit-same i pi)) j
-      ∙ claim-zero P v (λ p. 0) G i (iOk .0) (iOk .1) j
+  zero-o : (j : ℕ) → word v₃ o j ≡ 0
+  unfolding claims
+  zero-o = C .zero 2 (omega arith)
 
   master : (k : ℕ) → v₃ 0 k ≡ v 0 k
-  master k = claim-master P v₂ (λ p. 0 + hit i p + hit u p) G2 o (oOk .0) (oOk .1) k ∙ claim-master P v₁ (λ p. 0 + hit i p) G1 u (uOk .0) (uOk .1) k
-      ∙ claim-master P v (λ p. 0) G i (iOk .0) (iOk .1) k
+  unfolding claims
+  master = C .still .places .master
 
   -- ---- the two pointers are written, and two pages paid
 
@@ -138,16 +130,16 @@ module _ (choose : Vol → ℕ) (P : ℕ) (ch : Chooser P choose) (v : Vol) (S :
   x-18 k a b = pay-below x 2 k (omega arith) ∙ put2-word x₁ 0 objectPointer (pointer 1 o) 0 k (omega arith) (omega arith)
 
   fu : flags (w 0) userPointer ≡ 1
-  fu = flags-ext (w 0) (x₁ 0) userPointer (x-18 userPointer (omega arith) (omega arith)) ∙ pointer-flags v₃ 0 userPointer 1 i (omega (arith, iOk .0))
+  fu = flags-ext (w 0) (x₁ 0) userPointer (x-18 userPointer (omega arith) (omega arith)) ∙ pointer-flags v₃ 0 userPointer 1 i (omega (arith, iOk .1))
 
   tu : page (w 0) userPointer ≡ i
-  tu = page-ext (w 0) (x₁ 0) userPointer (x-18 userPointer (omega arith) (omega arith)) (x-18 (suc userPointer) (omega arith) (omega arith)) ∙ pointer-page v₃ 0 userPointer 1 i (omega (arith, iOk .0))
+  tu = page-ext (w 0) (x₁ 0) userPointer (x-18 userPointer (omega arith) (omega arith)) (x-18 (suc userPointer) (omega arith) (omega arith)) ∙ pointer-page v₃ 0 userPointer 1 i (omega (arith, iOk .1))
 
   fo : flags (w 0) objectPointer ≡ 1
-  fo = flags-ext (w 0) (x 0) objectPointer (pay-below x 2 objectPointer (omega arith)) ∙ pointer-flags x₁ 0 objectPointer 1 o (omega (arith, oOk .0))
+  fo = flags-ext (w 0) (x 0) objectPointer (pay-below x 2 objectPointer (omega arith)) ∙ pointer-flags x₁ 0 objectPointer 1 o (omega (arith, oOk .1))
 
   to : page (w 0) objectPointer ≡ o
-  to = page-ext (w 0) (x 0) objectPointer (pay-below x 2 objectPointer (omega arith)) (pay-below x 2 (suc objectPointer) (omega arith)) ∙ pointer-page x₁ 0 objectPointer 1 o (omega (arith, oOk .0))
+  to = page-ext (w 0) (x 0) objectPointer (pay-below x 2 objectPointer (omega arith)) (pay-below x 2 (suc objectPointer) (omega arith)) ∙ pointer-page x₁ 0 objectPointer 1 o (omega (arith, oOk .1))
 
   zero₃ : (k : ℕ) → Zero (v 0) k → Zero (v₃ 0) k
   unfolding Zero
@@ -161,11 +153,11 @@ module _ (choose : Vol → ℕ) (P : ℕ) (ch : Chooser P choose) (v : Vol) (S :
   paid = omega (arith, have, x-pay, pay-less x 2 (omega (arith, have, x-pay)), two-ext (v₃ 0) (v 0) unreservedCount (master unreservedCount) (master (suc unreservedCount)))
 
   T : Settled P v₃ w (λ x. 0) (λ g. g i + g o)
-  T = first-user P v₃ (λ p. 0 + hit i p + hit u p + hit o p) G3 pos w i o (iOk .0) pi (oOk .0) po words (zero₃ userPointer zu) (zero₃ objectPointer zo) fu tu fo to
+  T = first-user P v₃ (λ p. hit i p + hit u p + hit o p) G3 pos w i o (iOk .1) (iOk .0) (oOk .1) (oOk .0) words (zero₃ userPointer zu) (zero₃ objectPointer zo) fu tu fo to
       (slot-bare v₃ i zero-i) (slot-bare v₃ o zero-o) mast paid
 
   Gw : Good P w (λ p. hit p u)
-  Gw = system-good P v₃ (λ p. 0 + hit i p + hit u p + hit o p) G3 w (λ x. 0) (λ g. g i + g o) T (λ p. hit p u) (λ p h. omega (arith, hit-sym p u, hit-sym p i, hit-sym p o))
+  Gw = system-good P v₃ (λ p. hit i p + hit u p + hit o p) G3 w (λ x. 0) (λ g. g i + g o) T (λ p. hit p u) (λ p h. omega (arith, hit-sym p u, hit-sym p i, hit-sym p o))
 
   abbrev F : Places
   F = Either (WordsOf 0 objectPointer 4) UnreservedWords
@@ -189,8 +181,8 @@ module _ (choose : Vol → ℕ) (P : ℕ) (ch : Chooser P choose) (v : Vol) (S :
   none-objs n = zero-none v₃ (v₃ 0) objectPointer (zero₃ objectPointer zo) n
 
   Sw : Taking P v₃ w F 0 2
-  Sw = subst (λ (n : ℕ). Taking P v₃ w F 0 n) (ap₂ (λ (a b : ℕ). a + b) (some-pos i pi) (some-pos o po))
-      (settled-taking P v₃ (λ p. 0 + hit i p + hit u p + hit o p) G3 w (λ x. 0) (λ g. g i + g o) T
+  Sw = subst (λ (n : ℕ). Taking P v₃ w F 0 n) (ap₂ (λ (a b : ℕ). a + b) (some-pos i (iOk .0)) (some-pos o (oOk .0)))
+      (settled-taking P v₃ (λ p. hit i p + hit u p + hit o p) G3 w (λ x. 0) (λ g. g i + g o) T
       (λ n h. absurd (let r : ⊥ = omega (arith, h, none-users n) in r)) (λ n h. absurd (let r : ⊥ = omega (arith, h, none-objs n) in r)) F only-w)
 
   -- ---- the user page joins the index
@@ -204,7 +196,7 @@ module _ (choose : Vol → ℕ) (P : ℕ) (ch : Chooser P choose) (v : Vol) (S :
 
   below : (k : ℕ) → k < unreservedCount → v′ 0 k ≡ w 0 k
   unfolding started
-  below k h = pay-below (setSlot x i 0 u) 3 k h ∙ setSlot-page x i 0 u 0 k (omega (arith, pi)) ∙ sym (pay-below x 2 k h)
+  below k h = pay-below (setSlot x i 0 u) 3 k h ∙ setSlot-page x i 0 u 0 k (omega (arith, (iOk .0))) ∙ sym (pay-below x 2 k h)
 
   M : Master w v′
   unfolding Master
@@ -213,15 +205,15 @@ module _ (choose : Vol → ℕ) (P : ℕ) (ch : Chooser P choose) (v : Vol) (S :
   paid′ : two (v′ 0) unreservedCount + 1 ≡ two (w 0) unreservedCount
   unfolding started unreserved
   paid′ =
-      let e : two (setSlot x i 0 u 0) unreservedCount ≡ two (x 0) unreservedCount = two-ext (setSlot x i 0 u 0) (x 0) unreservedCount (setSlot-page x i 0 u 0 unreservedCount (omega (arith, pi))) (setSlot-page x i 0 u 0 (suc unreservedCount) (omega (arith, pi))) in
+      let e : two (setSlot x i 0 u 0) unreservedCount ≡ two (x 0) unreservedCount = two-ext (setSlot x i 0 u 0) (x 0) unreservedCount (setSlot-page x i 0 u 0 unreservedCount (omega (arith, (iOk .0)))) (setSlot-page x i 0 u 0 (suc unreservedCount) (omega (arith, (iOk .0)))) in
       omega (arith, have, x-pay, pay-less x 2 (omega (arith, have, x-pay)), pay-less (setSlot x i 0 u) 3 (omega (arith, have, x-pay, e)))
 
   vacant : Vacant P w i 0
   unfolding userFile blocksR blocks
   vacant = record {
-    below = iOk .0;
-    real = pi;
-    block = omega (arith, ap (λ (r : Root). blocksR w r (hit i)) (root-1 (w 0) userPointer 0 fu ∙ ap (tree 1) tu), hit-same i pi);
+    below = iOk .1;
+    real = iOk .0;
+    block = omega (arith, ap (λ (r : Root). blocksR w r (hit i)) (root-1 (w 0) userPointer 0 fu ∙ ap (tree 1) tu), hit-same i (iOk .0));
     room = omega arith;
     was = slot-same v₃ w i (words i) 0 ∙ slot-bare v₃ i zero-i 0;
     eight = λ e. omega arith;
@@ -232,7 +224,7 @@ module _ (choose : Vol → ℕ) (P : ℕ) (ch : Chooser P choose) (v : Vol) (S :
   zero-w j = words u j ∙ zero-u j
 
   held : 1 ≤ hit u u
-  held = omega (arith, hit-same u pu)
+  held = omega (arith, hit-same u (uOk .0))
 
   -- the user index, its flags and its first page; the object file is indexed
   pub started-flags : flags (v′ 0) userPointer ≡ 1
@@ -241,8 +233,8 @@ module _ (choose : Vol → ℕ) (P : ℕ) (ch : Chooser P choose) (v : Vol) (S :
   pub started-slot : (slot v′ (page (v′ 0) userPointer) 0 ≡ u) × (0 < u)
   started-slot = (
     ap (λ (t : ℕ). slot v′ t 0) (page-ext (v′ 0) (w 0) userPointer (below userPointer (omega arith)) (below (suc userPointer) (omega arith)) ∙ tu)
-        ∙ join-slot P w (λ p. hit p u) Gw pos v′ i 0 u vacant (uOk .0) pu held zero-w read M paid′,
-    pu,
+        ∙ join-slot P w (λ p. hit p u) Gw pos v′ i 0 u vacant (uOk .1) (uOk .0) held zero-w read M paid′,
+    (uOk .0),
   )
 
   only : OnlyAt (Either (SlotWords i 0) UnreservedWords) w v′
@@ -256,23 +248,20 @@ module _ (choose : Vol → ℕ) (P : ℕ) (ch : Chooser P choose) (v : Vol) (S :
 
   after₃ : Taking P v₃ v′ K 0 3
   after₃ = taking-then P v₃ w v′ F (Either (SlotWords i 0) UnreservedWords) K 0 2 0 1 0 3 Sw
-      (join-taking P w (λ p. hit p u) Gw pos v′ i 0 u vacant (uOk .0) pu held zero-w read M paid′ (Either (SlotWords i 0) UnreservedWords) only) refl refl wide
+      (join-taking P w (λ p. hit p u) Gw pos v′ i 0 u vacant (uOk .1) (uOk .0) held zero-w read M paid′ (Either (SlotWords i 0) UnreservedWords) only) refl refl wide
     where
       wide : (p k : ℕ) → Either F (Either (SlotWords i 0) UnreservedWords) p k → Either (TakenWords P v₃ v′) K p k
       wide p k (inl h) = inr (inr h)
       wide p k (inr (inl h)) = inr (inl h)
       wide p k (inr (inr h)) = inr (inr (inr h))
 
-  after₁ : Taking P v₁ v′ K 2 3
-  after₁ = taking-then P v₁ v₂ v′ NoWords K K 1 0 1 3 2 3 C2 (taking-then P v₂ v₃ v′ NoWords K K 1 0 0 3 1 3 C3 after₃ refl refl (λ p k h. inr (no-words K p k h))) refl refl (λ p k h. inr (no-words K p k h))
-
   pub started-placed : Placed P v v′ (Either (WordsOf 0 objectPointer 4) UnreservedWords) 3
   started-placed = record {
-    sound = sound P v′ (λ p. 0) (join-good P w (λ p. hit p u) Gw pos v′ i 0 u vacant (uOk .0) pu held zero-w read M paid′ (λ p. 0) (λ p h. omega arith)) (λ p h. refl);
-    taking = taking-then P v v₁ v′ NoWords K F 1 0 2 3 3 3 C1 after₁ refl refl wide;
+    sound = sound P v′ (λ p. 0) (join-good P w (λ p. hit p u) Gw pos v′ i 0 u vacant (uOk .1) (uOk .0) held zero-w read M paid′ (λ p. 0) (λ p h. omega arith)) (λ p h. refl);
+    taking = taking-then P v v₃ v′ NoWords K F 3 0 0 3 3 3 T3 after₃ refl refl wide;
   }
     where
       wide : (p k : ℕ) → Either NoWords K p k → Either (TakenWords P v v′) F p k
       wide p k (inl h) = absurd h
-      wide p k (inr (inl h)) = inl (i, (iOk .0, iOk .1, omega (arith, after₁ .bits i (iOk .0), claim-bit P v (λ p. 0) G i (iOk .0) (iOk .1), bit-le P v′ i)), inl (h .0))
+      wide p k (inr (inl h)) = inl (i, (iOk .1, free-i, omega (arith, after₃ .bits i (iOk .1), G3 .held i (iOk .1), hit-same i (iOk .0), bit-le P v′ i)), inl (h .0))
       wide p k (inr (inr h)) = inr h

@@ -1,17 +1,17 @@
 -- The words of a file's last position (Around), and a file that is one page longer in one volume than in another (Longer). Assumes nothing.
 use mathlib.Core.Path.{_≡_, sym, _∙_, ap}
-use mathlib.Core.Logic.{_⊎_, inl, inr}
+use mathlib.Core.Logic.{_⊎_}
 use Prim.Native.Nat.{ℕ, _+_, _*_, _/_, _%_, _<_, suc}
 use native.Mathlib.Omega.{arith}
-use Rattle.book.specs.Bits.{bitPage, bitWord, claim}
+use Rattle.book.specs.Bits.{bitPage, bitWord}
 use Rattle.book.specs.Entries.{objectPage, userPage, Table, user, object, usedPages}
 use Rattle.book.specs.Files.{fileAt, need, pageBytes}
 use Rattle.book.specs.Grow.{finish}
 use Rattle.book.specs.Holders.{hit}
 use Rattle.book.specs.Trees.{Root, indexAt, subindexOf, weighR, pageAt}
 use Rattle.book.specs.Words.{Vol, put2, two}
-use Rattle.laws.specs.Frame.Places.{Places, WordsOf, FieldOf, Either, OnlyAt, only-wider, only-put2, only-trans, only-claim}
-use Rattle.laws.specs.Frame.Still.{SamePlaces, bitPage-same, Still}
+use Rattle.laws.specs.Frame.Places.{Places, WordsOf, FieldOf, Either, OnlyAt, only-wider, only-put2, only-trans}
+use Rattle.laws.specs.Frame.Still.{Still}
 use Rattle.laws.specs.Tree.Levels.{last}
 
 -- page x is one of those that position n needs
@@ -57,11 +57,6 @@ only-finish A v U O a e n ptr x o u =
 
     v₃ : Vol
     v₃ = put2 v₂ O (w + 30) ptr
-
--- a page is taken that the new position of z needs
-pub only-take : (P : ℕ) (v w z : Vol) (a e n d : ℕ) → SamePlaces w z → Needs z (fileAt z e) n d → OnlyAt (AroundNew P z a e n) v w → OnlyAt (AroundNew P z a e n) v (claim P w d)
-only-take P v w z a e n d L h o = only-trans (AroundNew P z a e n) v w (claim P w d) o
-    (only-claim (AroundNew P z a e n) P w d (λ p j i. inr (inl (d, h, (i .0 ∙ sym (bitPage-same P w z L d), i .1, i .2)))) (λ j. inl h))
 
 -- the file at e of user a has n pages in v; in v′ it has position n too, with the pages that this one needs, and is else the same
 pub record Longer (v v′ : Vol) (a e n : ℕ) : Type 0 where

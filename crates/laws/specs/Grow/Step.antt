@@ -29,7 +29,7 @@ use Rattle.laws.specs.Frame.Still.{bitPage-same}
 use Rattle.laws.specs.Grow.Indexed.{Grew, grew-first, grew-onward}
 use Rattle.laws.specs.Grow.Subindexed.{grew-raise, grew-onward-sub, grew-block}
 use Rattle.laws.specs.Tree.Levels.{need-mid, need-block, need-raise}
-use Rattle.laws.specs.Tree.Slot.{hit-same}
+use Rattle.laws.specs.Tree.Slot.{hit-same, slot-bare}
 use Rattle.laws.specs.Tree.Weigh.{full-count}
 
 module _ (choose : Vol → ℕ) (P : ℕ) (ch : Chooser P choose) (v : Vol) (S : Sound P v) (pos : 0 < P) (big : P < 262144) (a f : ℕ) (ha : a < 256) (hf : f < 256)
@@ -161,7 +161,7 @@ module _ (choose : Vol → ℕ) (P : ℕ) (ch : Chooser P choose) (v : Vol) (S :
         let c : Claimed choose P v 2 = C 2 q in
         rebase 2 q (growTo choose P v a f first) (grew-first P (w 2) (hand 2 q) (c .good) pos (omega arith) a f ha hf (used-now 2 q)
         (new 0) (new 1) (c .real 0 (omega arith) .1) (c .real 1 (omega arith) .1) (c .real 0 (omega arith) .0) (c .real 1 (omega arith) .0) (λ p. sum-2 (λ j. hit (new j) p))
-        (c .bare 1 (omega arith)) (flags-now 2 q ∙ flag-first z) (count-now 2 q ∙ z) (room-now 2 q))
+        (slot-bare (w 2) (new 1) (c .zero 1 (omega arith))) (flags-now 2 q ∙ flag-first z) (count-now 2 q ∙ z) (room-now 2 q))
 
     blocked : n % 512 ≡ 0 → 512 < n → Grew P v (growTo choose P v a f block) a e n (choose v) (λ p. 0)
     unfolding growTo entered claims
@@ -170,7 +170,7 @@ module _ (choose : Vol → ℕ) (P : ℕ) (ch : Chooser P choose) (v : Vol) (S :
         let c : Claimed choose P v 2 = C 2 q in
         rebase 2 q (growTo choose P v a f block) (grew-block P (w 2) (hand 2 q) (c .good) pos (omega arith) a f ha hf (used-now 2 q)
         (new 0) (new 1) (c .real 0 (omega arith) .1) (c .real 1 (omega arith) .1) (c .real 0 (omega arith) .0) (c .real 1 (omega arith) .0) (λ p. sum-2 (λ j. hit (new j) p))
-        (c .bare 1 (omega arith)) (flags-now 2 q ∙ flag-high h) (omega (arith, count-now 2 q, small h)) (omega (arith, count-now 2 q, z)) (room-now 2 q))
+        (slot-bare (w 2) (new 1) (c .zero 1 (omega arith))) (flags-now 2 q ∙ flag-high h) (omega (arith, count-now 2 q, small h)) (omega (arith, count-now 2 q, z)) (room-now 2 q))
 
     raised : n ≡ 512 → Grew P v (growTo choose P v a f raise) a e n (choose v) (λ p. 0)
     unfolding growTo entered claims
@@ -179,7 +179,7 @@ module _ (choose : Vol → ℕ) (P : ℕ) (ch : Chooser P choose) (v : Vol) (S :
         let c : Claimed choose P v 3 = C 3 q in
         rebase 3 q (growTo choose P v a f raise) (grew-raise P (w 3) (hand 3 q) (c .good) pos (omega arith) a f ha hf (used-now 3 q)
         (new 0) (new 1) (new 2) (c .real 0 (omega arith) .1) (c .real 1 (omega arith) .1) (c .real 2 (omega arith) .1) (c .real 0 (omega arith) .0) (c .real 1 (omega arith) .0) (c .real 2 (omega arith) .0)
-        (λ p. sum-3 (λ j. hit (new j) p)) (c .bare 1 (omega arith)) (c .bare 2 (omega arith)) (flags-now 3 q ∙ flag-low (omega arith) (omega arith)) (count-now 3 q ∙ z) (room-now 3 q))
+        (λ p. sum-3 (λ j. hit (new j) p)) (slot-bare (w 3) (new 1) (c .zero 1 (omega arith))) (slot-bare (w 3) (new 2) (c .zero 2 (omega arith))) (flags-now 3 q ∙ flag-low (omega arith) (omega arith)) (count-now 3 q ∙ z) (room-now 3 q))
 
     onwarded : 0 < n % 512 → Grew P v (growTo choose P v a f onward) a e n (choose v) (λ p. 0)
     unfolding growTo entered indexOf Shape claims
