@@ -5,10 +5,10 @@ use Prim.Native.Nat.{ℕ, zero, suc, _+_, _-_, _/_, _%_, _≤_, _<_}
 use native.Mathlib.Decide.{ℕ-discrete}
 use native.Mathlib.Omega.{arith}
 use Rattle.sums.specs.Sum.{is, is-same, sum-change}
-use Rattle.book.specs.Bits.{bitFile, bitPages, bitPage, bit, digit, mark, claim}
+use Rattle.book.specs.Bits.{bitFile, bitPages, bitPage, bit, digit, mark, claim, bitWord, pageBits}
 use Rattle.book.specs.Entries.{user, object}
 use Rattle.book.specs.Holders.{hit, all}
-use Rattle.book.specs.Pointers.{page}
+use Rattle.book.specs.Pointers.{page, bitPointer}
 use Rattle.book.specs.Rules.{Rule1}
 use Rattle.book.specs.Trees.{Root, weighR, pageAt}
 use Rattle.book.specs.Words.{Vol, word, wipe}
@@ -21,9 +21,9 @@ use Rattle.laws.specs.Tree.Slot.{Agree, hit-zero, hit-same, hit-other, p
 -- ---- the bit file's pages
 
 module _ (P : ℕ) (v : Vol) (r : Rule1 P v) (p : ℕ) (h : p < P) where
-  pub bitPage-is : bitPage P v p ≡ page (v 0) 1020 + p / 16384
+  pub bitPage-is : bitPage P v p ≡ page (v 0) bitPointer + p / pageBits
   unfolding bitPage bitFile pageAt bitPages
-  bitPage-is = upto-in (p / 16384) ((P + 16383) / 16384) (page (v 0) 1020 + p / 16384) (omega arith)
+  bitPage-is = upto-in (p / pageBits) ((P + (pageBits - 1)) / pageBits) (page (v 0) bitPointer + p / pageBits) (omega arith)
 
   pub bitPage-pos : 0 < bitPage P v p
   bitPage-pos = omega (arith, bitPage-is, r .start)
@@ -35,8 +35,8 @@ module _ (P : ℕ) (v : Vol) (r : Rule1 P v) (p : ℕ) (h : p < P) where
   pub bitPage-in : 1 ≤ weighR v (bitFile P v) (hit (bitPage P v p))
   unfolding bitPage
   bitPage-in =
-      let B : ℕ = pageAt v (bitFile P v) (p / 16384) in
-      omega (arith, pageAt-le v (hit B) (hit-zero B) (bitFile P v) (p / 16384), hit-same B bitPage-pos)
+      let B : ℕ = pageAt v (bitFile P v) (p / pageBits) in
+      omega (arith, pageAt-le v (hit B) (hit-zero B) (bitFile P v) (p / pageBits), hit-same B bitPage-pos)
 
 module _ (P : ℕ) (v : Vol) (hand : ℕ → ℕ) (G : Good P v hand) where
   -- no other tree has a bit page
@@ -68,7 +68,7 @@ module _ (P : ℕ) (v : Vol) (hand : ℕ → ℕ) (G : Good P v hand) (d : ℕ) 
   -- only the page and the bits' page change
   pub claim-else : (p k : ℕ) → p ≢ B d → p ≢ d → claim P v d p k ≡ v p k
   unfolding claim mark
-  claim-else p k a b = wipe-page (mark P v d 1) d p k b ∙ put-page v (bitPage P v d) (d % 16384 / 16) _ p k a
+  claim-else p k a b = wipe-page (mark P v d 1) d p k b ∙ put-page v (bitPage P v d) (bitWord d) _ p k a
 
   pub claim-agree : Agree C v (claim P v d)
   unfolding Agree
@@ -111,35 +111,32 @@ module _ (P : ℕ) (v : Vol) (hand : ℕ → ℕ) (G : Good P v hand) (d : ℕ) 
 
   bit-page : (p : ℕ) → bitPage P (claim P v d) p ≡ B p
   unfolding bitPage bitFile pageAt
-  bit-page p = ap (λ (r : Root). pageAt (claim P v d) r (p / 16384)) (bits-root v (claim P v d) claim-roots P)
+  bit-page p = ap (λ (r : Root). pageAt (claim P v d) r (p / pageBits)) (bits-root v (claim P v d) claim-roots P)
 
-  abbrev wordOf : ℕ → ℕ
-  wordOf p = p % 16384 / 16
-
-  read : (p : ℕ) → p < P → bit P (claim P v d) p ≡ digit (p % 16) (mark P v d 1 (B p) (wordOf p))
+  read : (p : ℕ) → p < P → bit P (claim P v d) p ≡ digit (p % 16) (mark P v d 1 (B p) (bitWord p))
   unfolding bit claim
-  read p h = ap (λ (b : ℕ). digit (p % 16) (word (claim P v d) b (wordOf p))) (bit-page p)
-      ∙ ap (digit (p % 16)) (word-pos (claim P v d) (B p) (wordOf p) (bitPage-pos P v (G .most .r1) p h) ∙ wipe-page (mark P v d 1) d (B p) (wordOf p) (apart p h))
+  read p h = ap (λ (b : ℕ). digit (p % 16) (word (claim P v d) b (bitWord p))) (bit-page p)
+      ∙ ap (digit (p % 16)) (word-pos (claim P v d) (B p) (bitWord p) (bitPage-pos P v (G .most .r1) p h) ∙ wipe-page (mark P v d 1) d (B p) (bitWord p) (apart p h))
 
   pub claim-bit : bit P (claim P v d) d ≡ 1
   unfolding mark
-  claim-bit = read d hd ∙ ap (digit (d % 16)) (put-here v (bitPage P v d) (d % 16384 / 16) _) ∙ digit-same (d % 16) _ 1 (omega arith)
+  claim-bit = read d hd ∙ ap (digit (d % 16)) (put-here v (bitPage P v d) (bitWord d) _) ∙ digit-same (d % 16) _ 1 (omega arith)
 
-  old : (p : ℕ) → p < P → digit (p % 16) (v (B p) (wordOf p)) ≡ bit P v p
+  old : (p : ℕ) → p < P → digit (p % 16) (v (B p) (bitWord p)) ≡ bit P v p
   unfolding bit
-  old p h = ap (digit (p % 16)) (sym (word-pos v (bitPage P v p) (p % 16384 / 16) (bitPage-pos P v (G .most .r1) p h)))
+  old p h = ap (digit (p % 16)) (sym (word-pos v (bitPage P v p) (bitWord p) (bitPage-pos P v (G .most .r1) p h)))
 
   pub claim-bit-other : (p : ℕ) → p < P → p ≢ d → bit P (claim P v d) p ≡ bit P v p
   unfolding mark
   claim-bit-other p h n = read p h ∙ elim (ℕ-discrete (B p) (B d)) [
-    | no a ↦ ap (digit (p % 16)) (put-page v (B d) (wordOf d) _ (B p) (wordOf p) a) ∙ old p h
-    | yes e ↦ elim (ℕ-discrete (wordOf p) (wordOf d)) [
-      | no a ↦ ap (digit (p % 16)) (put-word v (B d) (wordOf d) _ (B p) (wordOf p) a) ∙ old p h
+    | no a ↦ ap (digit (p % 16)) (put-page v (B d) (bitWord d) _ (B p) (bitWord p) a) ∙ old p h
+    | yes e ↦ elim (ℕ-discrete (bitWord p) (bitWord d)) [
+      | no a ↦ ap (digit (p % 16)) (put-word v (B d) (bitWord d) _ (B p) (bitWord p) a) ∙ old p h
       | yes e′ ↦
           let ne : p % 16 ≢ d % 16 = λ i. n (omega (arith, i, e′, e, bitPage-is P v (G .most .r1) p h, bitPage-is P v (G .most .r1) d hd)) in
           ap₂ (λ (b w : ℕ). digit (p % 16) (mark P v d 1 b w)) e e′
-          ∙ ap (digit (p % 16)) (put-here v (B d) (wordOf d) _) ∙ digit-other (p % 16) (d % 16) _ 1 ne (omega arith)
-          ∙ ap (digit (p % 16)) (word-pos v (B d) (wordOf d) (bitPage-pos P v (G .most .r1) d hd))
+          ∙ ap (digit (p % 16)) (put-here v (B d) (bitWord d) _) ∙ digit-other (p % 16) (d % 16) _ 1 ne (omega arith)
+          ∙ ap (digit (p % 16)) (word-pos v (B d) (bitWord d) (bitPage-pos P v (G .most .r1) d hd))
           ∙ ap₂ (λ (b w : ℕ). digit (p % 16) (v b w)) (sym e) (sym e′) ∙ old p h
     ]
   ]

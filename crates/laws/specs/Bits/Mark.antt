@@ -5,7 +5,7 @@ use Prim.Native.Nat.{ℕ, _+_, _-_, _/_, _%_, _<_}
 use native.Mathlib.Decide.{ℕ-discrete}
 use native.Mathlib.Omega.{arith}
 use Rattle.sums.specs.Sum.{is}
-use Rattle.book.specs.Bits.{bitFile, bitPage, bit, digit, mark}
+use Rattle.book.specs.Bits.{bitFile, bitPage, bit, digit, mark, bitWord, pageBits}
 use Rattle.book.specs.Holders.{hit, all}
 use Rattle.book.specs.Pointers.{page}
 use Rattle.book.specs.Rules.{Rule1}
@@ -22,12 +22,9 @@ module _ (P : ℕ) (v : Vol) (r : Rule1 P v) (d x : ℕ) (hd : d < P) (hx : x < 
   abbrev B : ℕ → ℕ
   B p = bitPage P v p
 
-  abbrev wordOf : ℕ → ℕ
-  wordOf p = p % 16384 / 16
-
   pub mark-page : (q k : ℕ) → q ≢ B d → mark P v d x q k ≡ v q k
   unfolding mark
-  mark-page q k n = put-page v (B d) (wordOf d) _ q k n
+  mark-page q k n = put-page v (B d) (bitWord d) _ q k n
 
   pub mark-agree : Agree (hit (B d)) v (mark P v d x)
   unfolding Agree
@@ -40,30 +37,30 @@ module _ (P : ℕ) (v : Vol) (r : Rule1 P v) (d x : ℕ) (hd : d < P) (hx : x < 
   unfolding Roots
   mark-roots k i j = mark-master k
 
-  read : (p : ℕ) → p < P → bit P (mark P v d x) p ≡ digit (p % 16) (mark P v d x (B p) (wordOf p))
+  read : (p : ℕ) → p < P → bit P (mark P v d x) p ≡ digit (p % 16) (mark P v d x (B p) (bitWord p))
   unfolding bit bitPage bitFile pageAt
-  read p h = ap (λ (s : Root). digit (p % 16) (word (mark P v d x) (pageAt (mark P v d x) s (p / 16384)) (wordOf p))) (bits-root v (mark P v d x) mark-roots P)
-      ∙ ap (digit (p % 16)) (word-pos (mark P v d x) (B p) (wordOf p) (bitPage-pos P v r p h))
+  read p h = ap (λ (s : Root). digit (p % 16) (word (mark P v d x) (pageAt (mark P v d x) s (p / pageBits)) (bitWord p))) (bits-root v (mark P v d x) mark-roots P)
+      ∙ ap (digit (p % 16)) (word-pos (mark P v d x) (B p) (bitWord p) (bitPage-pos P v r p h))
 
-  old : (p : ℕ) → p < P → digit (p % 16) (v (B p) (wordOf p)) ≡ bit P v p
+  old : (p : ℕ) → p < P → digit (p % 16) (v (B p) (bitWord p)) ≡ bit P v p
   unfolding bit
-  old p h = ap (digit (p % 16)) (sym (word-pos v (bitPage P v p) (p % 16384 / 16) (bitPage-pos P v r p h)))
+  old p h = ap (digit (p % 16)) (sym (word-pos v (bitPage P v p) (bitWord p) (bitPage-pos P v r p h)))
 
   pub mark-bit : bit P (mark P v d x) d ≡ x
   unfolding mark
-  mark-bit = read d hd ∙ ap (digit (d % 16)) (put-here v (B d) (wordOf d) _) ∙ digit-same (d % 16) _ x hx
+  mark-bit = read d hd ∙ ap (digit (d % 16)) (put-here v (B d) (bitWord d) _) ∙ digit-same (d % 16) _ x hx
 
   pub mark-other : (p : ℕ) → p < P → p ≢ d → bit P (mark P v d x) p ≡ bit P v p
   unfolding mark
   mark-other p h n = read p h ∙ elim (ℕ-discrete (B p) (B d)) [
-    | no a ↦ ap (digit (p % 16)) (put-page v (B d) (wordOf d) _ (B p) (wordOf p) a) ∙ old p h
-    | yes e ↦ elim (ℕ-discrete (wordOf p) (wordOf d)) [
-      | no a ↦ ap (digit (p % 16)) (put-word v (B d) (wordOf d) _ (B p) (wordOf p) a) ∙ old p h
+    | no a ↦ ap (digit (p % 16)) (put-page v (B d) (bitWord d) _ (B p) (bitWord p) a) ∙ old p h
+    | yes e ↦ elim (ℕ-discrete (bitWord p) (bitWord d)) [
+      | no a ↦ ap (digit (p % 16)) (put-word v (B d) (bitWord d) _ (B p) (bitWord p) a) ∙ old p h
       | yes e′ ↦
           let ne : p % 16 ≢ d % 16 = λ i. n (omega (arith, i, e′, e, bitPage-is P v r p h, bitPage-is P v r d hd)) in
           ap₂ (λ (b w : ℕ). digit (p % 16) (mark P v d x b w)) e e′
-          ∙ ap (digit (p % 16)) (put-here v (B d) (wordOf d) _) ∙ digit-other (p % 16) (d % 16) _ x ne hx
-          ∙ ap (digit (p % 16)) (word-pos v (B d) (wordOf d) (bitPage-pos P v r d hd))
+          ∙ ap (digit (p % 16)) (put-here v (B d) (bitWord d) _) ∙ digit-other (p % 16) (d % 16) _ x ne hx
+          ∙ ap (digit (p % 16)) (word-pos v (B d) (bitWord d) (bitPage-pos P v r d hd))
           ∙ ap₂ (λ (b w : ℕ). digit (p % 16) (v b w)) (sym e) (sym e′) ∙ old p h
     ]
   ]

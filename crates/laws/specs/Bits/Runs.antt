@@ -10,16 +10,13 @@ use Rattle.book.specs.Holders.{hit}
 use Rattle.book.specs.Words.{Vol}
 use Rattle.laws.specs.Bits.Claim.{claim-good, claim-bit-other, claim-user, claim-obj}
 use Rattle.laws.specs.Bits.Taking.{NoWords, no-words, Taking, taking-none, taking-then, claim-taking}
-use Rattle.laws.specs.Count.Good.{Good}
+use Rattle.laws.specs.Count.Good.{Good, Good-ext}
 
 pub record Taken (P : ℕ) (v : Vol) (hand : ℕ → ℕ) (s n : ℕ) : Type 0 where
   pub good : Good P (claimRun P v s n) (λ p. hand p + sum n (λ i. hit (s + i) p))
   pub others : (p : ℕ) → p < P → (p < s) ⊎ (s + n ≤ p) → bit P (claimRun P v s n) p ≡ bit P v p
   pub users : user (claimRun P v s n) ≡ user v
   pub objs : object (claimRun P v s n) ≡ object v
-
-pub Good-ext : (P : ℕ) (v : Vol) (h k : ℕ → ℕ) → ((p : ℕ) → p < P → h p ≡ k p) → Good P v h → Good P v k
-Good-ext P v h k e g = record { most = g .most; held = λ p i. omega (arith, g .held p i, e p i) }
 
 pub taken : (P : ℕ) (v : Vol) (hand : ℕ → ℕ) → Good P v hand → (s n : ℕ) → s + n ≤ P → ((i : ℕ) → i < n → bit P v (s + i) ≡ 0) → Taken P v hand s n
 unfolding claimRun

@@ -5,7 +5,7 @@ use Prim.Native.Nat.{ℕ, _+_, _-_, _/_, _≤_, _<_}
 use native.Mathlib.Decide.{ℕ-discrete}
 use native.Mathlib.Omega.{arith}
 use Rattle.sums.specs.Sum.{sum-ext, sum-add, sum-const}
-use Rattle.book.specs.Bits.{bit, bitWord, bitPlace, bitPage, bitFile, digit, mark, claim, reserved}
+use Rattle.book.specs.Bits.{bit, bitWord, bitPlace, bitPage, bitFile, digit, mark, claim, reserved, pageBits}
 use Rattle.book.specs.Entries.{userFile, objectFile, user, object, unreserved}
 use Rattle.book.specs.Files.{fileAt}
 use Rattle.book.specs.Holders.{hit, some}
@@ -196,7 +196,7 @@ settled-taking P v hand G v′ C new T ua oa F o = record {
   address = λ e h i. ap (λ (r : Root). pageAt v′ r i) (file-same P v hand G v′ C new T e) ∙ pageAt-frame v v′ C (T .agree) (fileAt v e) (blocks-nobody v C (T .noFiles) e h) i;
   holding = λ e h g. ap (λ (r : Root). weighR v′ r g) (file-same P v hand G v′ C new T e) ∙ weighR-frame v v′ C (T .agree) (fileAt v e) (blocks-nobody v C (T .noFiles) e h) g;
   bits = λ p h. omega (arith, bits-kept P v hand G v′ C new T p);
-  places = λ p. ap (λ (r : Root). pageAt v r (p / 16384)) (T .bits);
+  places = λ p. ap (λ (r : Root). pageAt v r (p / pageBits)) (T .bits);
   left = omega (arith, sum-ext P (λ p. 1 - bit P v′ p) (λ p. 1 - bit P v p) (λ p h. ap (λ (x : ℕ). 1 - x) (bits-kept P v hand G v′ C new T p)));
   paid = T .pay;
   words = only-wider F (Either (TakenWords P v v′) F) v v′ (λ p k h. inr h) o;

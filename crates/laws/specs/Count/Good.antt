@@ -10,6 +10,7 @@ use Rattle.book.specs.Bits.{bitFile, bit}
 use Rattle.book.specs.Entries.{userFile, objectFile, user, object, used, given, usedPages, grant, unreserved}
 use Rattle.book.specs.Files.{fileAt}
 use Rattle.book.specs.Holders.{hit, some, mine, system, all, holders, systemPages}
+use Rattle.book.specs.Pointers.{unreservedCount}
 use Rattle.book.specs.Rules.{Rule1, Rule2, Rule3, Rule4, Rule5, Rule6, Rule7, Rule8, Rule9, Rule10, Sound}
 use Rattle.book.specs.Trees.{Root, tree, run, weighR}
 use Rattle.book.specs.Words.{Vol, two}
@@ -118,6 +119,9 @@ sound P v hand g z = record {
   r10 = g .most .r10;
 }
 
+pub Good-ext : (P : ℕ) (v : Vol) (h k : ℕ → ℕ) → ((p : ℕ) → p < P → h p ≡ k p) → Good P v h → Good P v k
+Good-ext P v h k e g = record { most = g .most; held = λ p i. omega (arith, g .held p i, e p i) }
+
 unfoldable pub free : ℕ → Vol → ℕ
 free P v = sum P (λ p. 1 - bit P v p)
 
@@ -157,7 +161,7 @@ module _ (P : ℕ) (v : Vol) (s : Most P v) where
   ]
 
 -- the pages that a user has left are free, beside all unreserved ones
-pub room : (P : ℕ) (v : Vol) → Sound P v → 0 < P → (u k : ℕ) → u < 256 → 0 < used (user v u) → usedPages (user v) u + k ≤ given (user v) u → two (v 0) 1022 + k ≤ free P v
+pub room : (P : ℕ) (v : Vol) → Sound P v → 0 < P → (u k : ℕ) → u < 256 → 0 < used (user v u) → usedPages (user v) u + k ≤ given (user v) u → two (v 0) unreservedCount + k ≤ free P v
 unfolding Rule10 all unreserved systemPages
 room P v s h u k i j l =
     let m : sum 256 (λ u. mine v u some) + k ≤ sum 256 (grant (user v)) =

@@ -7,7 +7,7 @@ use native.Mathlib.Omega.{arith}
 use Rattle.book.specs.Bits.{bitFile}
 use Rattle.book.specs.Entries.{userFile, objectFile, object, used, user}
 use Rattle.book.specs.Files.{fileAt, Shape, FileShape}
-use Rattle.book.specs.Pointers.{flags, page, Inside, objectPointer, indexed}
+use Rattle.book.specs.Pointers.{flags, page, Inside, objectPointer, indexed, userPointer}
 use Rattle.book.specs.Rules.{Rule1, Rule2, Rule3, Rule5, Rule5By, Rule7}
 use Rattle.book.specs.Trees.{Root, tree, run, Below, rootAt, rootBy}
 use Rattle.book.specs.Words.{Vol}
@@ -37,17 +37,17 @@ module _ (P : ℕ) (v : Vol) where
 
   pub below-users : Rule2 P v → Rule3 P v → BelowR v P (userFile v)
   unfolding Rule2 Rule3 userFile Inside Below
-  below-users (inl z) r = below-run v P _ _ _ (root-0 (v 0) 1018 0 (zero-flags (v 0) 1018 (z .0))) (omega (arith, zero-page (v 0) 1018 (z .0)))
-  below-users (inr i) r = below-tree v P _ 1 _ (root-1 (v 0) 1018 0 (i .0 .0)) (i .0 .2, λ k h. r k h .0)
+  below-users (inl z) r = below-run v P _ _ _ (root-0 (v 0) userPointer 0 (zero-flags (v 0) userPointer (z .0))) (omega (arith, zero-page (v 0) userPointer (z .0)))
+  below-users (inr i) r = below-tree v P _ 1 _ (root-1 (v 0) userPointer 0 (i .0 .0)) (i .0 .2, λ k h. r k h .0)
 
   pub below-objects : Rule2 P v → Rule5 P v → BelowR v P (objectFile v)
   unfolding Rule2 Rule5 Rule5By objectFile Inside
-  below-objects (inl z) r = below-run v P _ _ _ (root-0 (v 0) 1016 0 (zero-flags (v 0) 1016 (z .1))) (omega (arith, zero-page (v 0) 1016 (z .1)))
+  below-objects (inl z) r = below-run v P _ _ _ (root-0 (v 0) objectPointer 0 (zero-flags (v 0) objectPointer (z .1))) (omega (arith, zero-page (v 0) objectPointer (z .1)))
   below-objects (inr i) r = go (i .1)
     where
-      go : (Inside P (v 0) 1016 1 ⊎ Inside P (v 0) 1016 2) → BelowR v P (rootAt (v 0) 1016 0)
-      go (inl a) = below-tree v P _ 1 _ (root-1 (v 0) 1016 0 (a .0)) ((subst (λ (x : ℕ). Rule5By P v x (page (v 0) 1016)) (a .0) r) .0)
-      go (inr a) = below-tree v P _ 2 _ (root-2 (v 0) 1016 0 (a .0)) ((subst (λ (x : ℕ). Rule5By P v x (page (v 0) 1016)) (a .0) r) .0)
+      go : (Inside P (v 0) objectPointer 1 ⊎ Inside P (v 0) objectPointer 2) → BelowR v P (rootAt (v 0) objectPointer 0)
+      go (inl a) = below-tree v P _ 1 _ (root-1 (v 0) objectPointer 0 (a .0)) ((subst (λ (x : ℕ). Rule5By P v x (page (v 0) objectPointer)) (a .0) r) .0)
+      go (inr a) = below-tree v P _ 2 _ (root-2 (v 0) objectPointer 0 (a .0)) ((subst (λ (x : ℕ). Rule5By P v x (page (v 0) objectPointer)) (a .0) r) .0)
 
   -- a shape's pages, by the flags x of its pointer, with page t and n pages
   pub below-shape : (x t n : ℕ) → Shape P v x t n → BelowR v P (rootBy x t n)

@@ -45,3 +45,17 @@ sum-tight n f g le eq i h = elim (decLt (f i) (g i)) [
   | yes l ↦ omega (arith, sum-le-at n f g i 1 h le (omega arith))
   | no l ↦ omega arith
 ]
+
+-- ---- short sums, written out
+
+pub sum-1 : (f : ℕ → ℕ) → sum 1 f ≡ f 0
+unfolding sum
+sum-1 f = omega arith
+
+pub sum-2 : (f : ℕ → ℕ) → sum 2 f ≡ f 0 + f 1
+unfolding sum
+sum-2 f = omega arith
+
+pub sum-3 : (f : ℕ → ℕ) → sum 3 f ≡ f 0 + f 1 + f 2
+unfolding sum
+sum-3 f = omega arith

@@ -1,14 +1,14 @@
 -- The place of a new file's entry: an object index block if absent, then an object page if absent. Assumes nothing.
 use mathlib.Core.Path.{_≡_, sym, ap, _∙_, subst}
 use mathlib.Core.Logic.{_⊎_, inl, inr}
-use Prim.Native.Nat.{ℕ, _/_, _%_, _≤_, _<_}
+use Prim.Native.Nat.{ℕ, suc, _/_, _%_, _≤_, _<_}
 use native.Mathlib.Nat.{eq-zero-or-pos}
 use native.Mathlib.Omega.{arith}
 use Rattle.sums.specs.Search.{pick-yes, pick-no}
 use Rattle.book.specs.Create.{extend, objectIndex, fileNeed, withIndex, withObjectPage, filePlace}
 use Rattle.book.specs.Entries.{objectPage, entryPage, unreserved}
 use Rattle.book.specs.Holders.{hit}
-use Rattle.book.specs.Pointers.{slot, flags, page}
+use Rattle.book.specs.Pointers.{slot, flags, page, objectPointer, unreservedCount}
 use Rattle.book.specs.Rules.{Sound}
 use Rattle.book.specs.Words.{Vol}
 use Rattle.laws.specs.Bits.Choose.{Chooser}
@@ -16,7 +16,7 @@ use Rattle.laws.specs.Bits.Taking.{TakenWords, NoWords}
 use Rattle.laws.specs.Count.Good.{bit-le}
 use Rattle.laws.specs.Create.Join.{SlotWords}
 use Rattle.laws.specs.Create.Placed.{Placed, placed-none, placed-then, extend-pos, extend-master, extend-slot, extend-bare, extend-keeps, extend-taken, extend-placed, placed-wider}
-use Rattle.laws.specs.Create.Vacant.{Vacant, Reached, reached-kept, once, object-one, object-two, top-held, under, object-slot, object-none, index-vacant, top-vacant}
+use Rattle.laws.specs.Create.Vacant.{Reaches, Vacant, Reached, reached-kept, once, object-one, object-two, top-held, under, object-slot, object-none, index-vacant, top-vacant}
 use Rattle.laws.specs.Frame.Places.{Places, UnreservedWords, Either}
 use Rattle.laws.specs.Tree.Pointer.{flags-ext, page-ext}
 use Rattle.laws.specs.Tree.Slot.{hit-same, slot-same}
@@ -27,7 +27,7 @@ When A B p k = A × B p k
 
 -- beside the pages taken and their bits: unreserved, the slot of the index block, the slot of the page
 abbrev pub FilePlaceWords : Vol → ℕ → Places
-FilePlaceWords v e = Either (When (0 < fileNeed v e) UnreservedWords) (Either (When (objectIndex v e ≡ 0) (SlotWords (page (v 0) 1016) (entryPage e / 512)))
+FilePlaceWords v e = Either (When (0 < fileNeed v e) UnreservedWords) (Either (When (objectIndex v e ≡ 0) (SlotWords (page (v 0) objectPointer) (entryPage e / 512)))
     (When ((0 < objectIndex v e) × (objectPage v e ≡ 0)) (SlotWords (objectIndex v e) (entryPage e % 512))))
 
 pub record FilePlaced (P : ℕ) (v w : Vol) (e : ℕ) : Type 0 where
@@ -53,22 +53,22 @@ module _ (choose : Vol → ℕ) (P : ℕ) (ch : Chooser P choose) (e : ℕ) wher
     page-placed = extend-placed choose P ch v S pos X j N have
 
     R′ : Reached P v′ e
-    R′ = reached-kept P v v′ e (extend-master choose P ch v S pos X j N have 1016 (omega arith)) (extend-master choose P ch v S pos X j N have 1017 (omega arith)) R
+    R′ = reached-kept P v v′ e (extend-master choose P ch v S pos X j N have objectPointer (omega arith)) (extend-master choose P ch v S pos X j N have (suc objectPointer) (omega arith)) R
 
-    top-same : page (v′ 0) 1016 ≡ page (v 0) 1016
-    top-same = page-ext (v′ 0) (v 0) 1016 (extend-master choose P ch v S pos X j N have 1016 (omega arith)) (extend-master choose P ch v S pos X j N have 1017 (omega arith))
+    top-same : page (v′ 0) objectPointer ≡ page (v 0) objectPointer
+    top-same = page-ext (v′ 0) (v 0) objectPointer (extend-master choose P ch v S pos X j N have objectPointer (omega arith)) (extend-master choose P ch v S pos X j N have (suc objectPointer) (omega arith))
 
-    flags-same : flags (v′ 0) 1016 ≡ flags (v 0) 1016
-    flags-same = flags-ext (v′ 0) (v 0) 1016 (extend-master choose P ch v S pos X j N have 1016 (omega arith))
+    flags-same : flags (v′ 0) objectPointer ≡ flags (v 0) objectPointer
+    flags-same = flags-ext (v′ 0) (v 0) objectPointer (extend-master choose P ch v S pos X j N have objectPointer (omega arith))
 
     index-same : objectIndex v′ e ≡ X
     index-same = go (R .kind)
       where
-        go : ((flags (v 0) 1016 ≡ 1) × (e < 16384)) ⊎ ((flags (v 0) 1016 ≡ 2) × (e < 65536)) → objectIndex v′ e ≡ objectIndex v e
+        go : Reaches v e → objectIndex v′ e ≡ objectIndex v e
         go (inl h) = object-one P v′ (page-placed .sound) e R′ (flags-same ∙ h .0) ∙ top-same ∙ sym (object-one P v S e R (h .0))
         go (inr h) =
             let b = under P v S e R (h .0) (h .1) p in
-            let o : ℕ = page (v 0) 1016 in
+            let o : ℕ = page (v 0) objectPointer in
             object-two P v′ (page-placed .sound) e R′ (flags-same ∙ h .0) ∙ ap (λ (t : ℕ). slot v′ t (entryPage e / 512)) top-same
             ∙ slot-same v v′ o (extend-keeps choose P ch v S pos X j N have o
             (λ q. omega (arith, b .1, once P v S (objectIndex v e) (b .0), subst (λ (y : ℕ). hit (objectIndex v e) y ≡ 1) (sym q) (hit-same (objectIndex v e) p)))
@@ -84,7 +84,7 @@ module _ (choose : Vol → ℕ) (P : ℕ) (ch : Chooser P choose) (e : ℕ) wher
 
   module _ (v : Vol) (S : Sound P v) (pos : 0 < P) (R : Reached P v e) (have : fileNeed v e ≤ unreserved v) where
     abbrev o : ℕ
-    o = page (v 0) 1016
+    o = page (v 0) objectPointer
 
     abbrev i : ℕ
     i = entryPage e / 512
@@ -134,22 +134,22 @@ module _ (choose : Vol → ℕ) (P : ℕ) (ch : Chooser P choose) (e : ℕ) wher
       T₁ : Placed P v w (Either (SlotWords o i) UnreservedWords) 1
       T₁ = extend-placed choose P ch v S pos o i N₁ have₁
 
-      two : flags (v 0) 1016 ≡ 2
+      two : flags (v 0) objectPointer ≡ 2
       two = go (R .kind)
         where
-          go : ((flags (v 0) 1016 ≡ 1) × (e < 16384)) ⊎ ((flags (v 0) 1016 ≡ 2) × (e < 65536)) → flags (v 0) 1016 ≡ 2
+          go : Reaches v e → flags (v 0) objectPointer ≡ 2
           go (inl h) = absurd (let r : ⊥ = omega (arith, z, object-one P v S e R (h .0), R .real) in r)
           go (inr h) = h .0
 
-      mast : (k : ℕ) → k < 1022 → w 0 k ≡ v 0 k
+      mast : (k : ℕ) → k < unreservedCount → w 0 k ≡ v 0 k
       mast = extend-master choose P ch v S pos o i N₁ have₁
 
       R₁ : Reached P w e
-      R₁ = reached-kept P v w e (mast 1016 (omega arith)) (mast 1017 (omega arith)) R
+      R₁ = reached-kept P v w e (mast objectPointer (omega arith)) (mast (suc objectPointer) (omega arith)) R
 
       index₁ : objectIndex w e ≡ choose v
-      index₁ = object-two P w (T₁ .sound) e R₁ (flags-ext (w 0) (v 0) 1016 (mast 1016 (omega arith)) ∙ two)
-          ∙ ap (λ (t : ℕ). slot w t i) (page-ext (w 0) (v 0) 1016 (mast 1016 (omega arith)) (mast 1017 (omega arith))) ∙ extend-slot choose P ch v S pos o i N₁ have₁
+      index₁ = object-two P w (T₁ .sound) e R₁ (flags-ext (w 0) (v 0) objectPointer (mast objectPointer (omega arith)) ∙ two)
+          ∙ ap (λ (t : ℕ). slot w t i) (page-ext (w 0) (v 0) objectPointer (mast objectPointer (omega arith)) (mast (suc objectPointer) (omega arith))) ∙ extend-slot choose P ch v S pos o i N₁ have₁
 
       p₁ : 0 < objectIndex w e
       p₁ = omega (arith, index₁, extend-pos choose P ch v S pos o i N₁ have₁)

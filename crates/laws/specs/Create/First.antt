@@ -1,7 +1,7 @@
 -- The first user ever: the user index and the object index become pages of the volume. Assumes nothing.
 use mathlib.Core.Path.{_≡_, refl, sym, ap, _∙_, subst₂, fun-ext}
 use mathlib.Core.Logic.{_⊎_, inl, inr}
-use Prim.Native.Nat.{ℕ, _+_, _-_, _*_, _/_, _%_, _≤_, _<_, zero-le}
+use Prim.Native.Nat.{ℕ, suc, _+_, _-_, _*_, _/_, _%_, _≤_, _<_, zero-le}
 use native.Mathlib.Decide.{decLt}
 use native.Mathlib.Omega.{arith}
 use Rattle.sums.specs.Sum.{sum-zero, sum-none}
@@ -9,7 +9,7 @@ use Rattle.book.specs.Bits.{bitFile, bitPages}
 use Rattle.book.specs.Entries.{Table, entry, userFile, objectFile, user, object, used}
 use Rattle.book.specs.Files.{fileAt}
 use Rattle.book.specs.Holders.{system, mine}
-use Rattle.book.specs.Pointers.{slot, flags, page, Zero, Inside}
+use Rattle.book.specs.Pointers.{slot, flags, page, Zero, Inside, bitPointer, objectPointer, unreservedCount, userPointer, volumeName}
 use Rattle.book.specs.Rules.{Rule2, Rule3, Rule5, Rule5By}
 use Rattle.book.specs.Trees.{Root, tree, run, leaf, weighR, pageAt, Below}
 use Rattle.book.specs.Words.{Vol, two, word}
@@ -30,10 +30,10 @@ bare-page v t z n = elim (decLt n 512) [
 ]
 
 module _ (P : ℕ) (v : Vol) (hand : ℕ → ℕ) (G : Good P v hand) (pos : 0 < P) (v′ : Vol) (i o : ℕ) (hi : i < P) (pi : 0 < i) (ho : o < P) (po : 0 < o)
-    (pages : (q k : ℕ) → word v′ q k ≡ word v q k) (zu : Zero (v 0) 1018) (zo : Zero (v 0) 1016)
-    (fu : flags (v′ 0) 1018 ≡ 1) (tu : page (v′ 0) 1018 ≡ i) (fo : flags (v′ 0) 1016 ≡ 1) (to : page (v′ 0) 1016 ≡ o)
+    (pages : (q k : ℕ) → word v′ q k ≡ word v q k) (zu : Zero (v 0) userPointer) (zo : Zero (v 0) objectPointer)
+    (fu : flags (v′ 0) userPointer ≡ 1) (tu : page (v′ 0) userPointer ≡ i) (fo : flags (v′ 0) objectPointer ≡ 1) (to : page (v′ 0) objectPointer ≡ o)
     (bi : (j : ℕ) → slot v i j ≡ 0) (bo : (j : ℕ) → slot v o j ≡ 0)
-    (mast : (k : ℕ) → 1008 ≤ k → k < 1022 → (k < 1016) ⊎ (1020 ≤ k) → v′ 0 k ≡ v 0 k) (pay : two (v′ 0) 1022 + 2 ≡ two (v 0) 1022) where
+    (mast : (k : ℕ) → volumeName ≤ k → k < unreservedCount → (k < objectPointer) ⊎ (bitPointer ≤ k) → v′ 0 k ≡ v 0 k) (pay : two (v′ 0) unreservedCount + 2 ≡ two (v 0) unreservedCount) where
   sl : (q j : ℕ) → slot v′ q j ≡ slot v q j
   sl q j = slot-same v v′ q (pages q) j
 
@@ -44,21 +44,21 @@ module _ (P : ℕ) (v : Vol) (hand : ℕ → ℕ) (G : Good P v hand) (pos : 0 <
   none : (r : Root) → weighR v r (λ x. 0) ≡ 0
   none r = weighR-nobody v (λ x. 0) (λ x. refl) r
 
-  users-was : userFile v ≡ run (page (v 0) 1018) 0
+  users-was : userFile v ≡ run (page (v 0) userPointer) 0
   unfolding userFile
-  users-was = root-0 (v 0) 1018 0 (zero-flags (v 0) 1018 zu)
+  users-was = root-0 (v 0) userPointer 0 (zero-flags (v 0) userPointer zu)
 
-  objs-was : objectFile v ≡ run (page (v 0) 1016) 0
+  objs-was : objectFile v ≡ run (page (v 0) objectPointer) 0
   unfolding objectFile
-  objs-was = root-0 (v 0) 1016 0 (zero-flags (v 0) 1016 zo)
+  objs-was = root-0 (v 0) objectPointer 0 (zero-flags (v 0) objectPointer zo)
 
   users-now : userFile v′ ≡ tree 1 i
   unfolding userFile
-  users-now = root-1 (v′ 0) 1018 0 fu ∙ ap (tree 1) tu
+  users-now = root-1 (v′ 0) userPointer 0 fu ∙ ap (tree 1) tu
 
   objs-now : objectFile v′ ≡ tree 1 o
   unfolding objectFile
-  objs-now = root-1 (v′ 0) 1016 0 fo ∙ ap (tree 1) to
+  objs-now = root-1 (v′ 0) objectPointer 0 fo ∙ ap (tree 1) to
 
   -- both tables read as zeros, before and after
   ent-was : (t n k : ℕ) → entry v (run t 0) n k ≡ 0
@@ -81,8 +81,8 @@ module _ (P : ℕ) (v : Vol) (hand : ℕ → ℕ) (G : Good P v hand) (pos : 0 <
   unfolding used user
   nobody u = ap (λ (x : ℕ). x / 32768) (ap (λ (r : Root). entry v r u 0) users-was ∙ ent-was _ u 0)
 
-  page20 : page (v′ 0) 1020 ≡ page (v 0) 1020
-  page20 = page-ext (v′ 0) (v 0) 1020 (mast 1020 (omega arith) (omega arith) (inr (omega arith))) (mast 1021 (omega arith) (omega arith) (inr (omega arith)))
+  page20 : page (v′ 0) bitPointer ≡ page (v 0) bitPointer
+  page20 = page-ext (v′ 0) (v 0) bitPointer (mast bitPointer (omega arith) (omega arith) (inr (omega arith))) (mast (suc bitPointer) (omega arith) (omega arith) (inr (omega arith)))
 
   bare-weight : (t : ℕ) → ((j : ℕ) → slot v′ t j ≡ 0) → (g : ℕ → ℕ) → g 0 ≡ 0 → weighR v′ (tree 1 t) g ≡ g t
   unfolding weighR
@@ -96,7 +96,7 @@ module _ (P : ℕ) (v : Vol) (hand : ℕ → ℕ) (G : Good P v hand) (pos : 0 <
   unfolding system bitFile
   weight g g0 = omega (
     arith,
-    ap (λ (x : ℕ). weighR v′ (run x (bitPages P)) g) page20 ∙ weighR-frame v v′ (λ x. 0) agree (run (page (v 0) 1020) (bitPages P)) (omega (arith, blocksR-le v (run (page (v 0) 1020) (bitPages P)) (λ x. 0), none (run (page (v 0) 1020) (bitPages P)))) g,
+    ap (λ (x : ℕ). weighR v′ (run x (bitPages P)) g) page20 ∙ weighR-frame v v′ (λ x. 0) agree (run (page (v 0) bitPointer) (bitPages P)) (omega (arith, blocksR-le v (run (page (v 0) bitPointer) (bitPages P)) (λ x. 0), none (run (page (v 0) bitPointer) (bitPages P)))) g,
     ap (λ (r : Root). weighR v′ r g) users-now ∙ bare-weight i (λ j. sl i j ∙ bi j) g g0,
     ap (λ (r : Root). weighR v r g) users-was ∙ empty-weight _ g,
     ap (λ (r : Root). weighR v′ r g) objs-now ∙ bare-weight o (λ j. sl o j ∙ bo j) g g0,
@@ -112,13 +112,13 @@ module _ (P : ℕ) (v : Vol) (hand : ℕ → ℕ) (G : Good P v hand) (pos : 0 <
     noFiles = sum-none 256 (λ u. mine v u (λ x. 0)) (λ u i. sum-none 256 (λ f. weighR v (fileAt v (256 * u + f)) (λ x. 0)) (λ f j. none (fileAt v (256 * u + f))));
     bits = ap (λ (x : ℕ). run x (bitPages P)) page20;
     rule-1 = record {
-      name = Legal-ext (v′ 0) (v 0) 1008 1 16 (λ i h. mast (1008 + i / 2) (omega arith) (omega arith) (inl (omega arith))) (G .most .r1 .name);
-      unflagged = flags-ext (v′ 0) (v 0) 1020 (mast 1020 (omega arith) (omega arith) (inr (omega arith))) ∙ G .most .r1 .unflagged;
+      name = Legal-ext (v′ 0) (v 0) volumeName 1 16 (λ i h. mast (volumeName + i / 2) (omega arith) (omega arith) (inl (omega arith))) (G .most .r1 .name);
+      unflagged = flags-ext (v′ 0) (v 0) bitPointer (mast bitPointer (omega arith) (omega arith) (inr (omega arith))) ∙ G .most .r1 .unflagged;
       start = omega (arith, G .most .r1 .start, page20);
       fits = omega (arith, G .most .r1 .fits, page20);
     };
     rule-2 = inr ((fu, omega (arith, tu), omega (arith, tu)), inl (fo, omega (arith, to), omega (arith, to)));
-    rule-3 = λ n h. let z : slot v′ (page (v′ 0) 1018) n ≡ 0 = ap (λ (x : ℕ). slot v′ x n) tu ∙ sl i n ∙ bi n in (omega arith, λ j. z);
+    rule-3 = λ n h. let z : slot v′ (page (v′ 0) userPointer) n ≡ 0 = ap (λ (x : ℕ). slot v′ x n) tu ∙ sl i n ∙ bi n in (omega arith, λ j. z);
     rule-5 = subst₂ (λ (x y : ℕ). Rule5By P v′ x y) (sym fo) (sym to)
         ((ho, λ k h. let z : slot v′ o k ≡ 0 = sl o k ∙ bo k in omega arith), λ u h j. ap (λ (U : Table). used (U u)) same-users ∙ nobody u);
     users = same-users;

@@ -7,7 +7,7 @@ use native.Mathlib.Omega.{arith}
 use Rattle.book.specs.Create.{pay}
 use Rattle.book.specs.Entries.{userFile, objectFile, unreserved}
 use Rattle.book.specs.Holders.{hit}
-use Rattle.book.specs.Pointers.{slot, setSlot}
+use Rattle.book.specs.Pointers.{slot, setSlot, unreservedCount}
 use Rattle.book.specs.Trees.{Root, tree, run, leaf, pageAt}
 use Rattle.book.specs.Words.{Vol, two, word}
 use Rattle.book.specs.Written.{word-ext, put2-page, put2-word, put2-two}
@@ -27,19 +27,19 @@ use Rattle.laws.specs.Tree.Weigh.{leaf-zero, Link}
 module _ (v : Vol) (n : ℕ) where
   pub only-pay : OnlyAt UnreservedWords v (pay v n)
   unfolding pay
-  only-pay = only-put2 v 0 1022 (unreserved v - n)
+  only-pay = only-put2 v 0 unreservedCount (unreserved v - n)
 
   pub pay-page : (q j : ℕ) → 0 < q → pay v n q j ≡ v q j
   unfolding pay
-  pay-page q j h = put2-page v 0 1022 (unreserved v - n) q j (omega arith)
+  pay-page q j h = put2-page v 0 unreservedCount (unreserved v - n) q j (omega arith)
 
-  pub pay-below : (j : ℕ) → j < 1022 → pay v n 0 j ≡ v 0 j
+  pub pay-below : (j : ℕ) → j < unreservedCount → pay v n 0 j ≡ v 0 j
   unfolding pay
-  pay-below j h = put2-word v 0 1022 (unreserved v - n) 0 j (omega arith) (omega arith)
+  pay-below j h = put2-word v 0 unreservedCount (unreserved v - n) 0 j (omega arith) (omega arith)
 
   pub pay-less : n ≤ unreserved v → unreserved (pay v n) + n ≡ unreserved v
   unfolding pay unreserved
-  pay-less h = omega (arith, put2-two v 0 1022 (two (v 0) 1022 - n))
+  pay-less h = omega (arith, put2-two v 0 unreservedCount (two (v 0) unreservedCount - n))
 
 -- the two words of slot k of block b
 abbrev pub SlotWords : ℕ → ℕ → Places
@@ -73,7 +73,7 @@ module _ (v v′ : Vol) (X k d : ℕ) (L : Link v v′ X k d) where
 
 module _ (P : ℕ) (v : Vol) (hand : ℕ → ℕ) (G : Good P v hand) (pos : 0 < P) (v′ : Vol) (X k d : ℕ) (N : Vacant P v X k)
     (hd : d < P) (pd : 0 < d) (held : 1 ≤ hand d) (bare : (j : ℕ) → word v d j ≡ 0)
-    (read : (q j : ℕ) → 0 < q → v′ q j ≡ setSlot v X k d q j) (M : Master v v′) (paid : two (v′ 0) 1022 + 1 ≡ two (v 0) 1022) where
+    (read : (q j : ℕ) → 0 < q → v′ q j ≡ setSlot v X k d q j) (M : Master v v′) (paid : two (v′ 0) unreservedCount + 1 ≡ two (v 0) unreservedCount) where
   abbrev w : Vol
   w = setSlot v X k d
 

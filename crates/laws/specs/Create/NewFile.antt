@@ -2,17 +2,17 @@
 use mathlib.Core.Path.{_≡_, sym, ap, ap₂, _∙_, subst, subst₂}
 use mathlib.Core.Logic.{_≢_, _⊎_, inl, inr}
 use mathlib.Core.List.{List}
-use Prim.Native.Nat.{ℕ, _+_, _-_, _*_, _/_, _≤_, _<_}
+use Prim.Native.Nat.{ℕ, suc, _+_, _-_, _*_, _/_, _≤_, _<_}
 use native.Mathlib.Omega.{arith}
 use Rattle.sums.specs.Search.{pick, lowest-is}
 use Rattle.sums.specs.Sum.{sum, sum-zero}
 use Rattle.book.specs.Calls.{IsFile}
 use Rattle.book.specs.Create.{objectEntry}
 use Rattle.book.specs.Entries.{user, object, used, given, usedPages, grant, fileEntry, newFile}
-use Rattle.book.specs.Files.{fileAt, Shape, FileShape, Empty, Contiguous}
+use Rattle.book.specs.Files.{fileAt, Shape, FileShape, Empty, Contiguous, pageBytes}
 use Rattle.book.specs.Holders.{hit, some}
 use Rattle.book.specs.Names.{NameText, TypeText, Same, packed}
-use Rattle.book.specs.Pointers.{flags, page}
+use Rattle.book.specs.Pointers.{flags, page, unreservedCount}
 use Rattle.book.specs.Rules.{UserOk, Rule4, Rule10}
 use Rattle.book.specs.Trees.{Root, run, weighR}
 use Rattle.book.specs.Words.{Vol, two}
@@ -55,7 +55,7 @@ module _ (P : ℕ) (x : Vol) (hand : ℕ → ℕ) (G : Good P x hand) (pos : 0 <
   pages : two (object v′ e) 26 ≡ n
   pages = two-ext (object v′ e) (objectEntry u e name type created n s) 26 (words 26 (omega arith)) (words 27 (omega arith)) ∙ file-pages u e name type created n s
 
-  bytes : two (object v′ e) 28 ≡ 2048 * n
+  bytes : two (object v′ e) 28 ≡ pageBytes * n
   bytes = two-ext (object v′ e) (objectEntry u e name type created n s) 28 (words 28 (omega arith)) (words 29 (omega arith)) ∙ file-bytes u e name type created n s
 
   plain : flags (object v′ e) 30 ≡ 0
@@ -141,7 +141,7 @@ module _ (P : ℕ) (x : Vol) (hand : ℕ → ℕ) (G : Good P x hand) (pos : 0 <
     fileNew = file-new;
     owner = λ h i q. omega (arith, user-used, uu);
     high = λ q i. user-used ∙ high-unused P x (G .most .r5) q u i hu;
-    balance = omega (arith, two-ext (v′ 0) (x 0) 1022 (master 1022) (master 1023), ap₂ (λ (y z : ℕ). pick y z 0) user-used given-kept);
+    balance = omega (arith, two-ext (v′ 0) (x 0) unreservedCount (master unreservedCount) (master (suc unreservedCount)), ap₂ (λ (y z : ℕ). pick y z 0) user-used given-kept);
     count = λ h. omega (arith, more, none some, ap (λ (r : Root). weighR v′ r some) new-root, count, G .most .r10 .0 u hu uu, edit-mine P x hand G pos u f hu hf (λ x. 0) v′ E some);
   }
 

@@ -1,14 +1,14 @@
 -- A new system page in an empty slot of a block: taken, linked and paid, it leaves a sound volume sound. Assumes nothing.
 use mathlib.Core.Path.{_≡_, refl, sym, ap, _∙_, subst}
 use mathlib.Core.Logic.{_≢_, inr}
-use Prim.Native.Nat.{ℕ, _+_, _*_, _≤_, _<_, _-_}
+use Prim.Native.Nat.{ℕ, suc, _+_, _*_, _≤_, _<_, _-_}
 use native.Mathlib.Omega.{arith}
 use Rattle.sums.specs.Sum.{sum}
 use Rattle.book.specs.Bits.{bit, bitPage, claim}
 use Rattle.book.specs.Create.{extend}
 use Rattle.book.specs.Entries.{userFile, objectFile, unreserved, Table, grant}
 use Rattle.book.specs.Holders.{hit, all, systemPages}
-use Rattle.book.specs.Pointers.{slot, setSlot}
+use Rattle.book.specs.Pointers.{slot, setSlot, objectPointer, unreservedCount, userPointer}
 use Rattle.book.specs.Rules.{Sound, Rule10}
 use Rattle.book.specs.Trees.{Root, blocksR}
 use Rattle.book.specs.Words.{Vol, two, word}
@@ -72,8 +72,8 @@ module _ (P : ℕ) (v : Vol) (hand : ℕ → ℕ) (G : Good P v hand) (d : ℕ) 
     );
     room = N .room;
     was = slot-same v w X (claim-word X (omega (arith, N .block, blocksR-le v (userFile v) (hit X), blocksR-le v (objectFile v) (hit X)))) k ∙ N .was;
-    eight = λ e. N .eight (sym (page-ext (w 0) (v 0) 1018 (m 1018) (m 1019)) ∙ e);
-    four = λ x e. N .four (sym (flags-ext (w 0) (v 0) 1016 (m 1016)) ∙ x) (sym (page-ext (w 0) (v 0) 1016 (m 1016) (m 1017)) ∙ e);
+    eight = λ e. N .eight (sym (page-ext (w 0) (v 0) userPointer (m userPointer) (m (suc userPointer))) ∙ e);
+    four = λ x e. N .four (sym (flags-ext (w 0) (v 0) objectPointer (m objectPointer)) ∙ x) (sym (page-ext (w 0) (v 0) objectPointer (m objectPointer) (m (suc objectPointer))) ∙ e);
   }
     where
       R : Roots v w
@@ -113,23 +113,23 @@ module _ (choose : Vol → ℕ) (P : ℕ) (ch : Chooser P choose) (v : Vol) (S :
   abbrev v′ : Vol
   v′ = extend choose P v X k
 
-  below : (j : ℕ) → j < 1022 → v′ 0 j ≡ v₁ 0 j
+  below : (j : ℕ) → j < unreservedCount → v′ 0 j ≡ v₁ 0 j
   unfolding extend
   below j h = pay-below (setSlot v₁ X k d) 1 j h ∙ setSlot-page v₁ X k d 0 j (omega (arith, N .real))
 
   -- the master page's words but those of unreserved stay
-  pub extend-master : (j : ℕ) → j < 1022 → v′ 0 j ≡ v 0 j
+  pub extend-master : (j : ℕ) → j < unreservedCount → v′ 0 j ≡ v 0 j
   extend-master j h = below j h ∙ claim-master P v (λ p. 0) G d hd fd j
 
   read : (q j : ℕ) → 0 < q → v′ q j ≡ setSlot v₁ X k d q j
   unfolding extend
   read q j h = pay-page (setSlot v₁ X k d) 1 q j h
 
-  paid : two (v′ 0) 1022 + 1 ≡ two (v₁ 0) 1022
+  paid : two (v′ 0) unreservedCount + 1 ≡ two (v₁ 0) unreservedCount
   unfolding extend unreserved
   paid =
-      let same : two (setSlot v₁ X k d 0) 1022 ≡ two (v₁ 0) 1022 = two-ext (setSlot v₁ X k d 0) (v₁ 0) 1022 (setSlot-page v₁ X k d 0 1022 (omega (arith, N .real))) (setSlot-page v₁ X k d 0 1023 (omega (arith, N .real))) in
-      let were : two (v₁ 0) 1022 ≡ two (v 0) 1022 = two-ext (v₁ 0) (v 0) 1022 (claim-master P v (λ p. 0) G d hd fd 1022) (claim-master P v (λ p. 0) G d hd fd 1023) in
+      let same : two (setSlot v₁ X k d 0) unreservedCount ≡ two (v₁ 0) unreservedCount = two-ext (setSlot v₁ X k d 0) (v₁ 0) unreservedCount (setSlot-page v₁ X k d 0 unreservedCount (omega (arith, N .real))) (setSlot-page v₁ X k d 0 (suc unreservedCount) (omega (arith, N .real))) in
+      let were : two (v₁ 0) unreservedCount ≡ two (v 0) unreservedCount = two-ext (v₁ 0) (v 0) unreservedCount (claim-master P v (λ p. 0) G d hd fd unreservedCount) (claim-master P v (λ p. 0) G d hd fd (suc unreservedCount)) in
       omega (arith, have, pay-less (setSlot v₁ X k d) 1 (omega (arith, have)))
 
   only : OnlyAt (Either (SlotWords X k) UnreservedWords) v₁ v′

@@ -1,13 +1,13 @@
 -- The object file gets its subindex block: taken, given the index block so far, linked and paid. Assumes nothing.
 use mathlib.Core.Path.{_≡_, refl, sym, ap, _∙_, subst}
 use mathlib.Core.Logic.{_≢_, inl, inr}
-use Prim.Native.Nat.{ℕ, _+_, _*_, _≤_, _<_}
+use Prim.Native.Nat.{ℕ, suc, _+_, _*_, _≤_, _<_}
 use native.Mathlib.Omega.{arith}
 use Rattle.book.specs.Bits.{bit, claim}
 use Rattle.book.specs.Create.{raised}
 use Rattle.book.specs.Entries.{userFile, objectFile, unreserved}
 use Rattle.book.specs.Holders.{hit}
-use Rattle.book.specs.Pointers.{slot, flags, page, pointer, setSlot}
+use Rattle.book.specs.Pointers.{slot, flags, page, pointer, setSlot, objectPointer, unreservedCount, userPointer, volumeName}
 use Rattle.book.specs.Rules.{Sound}
 use Rattle.book.specs.Trees.{Root, tree, pageAt}
 use Rattle.book.specs.Words.{Vol, two, word, put2}
@@ -25,7 +25,7 @@ use Rattle.laws.specs.Frame.Roots.{pageAt-frame, no-blocks}
 use Rattle.laws.specs.Tree.Pointer.{root-1, root-2, flags-ext, page-ext, rootAt-ext, pointer-flags, pointer-page}
 use Rattle.laws.specs.Tree.Slot.{setSlot-page, slot-here, slot-other, hit-sym, slot-bare, two-ext, hit-same, some-pos}
 
-module _ (choose : Vol → ℕ) (P : ℕ) (ch : Chooser P choose) (v : Vol) (S : Sound P v) (pos : 0 < P) (big : P ≤ 1073741824) (one : flags (v 0) 1016 ≡ 1) (have : 1 ≤ unreserved v) where
+module _ (choose : Vol → ℕ) (P : ℕ) (ch : Chooser P choose) (v : Vol) (S : Sound P v) (pos : 0 < P) (big : P ≤ 1073741824) (one : flags (v 0) objectPointer ≡ 1) (have : 1 ≤ unreserved v) where
   abbrev s : ℕ
   s = choose v
 
@@ -33,7 +33,7 @@ module _ (choose : Vol → ℕ) (P : ℕ) (ch : Chooser P choose) (v : Vol) (S :
   v₁ = claim P v s
 
   abbrev t : ℕ
-  t = page (v 0) 1016
+  t = page (v 0) objectPointer
 
   G : Good P v (λ p. 0)
   G = good P v S
@@ -68,46 +68,46 @@ module _ (choose : Vol → ℕ) (P : ℕ) (ch : Chooser P choose) (v : Vol) (S :
 
   -- the pointer has it
   abbrev x : Vol
-  x = put2 w 0 1016 (pointer 2 s)
+  x = put2 w 0 objectPointer (pointer 2 s)
 
   abbrev v′ : Vol
   v′ = raised choose P v
 
   words : (q k : ℕ) → word v′ q k ≡ word w q k
   unfolding raised
-  words q k = word-ext w v′ q k (λ h. pay-page x 1 q k h ∙ put2-page w 0 1016 (pointer 2 s) q k (omega arith))
+  words q k = word-ext w v′ q k (λ h. pay-page x 1 q k h ∙ put2-page w 0 objectPointer (pointer 2 s) q k (omega arith))
 
-  below : (k : ℕ) → k < 1022 → v′ 0 k ≡ x 0 k
+  below : (k : ℕ) → k < unreservedCount → v′ 0 k ≡ x 0 k
   unfolding raised
   below k h = pay-below x 1 k h
 
-  pub raised-master : (k : ℕ) → k < 1022 → k ≢ 1016 → k ≢ 1017 → v′ 0 k ≡ v 0 k
-  raised-master k h a b = below k h ∙ put2-word w 0 1016 (pointer 2 s) 0 k a b ∙ master k
+  pub raised-master : (k : ℕ) → k < unreservedCount → k ≢ objectPointer → k ≢ (suc objectPointer) → v′ 0 k ≡ v 0 k
+  raised-master k h a b = below k h ∙ put2-word w 0 objectPointer (pointer 2 s) 0 k a b ∙ master k
 
   -- it is subindexed now
-  pub raised-flags : flags (v′ 0) 1016 ≡ 2
-  raised-flags = flags-ext (v′ 0) (x 0) 1016 (below 1016 (omega arith)) ∙ pointer-flags w 0 1016 2 s (omega (arith, hs))
+  pub raised-flags : flags (v′ 0) objectPointer ≡ 2
+  raised-flags = flags-ext (v′ 0) (x 0) objectPointer (below objectPointer (omega arith)) ∙ pointer-flags w 0 objectPointer 2 s (omega (arith, hs))
 
-  top : page (v′ 0) 1016 ≡ s
-  top = page-ext (v′ 0) (x 0) 1016 (below 1016 (omega arith)) (below 1017 (omega arith)) ∙ pointer-page w 0 1016 2 s (omega (arith, hs))
+  top : page (v′ 0) objectPointer ≡ s
+  top = page-ext (v′ 0) (x 0) objectPointer (below objectPointer (omega arith)) (below (suc objectPointer) (omega arith)) ∙ pointer-page w 0 objectPointer 2 s (omega (arith, hs))
 
-  one′ : flags (w 0) 1016 ≡ 1
-  one′ = flags-ext (w 0) (v 0) 1016 (master 1016) ∙ one
+  one′ : flags (w 0) objectPointer ≡ 1
+  one′ = flags-ext (w 0) (v 0) objectPointer (master objectPointer) ∙ one
 
-  s0 : slot w s 0 ≡ page (w 0) 1016
-  s0 = slot-here v₁ s 0 t ps ∙ sym (page-ext (w 0) (v 0) 1016 (master 1016) (master 1017))
+  s0 : slot w s 0 ≡ page (w 0) objectPointer
+  s0 = slot-here v₁ s 0 t ps ∙ sym (page-ext (w 0) (v 0) objectPointer (master objectPointer) (master (suc objectPointer)))
 
   so : (j : ℕ) → j ≢ 0 → slot w s j ≡ 0
   so j n = slot-other v₁ s 0 t ps j n ∙ slot-bare v₁ s (claim-zero P v (λ p. 0) G s hs fs) j
 
-  mast : (k : ℕ) → 1008 ≤ k → k < 1022 → k ≢ 1016 → k ≢ 1017 → v′ 0 k ≡ w 0 k
+  mast : (k : ℕ) → volumeName ≤ k → k < unreservedCount → k ≢ objectPointer → k ≢ (suc objectPointer) → v′ 0 k ≡ w 0 k
   mast k a b c d = raised-master k b c d ∙ sym (master k)
 
-  paid : two (v′ 0) 1022 + 1 ≡ two (w 0) 1022
+  paid : two (v′ 0) unreservedCount + 1 ≡ two (w 0) unreservedCount
   unfolding raised unreserved
   paid =
-      let a : two (x 0) 1022 ≡ two (w 0) 1022 = two-ext (x 0) (w 0) 1022 (put2-word w 0 1016 (pointer 2 s) 0 1022 (omega arith) (omega arith)) (put2-word w 0 1016 (pointer 2 s) 0 1023 (omega arith) (omega arith)) in
-      let b : two (w 0) 1022 ≡ two (v 0) 1022 = two-ext (w 0) (v 0) 1022 (master 1022) (master 1023) in
+      let a : two (x 0) unreservedCount ≡ two (w 0) unreservedCount = two-ext (x 0) (w 0) unreservedCount (put2-word w 0 objectPointer (pointer 2 s) 0 unreservedCount (omega arith) (omega arith)) (put2-word w 0 objectPointer (pointer 2 s) 0 (suc unreservedCount) (omega arith) (omega arith)) in
+      let b : two (w 0) unreservedCount ≡ two (v 0) unreservedCount = two-ext (w 0) (v 0) unreservedCount (master unreservedCount) (master (suc unreservedCount)) in
       omega (arith, have, pay-less x 1 (omega (arith, have)))
 
   T : Settled P w v′ (λ x. 0) (λ g. g s)
@@ -115,22 +115,22 @@ module _ (choose : Vol → ℕ) (P : ℕ) (ch : Chooser P choose) (v : Vol) (S :
 
   users : (i : ℕ) → pageAt v′ (userFile v′) i ≡ pageAt w (userFile w) i
   unfolding userFile
-  users i = ap (λ (r : Root). pageAt v′ r i) (rootAt-ext (v′ 0) (w 0) 1018 0 (mast 1018 (omega arith) (omega arith) (omega arith) (omega arith)) (mast 1019 (omega arith) (omega arith) (omega arith) (omega arith)))
+  users i = ap (λ (r : Root). pageAt v′ r i) (rootAt-ext (v′ 0) (w 0) userPointer 0 (mast userPointer (omega arith) (omega arith) (omega arith) (omega arith)) (mast (suc userPointer) (omega arith) (omega arith) (omega arith) (omega arith)))
       ∙ pageAt-frame w v′ (λ x. 0) (T .agree) (userFile w) (no-blocks w (userFile w)) i
 
   objs : (i : ℕ) → pageAt v′ (objectFile v′) i ≡ pageAt w (objectFile w) i
   unfolding objectFile
-  objs i = ap (λ (r : Root). pageAt v′ r i) (root-2 (v′ 0) 1016 0 raised-flags ∙ ap (tree 2) top)
+  objs i = ap (λ (r : Root). pageAt v′ r i) (root-2 (v′ 0) objectPointer 0 raised-flags ∙ ap (tree 2) top)
       ∙ leaves P w (λ p. 0 + hit s p) G2 pos v′ s hs ps words one′ raised-flags top s0 so mast paid i
-      ∙ sym (ap (λ (r : Root). pageAt w r i) (root-1 (w 0) 1016 0 one′))
+      ∙ sym (ap (λ (r : Root). pageAt w r i) (root-1 (w 0) objectPointer 0 one′))
 
   -- the words that change on page 0
   abbrev F : Places
-  F = Either (WordsOf 0 1016 2) UnreservedWords
+  F = Either (WordsOf 0 objectPointer 2) UnreservedWords
 
   only : OnlyAt F w v′
   unfolding raised
-  only = only-then (WordsOf 0 1016 2) UnreservedWords w x v′ (only-put2 w 0 1016 (pointer 2 s)) (only-pay x 1)
+  only = only-then (WordsOf 0 objectPointer 2) UnreservedWords w x v′ (only-put2 w 0 objectPointer (pointer 2 s)) (only-pay x 1)
 
   rest : Taking P v₁ v′ (Either (SlotWords s 0) F) 0 1
   unfolding setSlot
@@ -139,7 +139,7 @@ module _ (choose : Vol → ℕ) (P : ℕ) (ch : Chooser P choose) (v : Vol) (S :
       (subst (λ (n : ℕ). Taking P w v′ F 0 n) (some-pos s ps) (settled-taking P w (λ p. 0 + hit s p) G2 v′ (λ x. 0) (λ g. g s) T (λ i h. users i) (λ i h. objs i) F only))
       refl refl (λ p k h. inr h)
 
-  pub raised-placed : Placed P v v′ (Either (WordsOf 0 1016 2) UnreservedWords) 1
+  pub raised-placed : Placed P v v′ (Either (WordsOf 0 objectPointer 2) UnreservedWords) 1
   raised-placed = record {
     sound = sound P v′ (λ p. 0) (system-good P w (λ p. 0 + hit s p) G2 v′ (λ x. 0) (λ g. g s) T (λ p. 0) (λ p h. omega (arith, hit-sym p s))) (λ p h. refl);
     taking = taking-then P v v₁ v′ NoWords (Either (SlotWords s 0) F) F 1 0 0 1 1 1 (claim-taking P v (λ p. 0) G s hs fs) rest refl refl wide;

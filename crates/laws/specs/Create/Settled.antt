@@ -7,11 +7,11 @@ use native.Mathlib.Decide.{ℕ-discrete, decLt}
 use native.Mathlib.Omega.{arith}
 use Rattle.sums.specs.Search.{pick}
 use Rattle.sums.specs.Sum.{sum, sum-ext, sum-none, sum-only}
-use Rattle.book.specs.Bits.{bitFile, bitPage, bitPages, bit, digit}
+use Rattle.book.specs.Bits.{bitFile, bitPage, bitPages, bit, digit, bitWord, pageBits}
 use Rattle.book.specs.Entries.{Table, entry, userFile, objectFile, user, object, used, usedPages, grant, unreserved}
 use Rattle.book.specs.Files.{fileAt}
 use Rattle.book.specs.Holders.{hit, some, all, system, mine, systemPages}
-use Rattle.book.specs.Pointers.{slot, flags, page, Inside}
+use Rattle.book.specs.Pointers.{slot, flags, page, Inside, bitPointer, objectPointer, unreservedCount, userPointer, volumeName}
 use Rattle.book.specs.Rules.{Rule1, Rule2, Rule3, Rule4, Rule5, Rule5By, Rule6, Rule7, Rule10}
 use Rattle.book.specs.Trees.{Root, tree, run, weigh, blocks, leaf, weighR, blocksR, pageAt, upto, rootAt, Below}
 use Rattle.book.specs.Words.{Vol, two, word}
@@ -107,7 +107,7 @@ pub record Settled (P : ℕ) (v v′ : Vol) (C : ℕ → ℕ) (new : (ℕ → �
   pub users : user v′ ≡ user v
   pub objs : object v′ ≡ object v
   pub weight : (g : ℕ → ℕ) → g 0 ≡ 0 → system P v′ g ≡ system P v g + new g
-  pub pay : two (v′ 0) 1022 + new some ≡ two (v 0) 1022
+  pub pay : two (v′ 0) unreservedCount + new some ≡ two (v 0) unreservedCount
 
 module _ (P : ℕ) (v : Vol) (hand : ℕ → ℕ) (G : Good P v hand) (v′ : Vol) (C : ℕ → ℕ) (new : (ℕ → ℕ) → ℕ) (T : Settled P v v′ C new) where
   pub file-same : (e : ℕ) → fileAt v′ e ≡ fileAt v e
@@ -132,9 +132,9 @@ module _ (P : ℕ) (v : Vol) (hand : ℕ → ℕ) (G : Good P v hand) (v′ : Vo
   pub bits-kept : (p : ℕ) → bit P v′ p ≡ bit P v p
   unfolding bit bitPage Agree
   bits-kept p =
-      ap (λ (r : Root). digit (p % 16) (word v′ (pageAt v′ r (p / 16384)) (p % 16384 / 16))) (T .bits)
-      ∙ ap (λ (x : ℕ). digit (p % 16) (word v′ x (p % 16384 / 16))) (pageAt-frame v v′ C (T .agree) (bitFile P v) (zeroB _ (T .noBits)) (p / 16384))
-      ∙ ap (digit (p % 16)) (T .agree (pageAt v (bitFile P v) (p / 16384)) (omega (arith, T .noBits, pageAt-le v C (T .none) (bitFile P v) (p / 16384))) (p % 16384 / 16))
+      ap (λ (r : Root). digit (p % 16) (word v′ (pageAt v′ r (p / pageBits)) (bitWord p))) (T .bits)
+      ∙ ap (λ (x : ℕ). digit (p % 16) (word v′ x (bitWord p))) (pageAt-frame v v′ C (T .agree) (bitFile P v) (zeroB _ (T .noBits)) (p / pageBits))
+      ∙ ap (digit (p % 16)) (T .agree (pageAt v (bitFile P v) (p / pageBits)) (omega (arith, T .noBits, pageAt-le v C (T .none) (bitFile P v) (p / pageBits))) (bitWord p))
 
   pub system-good : (hand′ : ℕ → ℕ) → ((p : ℕ) → p < P → hand′ p + new (hit p) ≡ hand p) → Good P v′ hand′
   unfolding Rule7 Rule10 unreserved systemPages
@@ -162,9 +162,9 @@ module _ (P : ℕ) (v : Vol) (hand : ℕ → ℕ) (G : Good P v hand) (v′ : Vo
 -- ---- a pointer to a page of zeros is stored in a block X of the user or the object file
 
 module _ (P : ℕ) (v : Vol) (hand : ℕ → ℕ) (G : Good P v hand) (pos : 0 < P) (v′ : Vol) (X k d : ℕ) (L : Link v v′ X k d)
-    (z : (j : ℕ) → word v′ d j ≡ 0) (zs : (j : ℕ) → slot v′ d j ≡ 0) (M : Master v v′) (pay : two (v′ 0) 1022 + 1 ≡ two (v 0) 1022)
+    (z : (j : ℕ) → word v′ d j ≡ 0) (zs : (j : ℕ) → slot v′ d j ≡ 0) (M : Master v v′) (pay : two (v′ 0) unreservedCount + 1 ≡ two (v 0) unreservedCount)
     (hX : X < P) (isX : 1 ≤ blocksR v (userFile v) (hit X) + blocksR v (objectFile v) (hit X)) (hd : d < P) (pd : 0 < d)
-    (eight : page (v 0) 1018 ≡ X → k < 8) (four : flags (v 0) 1016 ≡ 2 → page (v 0) 1016 ≡ X → k < 4) where
+    (eight : page (v 0) userPointer ≡ X → k < 8) (four : flags (v 0) objectPointer ≡ 2 → page (v 0) objectPointer ≡ X → k < 4) where
   agree : Agree (hit X) v v′
   unfolding Agree
   agree q h j = elim (eq-zero-or-pos q) [
@@ -210,8 +210,8 @@ module _ (P : ℕ) (v : Vol) (hand : ℕ → ℕ) (G : Good P v hand) (pos : 0 <
   three : Rule3 P v′
   unfolding Rule3
   three n i =
-      let t : ℕ = page (v 0) 1018 in
-      let e : slot v′ (page (v′ 0) 1018) n ≡ slot v′ t n = ap (λ (x : ℕ). slot v′ x n) (page-at P v v′ M 1018 (omega arith) (omega arith)) in
+      let t : ℕ = page (v 0) userPointer in
+      let e : slot v′ (page (v′ 0) userPointer) n ≡ slot v′ t n = ap (λ (x : ℕ). slot v′ x n) (page-at P v v′ M userPointer (omega arith) (omega arith)) in
       elim (ℕ-discrete t X) [
         | no ne ↦ let s : slot v′ t n ≡ slot v t n = slot-same v v′ t (L .rest t ne) n in (omega (arith, e, s, G .most .r3 n i .0), λ j. e ∙ s ∙ G .most .r3 n i .1 j)
         | yes q ↦ elim (ℕ-discrete n k) [
@@ -223,13 +223,13 @@ module _ (P : ℕ) (v : Vol) (hand : ℕ → ℕ) (G : Good P v hand) (pos : 0 <
   five : Rule5 P v′
   unfolding Rule5 Rule5By
   five =
-      subst (λ (x : ℕ). Rule5By P v′ x (page (v′ 0) 1016)) (sym (flags-at P v v′ M 1016 (omega arith) (omega arith)))
-      (subst (λ (t : ℕ). Rule5By P v′ (flags (v 0) 1016) t) (sym (page-at P v v′ M 1016 (omega arith) (omega arith))) (go (flags (v 0) 1016) refl (G .most .r5)))
+      subst (λ (x : ℕ). Rule5By P v′ x (page (v′ 0) objectPointer)) (sym (flags-at P v v′ M objectPointer (omega arith) (omega arith)))
+      (subst (λ (t : ℕ). Rule5By P v′ (flags (v 0) objectPointer) t) (sym (page-at P v v′ M objectPointer (omega arith) (omega arith))) (go (flags (v 0) objectPointer) refl (G .most .r5)))
     where
       t : ℕ
-      t = page (v 0) 1016
+      t = page (v 0) objectPointer
 
-      go : (x : ℕ) → flags (v 0) 1016 ≡ x → Rule5By P v x t → Rule5By P v′ x t
+      go : (x : ℕ) → flags (v 0) objectPointer ≡ x → Rule5By P v x t → Rule5By P v′ x t
       go zero q a = tt
       go (suc zero) q a = (Below-link v v′ X k d L z zs P hd pos 1 t (a .0), λ u i j. ap (λ (U : Table). used (U u)) same-users ∙ a .1 u i j)
       go (suc (suc zero)) q a = (
@@ -261,11 +261,11 @@ module _ (P : ℕ) (v : Vol) (hand : ℕ → ℕ) (G : Good P v hand) (pos : 0 <
 -- ---- the object file gets a second level: s in hand has the old index block in its first slot
 
 module _ (P : ℕ) (v : Vol) (hand : ℕ → ℕ) (G : Good P v hand) (pos : 0 < P) (v′ : Vol) (s : ℕ) (hs : s < P) (ps : 0 < s)
-    (pages : (q k : ℕ) → word v′ q k ≡ word v q k) (one : flags (v 0) 1016 ≡ 1) (now : flags (v′ 0) 1016 ≡ 2) (top : page (v′ 0) 1016 ≡ s)
-    (s0 : slot v s 0 ≡ page (v 0) 1016) (so : (j : ℕ) → j ≢ 0 → slot v s j ≡ 0)
-    (mast : (k : ℕ) → 1008 ≤ k → k < 1022 → k ≢ 1016 → k ≢ 1017 → v′ 0 k ≡ v 0 k) (pay : two (v′ 0) 1022 + 1 ≡ two (v 0) 1022) where
+    (pages : (q k : ℕ) → word v′ q k ≡ word v q k) (one : flags (v 0) objectPointer ≡ 1) (now : flags (v′ 0) objectPointer ≡ 2) (top : page (v′ 0) objectPointer ≡ s)
+    (s0 : slot v s 0 ≡ page (v 0) objectPointer) (so : (j : ℕ) → j ≢ 0 → slot v s j ≡ 0)
+    (mast : (k : ℕ) → volumeName ≤ k → k < unreservedCount → k ≢ objectPointer → k ≢ (suc objectPointer) → v′ 0 k ≡ v 0 k) (pay : two (v′ 0) unreservedCount + 1 ≡ two (v 0) unreservedCount) where
   abbrev t : ℕ
-  t = page (v 0) 1016
+  t = page (v 0) objectPointer
 
   abbrev C : ℕ → ℕ
   C x = 0
@@ -285,21 +285,21 @@ module _ (P : ℕ) (v : Vol) (hand : ℕ → ℕ) (G : Good P v hand) (pos : 0 <
 
   users-r : userFile v′ ≡ userFile v
   unfolding userFile
-  users-r = rootAt-ext (v′ 0) (v 0) 1018 0 (mast 1018 (omega arith) (omega arith) (omega arith) (omega arith)) (mast 1019 (omega arith) (omega arith) (omega arith) (omega arith))
+  users-r = rootAt-ext (v′ 0) (v 0) userPointer 0 (mast userPointer (omega arith) (omega arith) (omega arith) (omega arith)) (mast (suc userPointer) (omega arith) (omega arith) (omega arith) (omega arith))
 
   objs-r : objectFile v ≡ tree 1 t
   unfolding objectFile
-  objs-r = root-1 (v 0) 1016 0 one
+  objs-r = root-1 (v 0) objectPointer 0 one
 
   objs-r′ : objectFile v′ ≡ tree 2 s
   unfolding objectFile
-  objs-r′ = root-2 (v′ 0) 1016 0 now ∙ ap (tree 2) top
+  objs-r′ = root-2 (v′ 0) objectPointer 0 now ∙ ap (tree 2) top
 
-  page20 : page (v′ 0) 1020 ≡ page (v 0) 1020
-  page20 = page-ext (v′ 0) (v 0) 1020 (mast 1020 (omega arith) (omega arith) (omega arith) (omega arith)) (mast 1021 (omega arith) (omega arith) (omega arith) (omega arith))
+  page20 : page (v′ 0) bitPointer ≡ page (v 0) bitPointer
+  page20 = page-ext (v′ 0) (v 0) bitPointer (mast bitPointer (omega arith) (omega arith) (omega arith) (omega arith)) (mast (suc bitPointer) (omega arith) (omega arith) (omega arith) (omega arith))
 
-  page18 : page (v′ 0) 1018 ≡ page (v 0) 1018
-  page18 = page-ext (v′ 0) (v 0) 1018 (mast 1018 (omega arith) (omega arith) (omega arith) (omega arith)) (mast 1019 (omega arith) (omega arith) (omega arith) (omega arith))
+  page18 : page (v′ 0) userPointer ≡ page (v 0) userPointer
+  page18 = page-ext (v′ 0) (v 0) userPointer (mast userPointer (omega arith) (omega arith) (omega arith) (omega arith)) (mast (suc userPointer) (omega arith) (omega arith) (omega arith) (omega arith))
 
   -- each position has the page that it had
   pub leaves : (n : ℕ) → pageAt v′ (tree 2 s) n ≡ pageAt v (tree 1 t) n
@@ -354,13 +354,13 @@ module _ (P : ℕ) (v : Vol) (hand : ℕ → ℕ) (G : Good P v hand) (pos : 0 <
     noFiles = sum-none 256 (λ u. mine v u C) (λ u i. sum-none 256 (λ f. weighR v (fileAt v (256 * u + f)) C) (λ f j. none0 (fileAt v (256 * u + f))));
     bits = ap (λ (x : ℕ). run x (bitPages P)) page20;
     rule-1 = record {
-      name = Legal-ext (v′ 0) (v 0) 1008 1 16 (λ i h. mast (1008 + i / 2) (omega arith) (omega arith) (omega arith) (omega arith)) (G .most .r1 .name);
-      unflagged = flags-ext (v′ 0) (v 0) 1020 (mast 1020 (omega arith) (omega arith) (omega arith) (omega arith)) ∙ G .most .r1 .unflagged;
+      name = Legal-ext (v′ 0) (v 0) volumeName 1 16 (λ i h. mast (volumeName + i / 2) (omega arith) (omega arith) (omega arith) (omega arith)) (G .most .r1 .name);
+      unflagged = flags-ext (v′ 0) (v 0) bitPointer (mast bitPointer (omega arith) (omega arith) (omega arith) (omega arith)) ∙ G .most .r1 .unflagged;
       start = omega (arith, G .most .r1 .start, page20);
       fits = omega (arith, G .most .r1 .fits, page20);
     };
     rule-2 = two-again (G .most .r2);
-    rule-3 = λ n i. let e : slot v′ (page (v′ 0) 1018) n ≡ slot v (page (v 0) 1018) n = ap (λ (x : ℕ). slot v′ x n) page18 ∙ sl _ n in
+    rule-3 = λ n i. let e : slot v′ (page (v′ 0) userPointer) n ≡ slot v (page (v 0) userPointer) n = ap (λ (x : ℕ). slot v′ x n) page18 ∙ sl _ n in
         (omega (arith, e, G .most .r3 n i .0), λ j. e ∙ G .most .r3 n i .1 j);
     rule-5 = five′ (G .most .r5);
     users = fun-ext (λ u. fun-ext (λ k. ap (λ (r : Root). entry v′ r u k) users-r ∙ entry-frame v v′ C agree0 refl (userFile v) (none0 (userFile v)) u k));
@@ -370,14 +370,14 @@ module _ (P : ℕ) (v : Vol) (hand : ℕ → ℕ) (G : Good P v hand) (pos : 0 <
       arith,
       objs-weight g g0,
       ap (λ (r : Root). weighR v′ r g) users-r ∙ weighR-frame v v′ C agree0 (userFile v) (noneB _) g,
-      ap (λ (x : ℕ). weighR v′ (run x (bitPages P)) g) page20 ∙ weighR-frame v v′ C agree0 (run (page (v 0) 1020) (bitPages P)) (noneB _) g,
+      ap (λ (x : ℕ). weighR v′ (run x (bitPages P)) g) page20 ∙ weighR-frame v v′ C agree0 (run (page (v 0) bitPointer) (bitPages P)) (noneB _) g,
     );
     pay = omega (arith, pay, some-pos s ps);
   }
     where
       two-again : Rule2 P v → Rule2 P v′
-      two-again (inl z) = absurd (let r : ⊥ = omega (arith, one, zero-flags (v 0) 1016 (z .1)) in r)
+      two-again (inl z) = absurd (let r : ⊥ = omega (arith, one, zero-flags (v 0) objectPointer (z .1)) in r)
       two-again (inr i) = inr (
-        (flags-ext (v′ 0) (v 0) 1018 (mast 1018 (omega arith) (omega arith) (omega arith) (omega arith)) ∙ i .0 .0, omega (arith, page18, i .0 .1), omega (arith, page18, i .0 .2)),
+        (flags-ext (v′ 0) (v 0) userPointer (mast userPointer (omega arith) (omega arith) (omega arith) (omega arith)) ∙ i .0 .0, omega (arith, page18, i .0 .1), omega (arith, page18, i .0 .2)),
         inr (now, omega (arith, top), omega (arith, top)),
       )

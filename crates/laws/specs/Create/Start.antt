@@ -7,16 +7,17 @@ use Rattle.book.specs.Bits.{bit, claim}
 use Rattle.book.specs.Create.{pay, started}
 use Rattle.book.specs.Entries.{userFile, objectFile, unreserved}
 use Rattle.book.specs.Holders.{hit}
-use Rattle.book.specs.Pointers.{slot, flags, page, pointer, setSlot, Zero}
+use Rattle.book.specs.Pointers.{slot, flags, page, pointer, setSlot, Zero, bitPointer, objectPointer, unreservedCount, userPointer, volumeName}
 use Rattle.book.specs.Rules.{Sound}
 use Rattle.book.specs.Trees.{Root, tree, pageAt, blocksR, blocks}
 use Rattle.book.specs.Words.{Vol, two, word, put2}
 use Rattle.book.specs.Written.{word-ext, put2-page, put2-word}
-use Rattle.laws.specs.Bits.Choose.{chosen, Chooser}
-use Rattle.laws.specs.Bits.Claim.{free-pos, claim-good, claim-master, claim-zero, claim-keeps, claim-bit}
-use Rattle.laws.specs.Bits.Taking.{TakenWords, NoWords, no-words, Taking, taking-then, claim-taking, settled-taking}
-use Rattle.laws.specs.Count.Good.{Good, good, sound, free, bit-le}
+use Rattle.laws.specs.Bits.Choose.{Chooser}
+use Rattle.laws.specs.Bits.Claims.{claims, newPage, Claimed, claimed, found, claims-taking}
+use Rattle.laws.specs.Bits.Taking.{TakenWords, NoWords, Taking, taking-then, settled-taking}
+use Rattle.laws.specs.Count.Good.{Good-ext, Good, good, sound, free, bit-le}
 use Rattle.laws.specs.Count.Room.{system-room}
+use Rattle.laws.specs.Count.Sums.{sum-3}
 use Rattle.laws.specs.Create.First.{first-user}
 use Rattle.laws.specs.Create.Join.{only-pay, pay-page, pay-below, pay-less, SlotWords, join-good, join-slot, join-taking}
 use Rattle.laws.specs.Create.Placed.{Placed}
@@ -29,7 +30,7 @@ use Rattle.laws.specs.Tree.Pointer.{root-1, pointer-flags, pointer-page,
 use Rattle.laws.specs.Tree.Slot.{setSlot-page, hit-sym, slot-bare, two-ext, hit-same, some-pos, slot-same, put2-same}
 
 module _ (choose : Vol → ℕ) (P : ℕ) (ch : Chooser P choose) (v : Vol) (S : Sound P v) (pos : 0 < P) (big : P ≤ 1073741824)
-    (zu : Zero (v 0) 1018) (zo : Zero (v 0) 1016) (have : 3 ≤ unreserved v) where
+    (zu : Zero (v 0) userPointer) (zo : Zero (v 0) objectPointer) (have : 3 ≤ unreserved v) where
   -- ---- the three pages
 
   G : Good P v (λ p. 0)
@@ -41,156 +42,147 @@ module _ (choose : Vol → ℕ) (P : ℕ) (ch : Chooser P choose) (v : Vol) (S :
   abbrev i : ℕ
   i = choose v
 
-  iOk : (i < P) × (bit P v i ≡ 0)
-  iOk = chosen choose P ch v (omega (arith, rooms))
-
   abbrev v₁ : Vol
   v₁ = claim P v i
-
-  G1 : Good P v₁ (λ p. 0 + hit i p)
-  G1 = claim-good P v (λ p. 0) G i (iOk .0) (iOk .1)
-
-  C1 : Taking P v v₁ NoWords 1 0
-  C1 = claim-taking P v (λ p. 0) G i (iOk .0) (iOk .1)
 
   abbrev u : ℕ
   u = choose v₁
 
-  uOk : (u < P) × (bit P v₁ u ≡ 0)
-  uOk = chosen choose P ch v₁ (omega (arith, rooms, C1 .left))
-
   abbrev v₂ : Vol
   v₂ = claim P v₁ u
-
-  G2 : Good P v₂ (λ p. 0 + hit i p + hit u p)
-  G2 = claim-good P v₁ (λ p. 0 + hit i p) G1 u (uOk .0) (uOk .1)
-
-  C2 : Taking P v₁ v₂ NoWords 1 0
-  C2 = claim-taking P v₁ (λ p. 0 + hit i p) G1 u (uOk .0) (uOk .1)
 
   abbrev o : ℕ
   o = choose v₂
 
-  oOk : (o < P) × (bit P v₂ o ≡ 0)
-  oOk = chosen choose P ch v₂ (omega (arith, rooms, C1 .left, C2 .left))
-
   abbrev v₃ : Vol
   v₃ = claim P v₂ o
 
-  G3 : Good P v₃ (λ p. 0 + hit i p + hit u p + hit o p)
-  G3 = claim-good P v₂ (λ p. 0 + hit i p + hit u p) G2 o (oOk .0) (oOk .1)
+  C : Claimed choose P v 3
+  C = claimed choose P ch v S 3 rooms
 
-  C3 : Taking P v₂ v₃ NoWords 1 0
-  C3 = claim-taking P v₂ (λ p. 0 + hit i p + hit u p) G2 o (oOk .0) (oOk .1)
+  G3 : Good P v₃ (λ p. hit i p + hit u p + hit o p)
+  unfolding claims
+  G3 = Good-ext P v₃ _ _ (λ p h. sum-3 (λ j. hit (newPage choose P v j) p)) (C .good)
 
-  pi : 0 < i
-  pi = free-pos P v (λ p. 0) G i (iOk .0) (iOk .1)
+  T3 : Taking P v v₃ NoWords 3 0
+  unfolding claims
+  T3 = claims-taking choose P ch v S 3 rooms
 
-  pu : 0 < u
-  pu = free-pos P v₁ (λ p. 0 + hit i p) G1 u (uOk .0) (uOk .1)
+  free-i : bit P v i ≡ 0
+  unfolding claims
+  free-i = found choose P ch v S 3 0 rooms (omega arith) .1
 
-  po : 0 < o
-  po = free-pos P v₂ (λ p. 0 + hit i p + hit u p) G2 o (oOk .0) (oOk .1)
+  iOk : (0 < i) × (i < P)
+  unfolding claims
+  iOk = C .real 0 (omega arith)
 
-  -- all three are zeros still
-  zero-o : (j : ℕ) → word v₃ o j ≡ 0
-  zero-o = claim-zero P v₂ (λ p. 0 + hit i p + hit u p) G2 o (oOk .0) (oOk .1)
+  uOk : (0 < u) × (u < P)
+  unfolding claims
+  uOk = C .real 1 (omega arith)
+
+  oOk : (0 < o) × (o < P)
+  unfolding claims
+  oOk = C .real 2 (omega arith)
+
+  -- the pages are zeros still
+  zero-i : (j : ℕ) → word v₃ i j ≡ 0
+  unfolding claims
+  zero-i = C .zero 0 (omega arith)
 
   zero-u : (j : ℕ) → word v₃ u j ≡ 0
-  zero-u j = claim-keeps P v₂ (λ p. 0 + hit i p + hit u p) G2 o (oOk .0) (oOk .1) u (omega (arith, hit-same u pu)) j
-      ∙ claim-zero P v₁ (λ p. 0 + hit i p) G1 u (uOk .0) (uOk .1) j
+  unfolding claims
+  zero-u = C .zero 1 (omega arith)
 
-  zero-i : (j : ℕ) → word v₃ i j ≡ 0
-  zero-i j = claim-keeps P v₂ (λ p. 0 + hit i p + hit u p) G2 o (oOk .0) (oOk .1) i (omega (arith, hit-same i pi)) j
-      ∙ claim-keeps P v₁ (λ p. 0 + hit i p) G1 u (uOk .0) (uOk .1) i (omega (arith, hit-same i pi)) j
-      ∙ claim-zero P v (λ p. 0) G i (iOk .0) (iOk .1) j
+  zero-o : (j : ℕ) → word v₃ o j ≡ 0
+  unfolding claims
+  zero-o = C .zero 2 (omega arith)
 
   master : (k : ℕ) → v₃ 0 k ≡ v 0 k
-  master k = claim-master P v₂ (λ p. 0 + hit i p + hit u p) G2 o (oOk .0) (oOk .1) k ∙ claim-master P v₁ (λ p. 0 + hit i p) G1 u (uOk .0) (uOk .1) k
-      ∙ claim-master P v (λ p. 0) G i (iOk .0) (iOk .1) k
+  unfolding claims
+  master = C .still .places .master
 
   -- ---- the two pointers are written, and two pages paid
 
   abbrev x₁ : Vol
-  x₁ = put2 v₃ 0 1018 (pointer 1 i)
+  x₁ = put2 v₃ 0 userPointer (pointer 1 i)
 
   abbrev x : Vol
-  x = put2 x₁ 0 1016 (pointer 1 o)
+  x = put2 x₁ 0 objectPointer (pointer 1 o)
 
   abbrev w : Vol
   w = pay x 2
 
   x-page : (q k : ℕ) → 0 < q → x q k ≡ v₃ q k
-  x-page q k h = put2-page x₁ 0 1016 (pointer 1 o) q k (omega arith) ∙ put2-page v₃ 0 1018 (pointer 1 i) q k (omega arith)
+  x-page q k h = put2-page x₁ 0 objectPointer (pointer 1 o) q k (omega arith) ∙ put2-page v₃ 0 userPointer (pointer 1 i) q k (omega arith)
 
-  x-master : (k : ℕ) → (k < 1016) ⊎ (1020 ≤ k) → x 0 k ≡ v₃ 0 k
-  x-master k (inl h) = put2-word x₁ 0 1016 (pointer 1 o) 0 k (omega arith) (omega arith) ∙ put2-word v₃ 0 1018 (pointer 1 i) 0 k (omega arith) (omega arith)
-  x-master k (inr h) = put2-word x₁ 0 1016 (pointer 1 o) 0 k (omega arith) (omega arith) ∙ put2-word v₃ 0 1018 (pointer 1 i) 0 k (omega arith) (omega arith)
+  x-master : (k : ℕ) → (k < objectPointer) ⊎ (bitPointer ≤ k) → x 0 k ≡ v₃ 0 k
+  x-master k (inl h) = put2-word x₁ 0 objectPointer (pointer 1 o) 0 k (omega arith) (omega arith) ∙ put2-word v₃ 0 userPointer (pointer 1 i) 0 k (omega arith) (omega arith)
+  x-master k (inr h) = put2-word x₁ 0 objectPointer (pointer 1 o) 0 k (omega arith) (omega arith) ∙ put2-word v₃ 0 userPointer (pointer 1 i) 0 k (omega arith) (omega arith)
 
   x-pay : unreserved x ≡ unreserved v
   unfolding unreserved
-  x-pay = two-ext (x 0) (v₃ 0) 1022 (x-master 1022 (inr (omega arith))) (x-master 1023 (inr (omega arith))) ∙ two-ext (v₃ 0) (v 0) 1022 (master 1022) (master 1023)
+  x-pay = two-ext (x 0) (v₃ 0) unreservedCount (x-master unreservedCount (inr (omega arith))) (x-master (suc unreservedCount) (inr (omega arith))) ∙ two-ext (v₃ 0) (v 0) unreservedCount (master unreservedCount) (master (suc unreservedCount))
 
   words : (q k : ℕ) → word w q k ≡ word v₃ q k
   words q k = word-ext v₃ w q k (λ h. pay-page x 2 q k h ∙ x-page q k h)
 
-  x-18 : (k : ℕ) → 1018 ≤ k → k < 1020 → w 0 k ≡ x₁ 0 k
-  x-18 k a b = pay-below x 2 k (omega arith) ∙ put2-word x₁ 0 1016 (pointer 1 o) 0 k (omega arith) (omega arith)
+  x-18 : (k : ℕ) → userPointer ≤ k → k < bitPointer → w 0 k ≡ x₁ 0 k
+  x-18 k a b = pay-below x 2 k (omega arith) ∙ put2-word x₁ 0 objectPointer (pointer 1 o) 0 k (omega arith) (omega arith)
 
-  fu : flags (w 0) 1018 ≡ 1
-  fu = flags-ext (w 0) (x₁ 0) 1018 (x-18 1018 (omega arith) (omega arith)) ∙ pointer-flags v₃ 0 1018 1 i (omega (arith, iOk .0))
+  fu : flags (w 0) userPointer ≡ 1
+  fu = flags-ext (w 0) (x₁ 0) userPointer (x-18 userPointer (omega arith) (omega arith)) ∙ pointer-flags v₃ 0 userPointer 1 i (omega (arith, iOk .1))
 
-  tu : page (w 0) 1018 ≡ i
-  tu = page-ext (w 0) (x₁ 0) 1018 (x-18 1018 (omega arith) (omega arith)) (x-18 1019 (omega arith) (omega arith)) ∙ pointer-page v₃ 0 1018 1 i (omega (arith, iOk .0))
+  tu : page (w 0) userPointer ≡ i
+  tu = page-ext (w 0) (x₁ 0) userPointer (x-18 userPointer (omega arith) (omega arith)) (x-18 (suc userPointer) (omega arith) (omega arith)) ∙ pointer-page v₃ 0 userPointer 1 i (omega (arith, iOk .1))
 
-  fo : flags (w 0) 1016 ≡ 1
-  fo = flags-ext (w 0) (x 0) 1016 (pay-below x 2 1016 (omega arith)) ∙ pointer-flags x₁ 0 1016 1 o (omega (arith, oOk .0))
+  fo : flags (w 0) objectPointer ≡ 1
+  fo = flags-ext (w 0) (x 0) objectPointer (pay-below x 2 objectPointer (omega arith)) ∙ pointer-flags x₁ 0 objectPointer 1 o (omega (arith, oOk .1))
 
-  to : page (w 0) 1016 ≡ o
-  to = page-ext (w 0) (x 0) 1016 (pay-below x 2 1016 (omega arith)) (pay-below x 2 1017 (omega arith)) ∙ pointer-page x₁ 0 1016 1 o (omega (arith, oOk .0))
+  to : page (w 0) objectPointer ≡ o
+  to = page-ext (w 0) (x 0) objectPointer (pay-below x 2 objectPointer (omega arith)) (pay-below x 2 (suc objectPointer) (omega arith)) ∙ pointer-page x₁ 0 objectPointer 1 o (omega (arith, oOk .1))
 
   zero₃ : (k : ℕ) → Zero (v 0) k → Zero (v₃ 0) k
   unfolding Zero
   zero₃ k z = (master k ∙ z .0, master (suc k) ∙ z .1)
 
-  mast : (k : ℕ) → 1008 ≤ k → k < 1022 → (k < 1016) ⊎ (1020 ≤ k) → w 0 k ≡ v₃ 0 k
+  mast : (k : ℕ) → volumeName ≤ k → k < unreservedCount → (k < objectPointer) ⊎ (bitPointer ≤ k) → w 0 k ≡ v₃ 0 k
   mast k a b c = pay-below x 2 k b ∙ x-master k c
 
-  paid : two (w 0) 1022 + 2 ≡ two (v₃ 0) 1022
+  paid : two (w 0) unreservedCount + 2 ≡ two (v₃ 0) unreservedCount
   unfolding unreserved
-  paid = omega (arith, have, x-pay, pay-less x 2 (omega (arith, have, x-pay)), two-ext (v₃ 0) (v 0) 1022 (master 1022) (master 1023))
+  paid = omega (arith, have, x-pay, pay-less x 2 (omega (arith, have, x-pay)), two-ext (v₃ 0) (v 0) unreservedCount (master unreservedCount) (master (suc unreservedCount)))
 
   T : Settled P v₃ w (λ x. 0) (λ g. g i + g o)
-  T = first-user P v₃ (λ p. 0 + hit i p + hit u p + hit o p) G3 pos w i o (iOk .0) pi (oOk .0) po words (zero₃ 1018 zu) (zero₃ 1016 zo) fu tu fo to
+  T = first-user P v₃ (λ p. hit i p + hit u p + hit o p) G3 pos w i o (iOk .1) (iOk .0) (oOk .1) (oOk .0) words (zero₃ userPointer zu) (zero₃ objectPointer zo) fu tu fo to
       (slot-bare v₃ i zero-i) (slot-bare v₃ o zero-o) mast paid
 
   Gw : Good P w (λ p. hit p u)
-  Gw = system-good P v₃ (λ p. 0 + hit i p + hit u p + hit o p) G3 w (λ x. 0) (λ g. g i + g o) T (λ p. hit p u) (λ p h. omega (arith, hit-sym p u, hit-sym p i, hit-sym p o))
+  Gw = system-good P v₃ (λ p. hit i p + hit u p + hit o p) G3 w (λ x. 0) (λ g. g i + g o) T (λ p. hit p u) (λ p h. omega (arith, hit-sym p u, hit-sym p i, hit-sym p o))
 
   abbrev F : Places
-  F = Either (WordsOf 0 1016 4) UnreservedWords
+  F = Either (WordsOf 0 objectPointer 4) UnreservedWords
 
   only-w : OnlyAt F v₃ w
-  only-w = only-then (WordsOf 0 1016 4) UnreservedWords v₃ x w
-      (only-wider (Either (WordsOf 0 1018 2) (WordsOf 0 1016 2)) (WordsOf 0 1016 4) v₃ x both
-      (only-then (WordsOf 0 1018 2) (WordsOf 0 1016 2) v₃ x₁ x (only-put2 v₃ 0 1018 (pointer 1 i)) (only-put2 x₁ 0 1016 (pointer 1 o)))) (only-pay x 2)
+  only-w = only-then (WordsOf 0 objectPointer 4) UnreservedWords v₃ x w
+      (only-wider (Either (WordsOf 0 userPointer 2) (WordsOf 0 objectPointer 2)) (WordsOf 0 objectPointer 4) v₃ x both
+      (only-then (WordsOf 0 userPointer 2) (WordsOf 0 objectPointer 2) v₃ x₁ x (only-put2 v₃ 0 userPointer (pointer 1 i)) (only-put2 x₁ 0 objectPointer (pointer 1 o)))) (only-pay x 2)
     where
-      both : (p k : ℕ) → Either (WordsOf 0 1018 2) (WordsOf 0 1016 2) p k → WordsOf 0 1016 4 p k
+      both : (p k : ℕ) → Either (WordsOf 0 userPointer 2) (WordsOf 0 objectPointer 2) p k → WordsOf 0 objectPointer 4 p k
       both p k (inl h) = (h .0, omega (arith, h .1), omega (arith, h .2))
       both p k (inr h) = (h .0, omega (arith, h .1), omega (arith, h .2))
 
   -- nothing was there before
   none-users : (n : ℕ) → pageAt v₃ (userFile v₃) n ≡ 0
   unfolding userFile
-  none-users n = zero-none v₃ (v₃ 0) 1018 (zero₃ 1018 zu) n
+  none-users n = zero-none v₃ (v₃ 0) userPointer (zero₃ userPointer zu) n
 
   none-objs : (n : ℕ) → pageAt v₃ (objectFile v₃) n ≡ 0
   unfolding objectFile
-  none-objs n = zero-none v₃ (v₃ 0) 1016 (zero₃ 1016 zo) n
+  none-objs n = zero-none v₃ (v₃ 0) objectPointer (zero₃ objectPointer zo) n
 
   Sw : Taking P v₃ w F 0 2
-  Sw = subst (λ (n : ℕ). Taking P v₃ w F 0 n) (ap₂ (λ (a b : ℕ). a + b) (some-pos i pi) (some-pos o po))
-      (settled-taking P v₃ (λ p. 0 + hit i p + hit u p + hit o p) G3 w (λ x. 0) (λ g. g i + g o) T
+  Sw = subst (λ (n : ℕ). Taking P v₃ w F 0 n) (ap₂ (λ (a b : ℕ). a + b) (some-pos i (iOk .0)) (some-pos o (oOk .0)))
+      (settled-taking P v₃ (λ p. hit i p + hit u p + hit o p) G3 w (λ x. 0) (λ g. g i + g o) T
       (λ n h. absurd (let r : ⊥ = omega (arith, h, none-users n) in r)) (λ n h. absurd (let r : ⊥ = omega (arith, h, none-objs n) in r)) F only-w)
 
   -- ---- the user page joins the index
@@ -202,26 +194,26 @@ module _ (choose : Vol → ℕ) (P : ℕ) (ch : Chooser P choose) (v : Vol) (S :
   unfolding started setSlot
   read q k h = pay-page (setSlot x i 0 u) 3 q k h ∙ put2-same x w i 0 u q k (sym (pay-page x 2 q k h))
 
-  below : (k : ℕ) → k < 1022 → v′ 0 k ≡ w 0 k
+  below : (k : ℕ) → k < unreservedCount → v′ 0 k ≡ w 0 k
   unfolding started
-  below k h = pay-below (setSlot x i 0 u) 3 k h ∙ setSlot-page x i 0 u 0 k (omega (arith, pi)) ∙ sym (pay-below x 2 k h)
+  below k h = pay-below (setSlot x i 0 u) 3 k h ∙ setSlot-page x i 0 u 0 k (omega (arith, (iOk .0))) ∙ sym (pay-below x 2 k h)
 
   M : Master w v′
   unfolding Master
   M k a b = below k b
 
-  paid′ : two (v′ 0) 1022 + 1 ≡ two (w 0) 1022
+  paid′ : two (v′ 0) unreservedCount + 1 ≡ two (w 0) unreservedCount
   unfolding started unreserved
   paid′ =
-      let e : two (setSlot x i 0 u 0) 1022 ≡ two (x 0) 1022 = two-ext (setSlot x i 0 u 0) (x 0) 1022 (setSlot-page x i 0 u 0 1022 (omega (arith, pi))) (setSlot-page x i 0 u 0 1023 (omega (arith, pi))) in
+      let e : two (setSlot x i 0 u 0) unreservedCount ≡ two (x 0) unreservedCount = two-ext (setSlot x i 0 u 0) (x 0) unreservedCount (setSlot-page x i 0 u 0 unreservedCount (omega (arith, (iOk .0)))) (setSlot-page x i 0 u 0 (suc unreservedCount) (omega (arith, (iOk .0)))) in
       omega (arith, have, x-pay, pay-less x 2 (omega (arith, have, x-pay)), pay-less (setSlot x i 0 u) 3 (omega (arith, have, x-pay, e)))
 
   vacant : Vacant P w i 0
   unfolding userFile blocksR blocks
   vacant = record {
-    below = iOk .0;
-    real = pi;
-    block = omega (arith, ap (λ (r : Root). blocksR w r (hit i)) (root-1 (w 0) 1018 0 fu ∙ ap (tree 1) tu), hit-same i pi);
+    below = iOk .1;
+    real = iOk .0;
+    block = omega (arith, ap (λ (r : Root). blocksR w r (hit i)) (root-1 (w 0) userPointer 0 fu ∙ ap (tree 1) tu), hit-same i (iOk .0));
     room = omega arith;
     was = slot-same v₃ w i (words i) 0 ∙ slot-bare v₃ i zero-i 0;
     eight = λ e. omega arith;
@@ -232,17 +224,17 @@ module _ (choose : Vol → ℕ) (P : ℕ) (ch : Chooser P choose) (v : Vol) (S :
   zero-w j = words u j ∙ zero-u j
 
   held : 1 ≤ hit u u
-  held = omega (arith, hit-same u pu)
+  held = omega (arith, hit-same u (uOk .0))
 
   -- the user index, its flags and its first page; the object file is indexed
-  pub started-flags : flags (v′ 0) 1018 ≡ 1
-  started-flags = flags-ext (v′ 0) (w 0) 1018 (below 1018 (omega arith)) ∙ fu
+  pub started-flags : flags (v′ 0) userPointer ≡ 1
+  started-flags = flags-ext (v′ 0) (w 0) userPointer (below userPointer (omega arith)) ∙ fu
 
-  pub started-slot : (slot v′ (page (v′ 0) 1018) 0 ≡ u) × (0 < u)
+  pub started-slot : (slot v′ (page (v′ 0) userPointer) 0 ≡ u) × (0 < u)
   started-slot = (
-    ap (λ (t : ℕ). slot v′ t 0) (page-ext (v′ 0) (w 0) 1018 (below 1018 (omega arith)) (below 1019 (omega arith)) ∙ tu)
-        ∙ join-slot P w (λ p. hit p u) Gw pos v′ i 0 u vacant (uOk .0) pu held zero-w read M paid′,
-    pu,
+    ap (λ (t : ℕ). slot v′ t 0) (page-ext (v′ 0) (w 0) userPointer (below userPointer (omega arith)) (below (suc userPointer) (omega arith)) ∙ tu)
+        ∙ join-slot P w (λ p. hit p u) Gw pos v′ i 0 u vacant (uOk .1) (uOk .0) held zero-w read M paid′,
+    (uOk .0),
   )
 
   only : OnlyAt (Either (SlotWords i 0) UnreservedWords) w v′
@@ -256,23 +248,20 @@ module _ (choose : Vol → ℕ) (P : ℕ) (ch : Chooser P choose) (v : Vol) (S :
 
   after₃ : Taking P v₃ v′ K 0 3
   after₃ = taking-then P v₃ w v′ F (Either (SlotWords i 0) UnreservedWords) K 0 2 0 1 0 3 Sw
-      (join-taking P w (λ p. hit p u) Gw pos v′ i 0 u vacant (uOk .0) pu held zero-w read M paid′ (Either (SlotWords i 0) UnreservedWords) only) refl refl wide
+      (join-taking P w (λ p. hit p u) Gw pos v′ i 0 u vacant (uOk .1) (uOk .0) held zero-w read M paid′ (Either (SlotWords i 0) UnreservedWords) only) refl refl wide
     where
       wide : (p k : ℕ) → Either F (Either (SlotWords i 0) UnreservedWords) p k → Either (TakenWords P v₃ v′) K p k
       wide p k (inl h) = inr (inr h)
       wide p k (inr (inl h)) = inr (inl h)
       wide p k (inr (inr h)) = inr (inr (inr h))
 
-  after₁ : Taking P v₁ v′ K 2 3
-  after₁ = taking-then P v₁ v₂ v′ NoWords K K 1 0 1 3 2 3 C2 (taking-then P v₂ v₃ v′ NoWords K K 1 0 0 3 1 3 C3 after₃ refl refl (λ p k h. inr (no-words K p k h))) refl refl (λ p k h. inr (no-words K p k h))
-
-  pub started-placed : Placed P v v′ (Either (WordsOf 0 1016 4) UnreservedWords) 3
+  pub started-placed : Placed P v v′ (Either (WordsOf 0 objectPointer 4) UnreservedWords) 3
   started-placed = record {
-    sound = sound P v′ (λ p. 0) (join-good P w (λ p. hit p u) Gw pos v′ i 0 u vacant (uOk .0) pu held zero-w read M paid′ (λ p. 0) (λ p h. omega arith)) (λ p h. refl);
-    taking = taking-then P v v₁ v′ NoWords K F 1 0 2 3 3 3 C1 after₁ refl refl wide;
+    sound = sound P v′ (λ p. 0) (join-good P w (λ p. hit p u) Gw pos v′ i 0 u vacant (uOk .1) (uOk .0) held zero-w read M paid′ (λ p. 0) (λ p h. omega arith)) (λ p h. refl);
+    taking = taking-then P v v₃ v′ NoWords K F 3 0 0 3 3 3 T3 after₃ refl refl wide;
   }
     where
       wide : (p k : ℕ) → Either NoWords K p k → Either (TakenWords P v v′) F p k
       wide p k (inl h) = absurd h
-      wide p k (inr (inl h)) = inl (i, (iOk .0, iOk .1, omega (arith, after₁ .bits i (iOk .0), claim-bit P v (λ p. 0) G i (iOk .0) (iOk .1), bit-le P v′ i)), inl (h .0))
+      wide p k (inr (inl h)) = inl (i, (iOk .1, free-i, omega (arith, after₃ .bits i (iOk .1), G3 .held i (iOk .1), hit-same i (iOk .0), bit-le P v′ i)), inl (h .0))
       wide p k (inr (inr h)) = inr h

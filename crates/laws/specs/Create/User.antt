@@ -2,7 +2,7 @@
 use mathlib.Core.Path.{_≡_, refl, sym, ap, _∙_}
 use mathlib.Core.Logic.{_≢_, inl, inr}
 use mathlib.Core.List.{List}
-use Prim.Native.Nat.{ℕ, _+_, _-_, _*_, _/_, _%_, _≤_, _<_}
+use Prim.Native.Nat.{ℕ, suc, _+_, _-_, _*_, _/_, _%_, _≤_, _<_}
 use native.Mathlib.Nat.{eq-zero-or-pos}
 use native.Mathlib.Omega.{arith}
 use Rattle.sums.specs.Sum.{sum-ext}
@@ -14,7 +14,7 @@ use Rattle.book.specs.Entries.{Table, userFile, objectFile, user, object, userP
 use Rattle.book.specs.Files.{fileAt}
 use Rattle.book.specs.Holders.{hit, some}
 use Rattle.book.specs.Names.{NameText, Same, packed}
-use Rattle.book.specs.Pointers.{page, Inside}
+use Rattle.book.specs.Pointers.{page, Inside, unreservedCount, userPointer}
 use Rattle.book.specs.Rules.{Rule2, Sound}
 use Rattle.book.specs.Trees.{pageAt}
 use Rattle.book.specs.Words.{Vol, two, word}
@@ -41,7 +41,7 @@ unfolding newUser
 new-unused v h = omega (arith, lowest-is (λ u. 1 - used (user v u)) 256 .there h)
 
 -- while there is no user file, nobody is used
-pub new-first : (P : ℕ) (v : Vol) → Rule2 P v → page (v 0) 1018 ≡ 0 → newUser v ≡ 0
+pub new-first : (P : ℕ) (v : Vol) → Rule2 P v → page (v 0) userPointer ≡ 0 → newUser v ≡ 0
 unfolding newUser Rule2 Inside user entry userFile used
 new-first P v r z = elim (eq-zero-or-pos (newUser v)) [
   | inl e ↦ e
@@ -49,7 +49,7 @@ new-first P v r z = elim (eq-zero-or-pos (newUser v)) [
 ]
   where
     none : Rule2 P v → used (user v 0) ≡ 0
-    none (inl h) = ap (λ (x : ℕ). x / 32768) (ap (λ (x : ℕ). word v x (32 * (0 % 32) + 0)) (zero-none v (v 0) 1018 (h .0) (0 / 32)) ∙ word-zero v _)
+    none (inl h) = ap (λ (x : ℕ). x / 32768) (ap (λ (x : ℕ). word v x (32 * (0 % 32) + 0)) (zero-none v (v 0) userPointer (h .0) (0 / 32)) ∙ word-zero v _)
     none (inr h) = absurd (let q : ⊥ = omega (arith, h .0 .1, z) in q)
 
 -- ---- the step
@@ -158,7 +158,7 @@ module _ (choose : Vol → ℕ) (P : ℕ) (ch : Chooser P choose) (v : Vol) (S :
   create-user-sound : Sound P v′
   create-user-sound = sound P v′ (λ p. 0) (user-good P w (λ p. 0) G pos u lt v′ agree (λ k i. master k) onU new (λ h i q. omega (arith, now-used))
       (λ x i. absurd (let r : ⊥ = omega (arith, user-place .high x) in r))
-      (omega (arith, new-grant, no-grant w unused, two-ext (v′ 0) (w 0) 1022 (master 1022) (master 1023)))
+      (omega (arith, new-grant, no-grant w unused, two-ext (v′ 0) (w 0) unreservedCount (master unreservedCount) (master (suc unreservedCount))))
       (λ h. omega (arith, none .1, mine-unused P w (most P w (user-place .placed .sound)) u lt unused some))) (λ p h. refl)
 
   -- ---- all pages of all files stay

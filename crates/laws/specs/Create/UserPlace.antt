@@ -1,7 +1,7 @@
 -- The place of a new user's entry: three pages the first time ever; later a user page if absent, and for user 64 up a subindex block. Assumes nothing.
 use mathlib.Core.Path.{_≡_, refl, sym, ap, _∙_, subst}
 use mathlib.Core.Logic.{_≢_, inl, inr}
-use Prim.Native.Nat.{ℕ, _+_, _-_, _*_, _/_, _≤_, _<_}
+use Prim.Native.Nat.{ℕ, suc, _+_, _-_, _*_, _/_, _≤_, _<_}
 use native.Mathlib.Nat.{eq-zero-or-pos}
 use native.Mathlib.Decide.{ℕ-discrete}
 use native.Mathlib.Omega.{arith}
@@ -9,7 +9,7 @@ use Rattle.sums.specs.Search.{pick-yes, pick-no, atLeast}
 use Rattle.sums.specs.Sum.{is, is-same, is-other}
 use Rattle.book.specs.Create.{extend, raises, userNeed, started, withUserPage, raised, withSubindex, userPlace}
 use Rattle.book.specs.Entries.{userFile, userPage, entryPage, unreserved}
-use Rattle.book.specs.Pointers.{slot, flags, page, Zero, Inside}
+use Rattle.book.specs.Pointers.{slot, flags, page, Zero, Inside, objectPointer, unreservedCount, userPointer}
 use Rattle.book.specs.Rules.{Rule2, Sound}
 use Rattle.book.specs.Trees.{rootAt}
 use Rattle.book.specs.Words.{Vol}
@@ -25,33 +25,33 @@ use Rattle.laws.specs.Frame.Places.{Places, WordsOf, UnreservedWords, Ei
 use Rattle.laws.specs.Tree.Pointer.{flags-ext, page-ext}
 use Rattle.laws.specs.Tree.Positions.{root-one}
 
-pub raises-one : (v : Vol) (u : ℕ) → flags (v 0) 1016 ≡ 1 → raises v u ≡ atLeast 64 u
+pub raises-one : (v : Vol) (u : ℕ) → flags (v 0) objectPointer ≡ 1 → raises v u ≡ atLeast 64 u
 unfolding raises
-raises-one v u e = let q : is (flags (v 0) 1016) 1 * atLeast 64 u ≡ 1 * atLeast 64 u = ap (λ (x : ℕ). x * atLeast 64 u) (ap (λ (x : ℕ). is x 1) e ∙ is-same 1) in omega (arith, q)
+raises-one v u e = let q : is (flags (v 0) objectPointer) 1 * atLeast 64 u ≡ 1 * atLeast 64 u = ap (λ (x : ℕ). x * atLeast 64 u) (ap (λ (x : ℕ). is x 1) e ∙ is-same 1) in omega (arith, q)
 
-pub raises-none : (v : Vol) (u : ℕ) → flags (v 0) 1016 ≢ 1 → raises v u ≡ 0
+pub raises-none : (v : Vol) (u : ℕ) → flags (v 0) objectPointer ≢ 1 → raises v u ≡ 0
 unfolding raises
-raises-none v u n = let q : is (flags (v 0) 1016) 1 * atLeast 64 u ≡ 0 * atLeast 64 u = ap (λ (x : ℕ). x * atLeast 64 u) (is-other (flags (v 0) 1016) 1 n) in omega (arith, q)
+raises-none v u n = let q : is (flags (v 0) objectPointer) 1 * atLeast 64 u ≡ 0 * atLeast 64 u = ap (λ (x : ℕ). x * atLeast 64 u) (is-other (flags (v 0) objectPointer) 1 n) in omega (arith, q)
 
 -- beside the pages taken and their bits: the two pointers, the object pointer, unreserved, the slot of the user page
 abbrev pub UserPlaceWords : Vol → ℕ → Places
-UserPlaceWords v u = Either (When (page (v 0) 1018 ≡ 0) (WordsOf 0 1016 4)) (Either (When (0 < raises v u) (WordsOf 0 1016 2)) (Either (When (0 < userNeed v u) UnreservedWords)
-    (When ((0 < page (v 0) 1018) × (userPage v u ≡ 0)) (SlotWords (page (v 0) 1018) (entryPage u)))))
+UserPlaceWords v u = Either (When (page (v 0) userPointer ≡ 0) (WordsOf 0 objectPointer 4)) (Either (When (0 < raises v u) (WordsOf 0 objectPointer 2)) (Either (When (0 < userNeed v u) UnreservedWords)
+    (When ((0 < page (v 0) userPointer) × (userPage v u ≡ 0)) (SlotWords (page (v 0) userPointer) (entryPage u)))))
 
 -- the entry's page is there, and user 64 and up have a subindexed object file
 pub record UserPlaced (P : ℕ) (v w : Vol) (u : ℕ) : Type 0 where
   pub placed : Placed P v w (UserPlaceWords v u) (userNeed v u)
   pub there : 0 < userPage w u
-  pub high : flags (w 0) 1016 ≡ 1 → u < 64
+  pub high : flags (w 0) objectPointer ≡ 1 → u < 64
 
 module _ (choose : Vol → ℕ) (P : ℕ) (ch : Chooser P choose) (v : Vol) (S : Sound P v) (pos : 0 < P) (big : P ≤ 1073741824) (u : ℕ) (hu : u < 256) (have : userNeed v u ≤ unreserved v) where
   abbrev t : ℕ
-  t = page (v 0) 1018
+  t = page (v 0) userPointer
 
   -- ---- the first ever
 
   module _ (z : t ≡ 0) (low : u < 32) where
-    zeros : Rule2 P v → Zero (v 0) 1018 × Zero (v 0) 1016
+    zeros : Rule2 P v → Zero (v 0) userPointer × Zero (v 0) objectPointer
     unfolding Rule2 Inside
     zeros (inl h) = h
     zeros (inr h) = absurd (let r : ⊥ = omega (arith, h .0 .1, z) in r)
@@ -66,7 +66,7 @@ module _ (choose : Vol → ℕ) (P : ℕ) (ch : Chooser P choose) (v : Vol) (S :
     abbrev w : Vol
     w = started choose P v
 
-    T : Placed P v w (Either (WordsOf 0 1016 4) UnreservedWords) 3
+    T : Placed P v w (Either (WordsOf 0 objectPointer 4) UnreservedWords) 3
     T = started-placed choose P ch v S pos big (zeros (S .r2) .0) (zeros (S .r2) .1) have₃
 
     first-there : 0 < userPage w u
@@ -74,24 +74,24 @@ module _ (choose : Vol → ℕ) (P : ℕ) (ch : Chooser P choose) (v : Vol) (S :
     first-there =
         let s = started-slot choose P ch v S pos big (zeros (S .r2) .0) (zeros (S .r2) .1) have₃ in
         let k : u / 32 ≡ 0 = omega arith in
-        omega (arith, s .0, s .1, root-one w (flags (w 0) 1018) (page (w 0) 1018) 0 (u / 32) (started-flags choose P ch v S pos big (zeros (S .r2) .0) (zeros (S .r2) .1) have₃) (omega arith), ap (slot w (page (w 0) 1018)) k)
+        omega (arith, s .0, s .1, root-one w (flags (w 0) userPointer) (page (w 0) userPointer) 0 (u / 32) (started-flags choose P ch v S pos big (zeros (S .r2) .0) (zeros (S .r2) .1) have₃) (omega arith), ap (slot w (page (w 0) userPointer)) k)
 
     first-placed : UserPlaced P v (userPlace choose P v u) u
     unfolding userPlace
     first-placed = subst (λ (w : Vol). UserPlaced P v w u) (sym (pick-no t _ w z)) (record {
-      placed = placed-wider P v w (Either (WordsOf 0 1016 4) UnreservedWords) (UserPlaceWords v u) 3 (userNeed v u) T three wide;
+      placed = placed-wider P v w (Either (WordsOf 0 objectPointer 4) UnreservedWords) (UserPlaceWords v u) 3 (userNeed v u) T three wide;
       there = first-there;
       high = λ x. omega arith;
     })
       where
-        wide : (p k : ℕ) → Either (WordsOf 0 1016 4) UnreservedWords p k → Either (TakenWords P v w) (UserPlaceWords v u) p k
+        wide : (p k : ℕ) → Either (WordsOf 0 objectPointer 4) UnreservedWords p k → Either (TakenWords P v w) (UserPlaceWords v u) p k
         wide p k (inl h) = inr (inl (z, h))
         wide p k (inr h) = inr (inr (inr (inl (omega (arith, three), h))))
 
   -- ---- later
 
   module _ (p : 0 < t) where
-    indexed : Rule2 P v → (flags (v 0) 1018 ≡ 1) × (t < P)
+    indexed : Rule2 P v → (flags (v 0) userPointer ≡ 1) × (t < P)
     unfolding Rule2 Inside Zero page
     indexed (inl h) = absurd (let r : ⊥ = omega (arith, p, h .0 .0, h .0 .1) in r)
     indexed (inr h) = (h .0 .0, h .0 .2)
@@ -107,7 +107,7 @@ module _ (choose : Vol → ℕ) (P : ℕ) (ch : Chooser P choose) (v : Vol) (S :
     record WithPage (w : Vol) : Type 0 where
       placed : Placed P v w K (1 - userPage v u)
       there : 0 < userPage w u
-      master : (k : ℕ) → k < 1022 → w 0 k ≡ v 0 k
+      master : (k : ℕ) → k < unreservedCount → w 0 k ≡ v 0 k
 
     with-page : WithPage (withUserPage choose P v u)
     unfolding withUserPage userPage userFile rootAt
@@ -126,14 +126,14 @@ module _ (choose : Vol → ℕ) (P : ℕ) (ch : Chooser P choose) (v : Vol) (S :
             let h : 1 ≤ unreserved v = omega (arith, have, later) in
             let w : Vol = extend choose P v t (entryPage u) in
             let T : Placed P v w (Either (SlotWords t (entryPage u)) UnreservedWords) 1 = extend-placed choose P ch v S pos t (entryPage u) N h in
-            let m : (k : ℕ) → k < 1022 → w 0 k ≡ v 0 k = extend-master choose P ch v S pos t (entryPage u) N h in
-            let f : flags (w 0) 1018 ≡ 1 = flags-ext (w 0) (v 0) 1018 (m 1018 (omega arith)) ∙ indexed (S .r2) .0 in
+            let m : (k : ℕ) → k < unreservedCount → w 0 k ≡ v 0 k = extend-master choose P ch v S pos t (entryPage u) N h in
+            let f : flags (w 0) userPointer ≡ 1 = flags-ext (w 0) (v 0) userPointer (m userPointer (omega arith)) ∙ indexed (S .r2) .0 in
             record {
               placed = placed-wider P v w (Either (SlotWords t (entryPage u)) UnreservedWords) K 1 (1 - userPage v u) T (omega arith) (wide z);
               there = omega (
                 arith,
                 extend-pos choose P ch v S pos t (entryPage u) N h,
-                root-one w (flags (w 0) 1018) (page (w 0) 1018) 0 (u / 32) f (omega arith) ∙ ap (λ (x : ℕ). slot w x (u / 32)) (page-ext (w 0) (v 0) 1018 (m 1018 (omega arith)) (m 1019 (omega arith)))
+                root-one w (flags (w 0) userPointer) (page (w 0) userPointer) 0 (u / 32) f (omega arith) ∙ ap (λ (x : ℕ). slot w x (u / 32)) (page-ext (w 0) (v 0) userPointer (m userPointer (omega arith)) (m (suc userPointer) (omega arith)))
                     ∙ extend-slot choose P ch v S pos t (entryPage u) N h,
               );
               master = m;
@@ -146,8 +146,8 @@ module _ (choose : Vol → ℕ) (P : ℕ) (ch : Chooser P choose) (v : Vol) (S :
     abbrev w₁ : Vol
     w₁ = withUserPage choose P v u
 
-    flags₁ : flags (w₁ 0) 1016 ≡ flags (v 0) 1016
-    flags₁ = flags-ext (w₁ 0) (v 0) 1016 (with-page .master 1016 (omega arith))
+    flags₁ : flags (w₁ 0) objectPointer ≡ flags (v 0) objectPointer
+    flags₁ = flags-ext (w₁ 0) (v 0) objectPointer (with-page .master objectPointer (omega arith))
 
     raises₁ : raises w₁ u ≡ raises v u
     unfolding raises
@@ -167,8 +167,8 @@ module _ (choose : Vol → ℕ) (P : ℕ) (ch : Chooser P choose) (v : Vol) (S :
 
     -- a subindex block
     module _ (q : 0 < raises v u) where
-      was : flags (v 0) 1016 ≡ 1
-      was = elim (ℕ-discrete (flags (v 0) 1016) 1) [ yes e ↦ e | no n ↦ absurd (let r : ⊥ = omega (arith, q, raises-none v u n) in r) ]
+      was : flags (v 0) objectPointer ≡ 1
+      was = elim (ℕ-discrete (flags (v 0) objectPointer) 1) [ yes e ↦ e | no n ↦ absurd (let r : ⊥ = omega (arith, q, raises-none v u n) in r) ]
 
       one : raises v u ≡ 1
       one = omega (arith, q, raises-one v u was)
@@ -176,7 +176,7 @@ module _ (choose : Vol → ℕ) (P : ℕ) (ch : Chooser P choose) (v : Vol) (S :
       have₁ : 1 ≤ unreserved w₁
       have₁ = omega (arith, have, later, one, with-page .placed .taking .paid)
 
-      T₂ : Placed P w₁ (raised choose P w₁) (Either (WordsOf 0 1016 2) UnreservedWords) 1
+      T₂ : Placed P w₁ (raised choose P w₁) (Either (WordsOf 0 objectPointer 2) UnreservedWords) 1
       T₂ = raised-placed choose P ch w₁ (with-page .placed .sound) pos big (flags₁ ∙ was) have₁
 
       high-there : 0 < userPage (raised choose P w₁) u
@@ -185,12 +185,12 @@ module _ (choose : Vol → ℕ) (P : ℕ) (ch : Chooser P choose) (v : Vol) (S :
 
       raise : UserPlaced P v (raised choose P w₁) u
       raise = record {
-        placed = placed-then P v w₁ (raised choose P w₁) K (Either (WordsOf 0 1016 2) UnreservedWords) (UserPlaceWords v u) (1 - userPage v u) 1 (userNeed v u) (with-page .placed) T₂ (omega (arith, later, one)) wide;
+        placed = placed-then P v w₁ (raised choose P w₁) K (Either (WordsOf 0 objectPointer 2) UnreservedWords) (UserPlaceWords v u) (1 - userPage v u) 1 (userNeed v u) (with-page .placed) T₂ (omega (arith, later, one)) wide;
         there = high-there;
         high = λ x. absurd (let r : ⊥ = omega (arith, x, raised-flags choose P ch w₁ (with-page .placed .sound) pos big (flags₁ ∙ was) have₁) in r);
       }
         where
-          wide : (x k : ℕ) → Either K (Either (WordsOf 0 1016 2) UnreservedWords) x k → Either (TakenWords P v (raised choose P w₁)) (UserPlaceWords v u) x k
+          wide : (x k : ℕ) → Either K (Either (WordsOf 0 objectPointer 2) UnreservedWords) x k → Either (TakenWords P v (raised choose P w₁)) (UserPlaceWords v u) x k
           wide x k (inl (inl h)) = inr (inr (inr (inl (omega (arith, later, h .0), h .1))))
           wide x k (inl (inr h)) = inr (inr (inr (inr ((p, h .0), h .1))))
           wide x k (inr (inl h)) = inr (inr (inl (q, h)))

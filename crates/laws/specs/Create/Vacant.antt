@@ -1,14 +1,14 @@
 -- Where an entry's page hangs: its block and slot, and that an empty slot may be used (Vacant). Assumes nothing.
 use mathlib.Core.Path.{_≡_, sym, ap, ap₂, _∙_, subst}
 use mathlib.Core.Logic.{_≢_, _⊎_, inl, inr}
-use Prim.Native.Nat.{ℕ, suc, _+_, _/_, _%_, _≤_, _<_, _-_}
+use Prim.Native.Nat.{ℕ, suc, _+_, _/_, _%_, _≤_, _<_, _-_, _*_}
 use native.Mathlib.Omega.{arith}
 use Rattle.sums.specs.Sum.{sum-at}
 use Rattle.book.specs.Create.{objectIndex}
 use Rattle.book.specs.Entries.{userFile, objectFile, userPage, objectPage, entryPage, user, used, fileEntry}
 use Rattle.book.specs.Grow.{indexOf}
 use Rattle.book.specs.Holders.{hit}
-use Rattle.book.specs.Pointers.{slot, flags, page, Zero, Inside}
+use Rattle.book.specs.Pointers.{slot, flags, page, Zero, Inside, objectPointer, userPointer}
 use Rattle.book.specs.Rules.{Rule2, Rule5, Rule5By, Sound}
 use Rattle.book.specs.Trees.{Root, tree, rootAt, pageAt, blocks, blocksR, Below}
 use Rattle.book.specs.Words.{Vol}
@@ -28,8 +28,8 @@ pub record Vacant (P : ℕ) (v : Vol) (X k : ℕ) : Type 0 where
   pub block : 1 ≤ blocksR v (userFile v) (hit X) + blocksR v (objectFile v) (hit X)
   pub room : k < 512
   pub was : slot v X k ≡ 0
-  pub eight : page (v 0) 1018 ≡ X → k < 8
-  pub four : flags (v 0) 1016 ≡ 2 → page (v 0) 1016 ≡ X → k < 4
+  pub eight : page (v 0) userPointer ≡ X → k < 8
+  pub four : flags (v 0) objectPointer ≡ 2 → page (v 0) objectPointer ≡ X → k < 4
 
 -- ---- blocks
 
@@ -51,17 +51,17 @@ module _ (P : ℕ) (v : Vol) (S : Sound P v) where
 
   -- ---- users
 
-  module _ (one : flags (v 0) 1018 ≡ 1) (real : 0 < page (v 0) 1018) (below : page (v 0) 1018 < P) (u : ℕ) (hu : u < 256) where
+  module _ (one : flags (v 0) userPointer ≡ 1) (real : 0 < page (v 0) userPointer) (below : page (v 0) userPointer < P) (u : ℕ) (hu : u < 256) where
     abbrev t : ℕ
-    t = page (v 0) 1018
+    t = page (v 0) userPointer
 
     pub user-slot : userPage v u ≡ slot v t (entryPage u)
     unfolding userPage userFile rootAt
-    user-slot = root-one v (flags (v 0) 1018) t 0 (u / 32) one (omega arith)
+    user-slot = root-one v (flags (v 0) userPointer) t 0 (u / 32) one (omega arith)
 
     pub user-block : 1 ≤ blocksR v (userFile v) (hit t)
     unfolding userFile blocksR
-    user-block = subst (λ (r : Root). 1 ≤ blocksR v r (hit t)) (sym (root-1 (v 0) 1018 0 one)) (blocks-top v 0 t real)
+    user-block = subst (λ (r : Root). 1 ≤ blocksR v r (hit t)) (sym (root-1 (v 0) userPointer 0 one)) (blocks-top v 0 t real)
 
     pub user-vacant : userPage v u ≡ 0 → Vacant P v t (entryPage u)
     unfolding objectFile blocksR
@@ -76,29 +76,32 @@ module _ (P : ℕ) (v : Vol) (S : Sound P v) where
         arith,
         once t below,
         user-block,
-        subst (λ (r : Root). 1 ≤ blocksR v r (hit t)) (sym (root-2 (v 0) 1016 0 x)) (subst (λ (y : ℕ). 1 ≤ blocks v 2 y (hit t)) (sym e) (blocks-top v 1 t real)),
+        subst (λ (r : Root). 1 ≤ blocksR v r (hit t)) (sym (root-2 (v 0) objectPointer 0 x)) (subst (λ (y : ℕ). 1 ≤ blocks v 2 y (hit t)) (sym e) (blocks-top v 1 t real)),
       ) in r);
     }
 
 -- ---- objects
 
--- the object pointer reaches entry e: an indexed one up to user 63
+-- the object pointer reaches entry e: an index block the 512 pages of users 0 to 63, a subindex block all
+abbrev pub Reaches : Vol → ℕ → Type 0
+Reaches v e = ((flags (v 0) objectPointer ≡ 1) × (e < 512 * 32)) ⊎ ((flags (v 0) objectPointer ≡ 2) × (e < 65536))
+
 pub record Reached (P : ℕ) (v : Vol) (e : ℕ) : Type 0 where
-  pub kind : ((flags (v 0) 1016 ≡ 1) × (e < 16384)) ⊎ ((flags (v 0) 1016 ≡ 2) × (e < 65536))
-  pub real : 0 < page (v 0) 1016
-  pub below : page (v 0) 1016 < P
+  pub kind : Reaches v e
+  pub real : 0 < page (v 0) objectPointer
+  pub below : page (v 0) objectPointer < P
 
 -- a change that leaves the pointer
-pub reached-kept : (P : ℕ) (v w : Vol) (e : ℕ) → w 0 1016 ≡ v 0 1016 → w 0 1017 ≡ v 0 1017 → Reached P v e → Reached P w e
+pub reached-kept : (P : ℕ) (v w : Vol) (e : ℕ) → w 0 objectPointer ≡ v 0 objectPointer → w 0 (suc objectPointer) ≡ v 0 (suc objectPointer) → Reached P v e → Reached P w e
 reached-kept P v w e a b R = record { kind = go (R .kind); real = omega (arith, R .real, pg); below = omega (arith, R .below, pg) }
   where
-    fl : flags (w 0) 1016 ≡ flags (v 0) 1016
-    fl = flags-ext (w 0) (v 0) 1016 a
+    fl : flags (w 0) objectPointer ≡ flags (v 0) objectPointer
+    fl = flags-ext (w 0) (v 0) objectPointer a
 
-    pg : page (w 0) 1016 ≡ page (v 0) 1016
-    pg = page-ext (w 0) (v 0) 1016 a b
+    pg : page (w 0) objectPointer ≡ page (v 0) objectPointer
+    pg = page-ext (w 0) (v 0) objectPointer a b
 
-    go : ((flags (v 0) 1016 ≡ 1) × (e < 16384)) ⊎ ((flags (v 0) 1016 ≡ 2) × (e < 65536)) → ((flags (w 0) 1016 ≡ 1) × (e < 16384)) ⊎ ((flags (w 0) 1016 ≡ 2) × (e < 65536))
+    go : Reaches v e → Reaches w e
     go (inl h) = inl (fl ∙ h .0, h .1)
     go (inr h) = inr (fl ∙ h .0, h .1)
 
@@ -107,8 +110,8 @@ pub used-reached : (P : ℕ) (v : Vol) → Sound P v → (u f : ℕ) → u < 256
 unfolding Rule2 Inside user userFile
 used-reached P v S u f hu hf q = go (S .r2)
   where
-    go : ((Zero (v 0) 1018 × Zero (v 0) 1016) ⊎ (Inside P (v 0) 1018 1 × (Inside P (v 0) 1016 1 ⊎ Inside P (v 0) 1016 2))) → Reached P v (fileEntry u f)
-    go (inl z) = absurd (let r : ⊥ = omega (arith, used-page v (userFile v) u q, zero-none v (v 0) 1018 (z .0) (u / 32)) in r)
+    go : ((Zero (v 0) userPointer × Zero (v 0) objectPointer) ⊎ (Inside P (v 0) userPointer 1 × (Inside P (v 0) objectPointer 1 ⊎ Inside P (v 0) objectPointer 2))) → Reached P v (fileEntry u f)
+    go (inl z) = absurd (let r : ⊥ = omega (arith, used-page v (userFile v) u q, zero-none v (v 0) userPointer (z .0) (u / 32)) in r)
     go (inr (a, inl i)) =
         let low : ¬ (63 < u) = λ h. omega (arith, q, high-unused P v (S .r5) (i .0) u h hu) in
         record { kind = inl (i .0, omega arith); real = i .1; below = i .2 }
@@ -116,18 +119,18 @@ used-reached P v S u f hu hf q = go (S .r2)
 
 module _ (P : ℕ) (v : Vol) (S : Sound P v) (e : ℕ) (R : Reached P v e) where
   abbrev o : ℕ
-  o = page (v 0) 1016
+  o = page (v 0) objectPointer
 
   -- an index block of its own, by the flags
-  index-is : (x : ℕ) → flags (v 0) 1016 ≡ x → objectIndex v e ≡ indexOf v x o (entryPage e)
+  index-is : (x : ℕ) → flags (v 0) objectPointer ≡ x → objectIndex v e ≡ indexOf v x o (entryPage e)
   unfolding objectIndex
-  index-is x h = ap (λ (y : ℕ). indexOf v y (page (v 0) 1016) (entryPage e)) h
+  index-is x h = ap (λ (y : ℕ). indexOf v y (page (v 0) objectPointer) (entryPage e)) h
 
-  pub object-one : flags (v 0) 1016 ≡ 1 → objectIndex v e ≡ o
+  pub object-one : flags (v 0) objectPointer ≡ 1 → objectIndex v e ≡ o
   unfolding indexOf
   object-one = index-is 1
 
-  pub object-two : flags (v 0) 1016 ≡ 2 → objectIndex v e ≡ slot v o (entryPage e / 512)
+  pub object-two : flags (v 0) objectPointer ≡ 2 → objectIndex v e ≡ slot v o (entryPage e / 512)
   unfolding indexOf
   object-two = index-is 2
 
@@ -135,35 +138,35 @@ module _ (P : ℕ) (v : Vol) (S : Sound P v) (e : ℕ) (R : Reached P v e) where
   unfolding objectPage objectFile rootAt
   object-slot = go (R .kind)
     where
-      go : ((flags (v 0) 1016 ≡ 1) × (e < 16384)) ⊎ ((flags (v 0) 1016 ≡ 2) × (e < 65536)) → pageAt v (rootAt (v 0) 1016 0) (e / 32) ≡ slot v (objectIndex v e) (e / 32 % 512)
-      go (inl h) = root-one v (flags (v 0) 1016) o 0 (e / 32) (h .0) (omega (arith, h .1)) ∙ ap₂ (slot v) (sym (object-one (h .0))) (let q : e / 32 ≡ e / 32 % 512 = omega (arith, h .1) in q)
-      go (inr h) = root-two v (flags (v 0) 1016) o 0 (e / 32) (h .0) (omega (arith, h .1)) ∙ ap (λ (x : ℕ). slot v x (e / 32 % 512)) (sym (object-two (h .0)))
+      go : Reaches v e → pageAt v (rootAt (v 0) objectPointer 0) (e / 32) ≡ slot v (objectIndex v e) (e / 32 % 512)
+      go (inl h) = root-one v (flags (v 0) objectPointer) o 0 (e / 32) (h .0) (omega (arith, h .1)) ∙ ap₂ (slot v) (sym (object-one (h .0))) (let q : e / 32 ≡ e / 32 % 512 = omega (arith, h .1) in q)
+      go (inr h) = root-two v (flags (v 0) objectPointer) o 0 (e / 32) (h .0) (omega (arith, h .1)) ∙ ap (λ (x : ℕ). slot v x (e / 32 % 512)) (sym (object-two (h .0)))
 
   -- no block, no page
   pub object-none : objectIndex v e ≡ 0 → objectPage v e ≡ 0
   object-none z = object-slot ∙ ap (λ (x : ℕ). slot v x (entryPage e % 512)) z ∙ slot-zero v (entryPage e % 512)
 
   -- the user index is another block
-  user-index : (X : ℕ) → X < P → 0 < X → 1 ≤ blocksR v (objectFile v) (hit X) → page (v 0) 1018 ≢ X
+  user-index : (X : ℕ) → X < P → 0 < X → 1 ≤ blocksR v (objectFile v) (hit X) → page (v 0) userPointer ≢ X
   user-index X h p b q = omega (arith, once P v S X h, b, users-top P v (hit X) (hit-zero X) (S .r2), subst (λ (x : ℕ). hit X x ≡ 1) (sym q) (hit-same X p))
 
   top-block : (l : ℕ) → objectFile v ≡ tree (suc l) o → 1 ≤ blocksR v (objectFile v) (hit o)
   unfolding blocksR
   top-block l q = subst (λ (r : Root). 1 ≤ blocksR v r (hit o)) (sym q) (blocks-top v l o (R .real))
 
-  pub top-held : flags (v 0) 1016 ≡ 2 → 1 ≤ rest v (hit o)
+  pub top-held : flags (v 0) objectPointer ≡ 2 → 1 ≤ rest v (hit o)
   unfolding rest objectFile
-  top-held x = omega (arith, top-block 1 (root-2 (v 0) 1016 0 x), blocksR-le v (objectFile v) (hit o))
+  top-held x = omega (arith, top-block 1 (root-2 (v 0) objectPointer 0 x), blocksR-le v (objectFile v) (hit o))
 
   -- an index block under the subindex block
-  pub under : flags (v 0) 1016 ≡ 2 → e < 65536 → 0 < objectIndex v e
+  pub under : flags (v 0) objectPointer ≡ 2 → e < 65536 → 0 < objectIndex v e
       → (objectIndex v e < P) × (hit (objectIndex v e) o + 1 ≤ blocksR v (objectFile v) (hit (objectIndex v e)))
   unfolding Rule5 Rule5By Below objectFile blocksR
   under x h p =
       let q : slot v o (entryPage e / 512) ≡ objectIndex v e = sym (object-two x) in
       let b = subst (λ (y : ℕ). Rule5By P v y o) x (S .r5) .0 .1 (entryPage e / 512) (omega arith) .0 in (
         omega (arith, b, q),
-        subst (λ (r : Root). hit (objectIndex v e) o + 1 ≤ blocksR v r (hit (objectIndex v e))) (sym (root-2 (v 0) 1016 0 x))
+        subst (λ (r : Root). hit (objectIndex v e) o + 1 ≤ blocksR v r (hit (objectIndex v e))) (sym (root-2 (v 0) objectPointer 0 x))
             (blocks-under v o (entryPage e / 512) (objectIndex v e) (omega arith) p q),
       )
 
@@ -172,9 +175,9 @@ module _ (P : ℕ) (v : Vol) (S : Sound P v) (e : ℕ) (R : Reached P v e) where
   unfolding objectFile
   index-vacant p z = go (R .kind)
     where
-      go : ((flags (v 0) 1016 ≡ 1) × (e < 16384)) ⊎ ((flags (v 0) 1016 ≡ 2) × (e < 65536)) → Vacant P v (objectIndex v e) (entryPage e % 512)
+      go : Reaches v e → Vacant P v (objectIndex v e) (entryPage e % 512)
       go (inl h) =
-          let b : 1 ≤ blocksR v (objectFile v) (hit o) = top-block 0 (root-1 (v 0) 1016 0 (h .0)) in
+          let b : 1 ≤ blocksR v (objectFile v) (hit o) = top-block 0 (root-1 (v 0) objectPointer 0 (h .0)) in
           subst (λ (x : ℕ). Vacant P v x (entryPage e % 512)) (sym (object-one (h .0))) (record {
             below = R .below;
             real = R .real;
@@ -201,10 +204,10 @@ module _ (P : ℕ) (v : Vol) (S : Sound P v) (e : ℕ) (R : Reached P v e) where
   unfolding objectFile
   top-vacant z = go (R .kind)
     where
-      go : ((flags (v 0) 1016 ≡ 1) × (e < 16384)) ⊎ ((flags (v 0) 1016 ≡ 2) × (e < 65536)) → Vacant P v o (entryPage e / 512)
+      go : Reaches v e → Vacant P v o (entryPage e / 512)
       go (inl h) = absurd (let r : ⊥ = omega (arith, object-one (h .0), R .real) in r)
       go (inr h) =
-          let b : 1 ≤ blocksR v (objectFile v) (hit o) = top-block 1 (root-2 (v 0) 1016 0 (h .0)) in
+          let b : 1 ≤ blocksR v (objectFile v) (hit o) = top-block 1 (root-2 (v 0) objectPointer 0 (h .0)) in
           record {
             below = R .below;
             real = R .real;

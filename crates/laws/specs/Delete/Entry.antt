@@ -1,14 +1,14 @@
 -- The entry of a file is cleared and its owner's count falls: all that the file held is then in hand. Assumes nothing.
 use mathlib.Core.Path.{_≡_, ap, ap₂, _∙_, subst}
 use mathlib.Core.Logic.{_≢_}
-use Prim.Native.Nat.{ℕ, _+_, _-_, _*_, _/_, _<_}
+use Prim.Native.Nat.{ℕ, suc, _+_, _-_, _*_, _/_, _<_}
 use native.Mathlib.Omega.{arith}
 use Rattle.sums.specs.Search.{pick}
 use Rattle.sums.specs.Sum.{sum-zero}
 use Rattle.book.specs.Entries.{user, object, used, given, usedPages, grant}
 use Rattle.book.specs.Files.{fileAt}
 use Rattle.book.specs.Holders.{hit, some}
-use Rattle.book.specs.Pointers.{flags, page}
+use Rattle.book.specs.Pointers.{flags, page, objectPointer, unreservedCount}
 use Rattle.book.specs.Rules.{UserOk, Rule4, Rule5, Rule5By, Rule6, Rule10}
 use Rattle.book.specs.Trees.{Root, weighR}
 use Rattle.book.specs.Words.{Vol}
@@ -45,9 +45,9 @@ module _ (P : ℕ) (v : Vol) (hand : ℕ → ℕ) (G : Good P v hand) (pos : 0 <
   unfolding weighR
   none g = ap (λ (r : Root). weighR v′ r g) (file-unused v′ e gone) ∙ sum-zero (λ i. g (0 + i))
 
-  high : flags (v 0) 1016 ≡ 1 → 63 < a → used (user v a) ≡ 0
+  high : flags (v 0) objectPointer ≡ 1 → 63 < a → used (user v a) ≡ 0
   unfolding Rule5 Rule5By
-  high q i = subst (λ (x : ℕ). Rule5By P v x (page (v 0) 1016)) q (G .most .r5) .1 a i ha
+  high q i = subst (λ (x : ℕ). Rule5By P v x (page (v 0) objectPointer)) q (G .most .r5) .1 a i ha
 
   -- all that the file held is now in hand
   pub delete-good : Good P v′ (λ p. hand p + weighR v (fileAt v e) (hit p))
@@ -72,6 +72,6 @@ module _ (P : ℕ) (v : Vol) (hand : ℕ → ℕ) (G : Good P v hand) (pos : 0 <
     };
     owner = λ h i q. omega (arith, user-used, owner-used);
     high = λ q i. user-used ∙ high q i;
-    balance = omega (arith, two-ext (v′ 0) (v 0) 1022 (master 1022) (master 1023), ap₂ (λ (x y : ℕ). pick x y 0) user-used given-kept);
+    balance = omega (arith, two-ext (v′ 0) (v 0) unreservedCount (master unreservedCount) (master (suc unreservedCount)), ap₂ (λ (x y : ℕ). pick x y 0) user-used given-kept);
     count = λ h. omega (arith, less, none some, G .most .r10 .0 a ha owner-used, edit-mine P v hand G pos a f ha hf (λ x. 0) v′ E some);
   }

@@ -9,7 +9,7 @@ use lib.ListN.{getD}
 use Rattle.sums.specs.Sum.{is}
 use Rattle.sums.specs.Search.{pick}
 use Rattle.book.specs.Words.{Words, Vol, two, word, put}
-use Rattle.book.specs.Pointers.{flags, page, slot, Zero, Inside, wrong, userPointer, objectPointer}
+use Rattle.book.specs.Pointers.{flags, page, slot, Zero, Inside, wrong, userPointer, objectPointer, bitPointer, unreservedCount, volumeName}
 use Rattle.book.specs.Trees.{Root, tree, run, Below}
 use Rattle.book.specs.Bits.{bitPages, bit}
 use Rattle.book.specs.Entries.{entry, user, object, userFile, objectFile, used, unreserved, fileEntry, filePointer}
@@ -42,22 +42,22 @@ yard-text = (omega arith, omega arith, go)
 
 -- the words that rule 1 reads
 pub record Head (v : Vol) : Type 0 where
-  pub first : v 0 1008 ≡ 22849
+  pub first : v 0 volumeName ≡ 22849
   pub second : v 0 1009 ≡ 21060
-  pub tail : (k : ℕ) → 1010 ≤ k → k < 1016 → v 0 k ≡ 0
-  pub high : v 0 1020 ≡ 0
-  pub low : v 0 1021 ≡ 8
+  pub tail : (k : ℕ) → 1010 ≤ k → k < objectPointer → v 0 k ≡ 0
+  pub high : v 0 bitPointer ≡ 0
+  pub low : v 0 (suc bitPointer) ≡ 8
 
 pub head-rule : (v : Vol) → Head v → Rule1 16 v
 unfolding flags page bitPages packed yardName
 head-rule v H = record {
-  name = packed-legal 1 16 yardName yard-text (v 0) 1008 (λ i h. words (i / 2) (omega arith));
+  name = packed-legal 1 16 yardName yard-text (v 0) volumeName (λ i h. words (i / 2) (omega arith));
   unflagged = omega (arith, H .high);
   start = omega (arith, H .high, H .low);
   fits = omega (arith, H .high, H .low);
 }
   where
-    words : (j : ℕ) → j < 8 → v 0 (1008 + j) ≡ packed yardName j
+    words : (j : ℕ) → j < 8 → v 0 (volumeName + j) ≡ packed yardName j
     words zero h = H .first
     words (suc zero) h = H .second
     words (suc (suc zero)) h = H .tail 1010 (omega arith) (omega arith)
@@ -69,11 +69,11 @@ head-rule v H = record {
     words (suc (suc (suc (suc (suc (suc (suc (suc j)))))))) h = absurd (let r : ⊥ = omega arith in r)
 
 abbrev pub yard : List Cell
-yard = cell 0 1008 22849 ∷ cell 0 1009 21060 ∷ cell 0 1021 8 ∷ cell 0 1023 14 ∷ cell 8 0 257 ∷ []
+yard = cell 0 volumeName 22849 ∷ cell 0 1009 21060 ∷ cell 0 (suc bitPointer) 8 ∷ cell 0 (suc unreservedCount) 14 ∷ cell 8 0 257 ∷ []
 
 -- the same with a user index in page 1 and an object index in page o
 abbrev pub trees : ℕ → List Cell
-trees o = cell 0 1018 16384 ∷ cell 0 1019 1 ∷ cell 0 1016 16384 ∷ cell 0 1017 o ∷ yard
+trees o = cell 0 userPointer 16384 ∷ cell 0 (suc userPointer) 1 ∷ cell 0 objectPointer 16384 ∷ cell 0 (suc objectPointer) o ∷ yard
 
 -- ---- the ten volumes
 
@@ -82,7 +82,7 @@ broken1 = []
 
 -- a user pointer with S
 abbrev pub broken2 : List Cell
-broken2 = cell 0 1018 32768 ∷ yard
+broken2 = cell 0 userPointer 32768 ∷ yard
 
 -- slot 8 of the user index in use
 abbrev pub broken3 : List Cell
@@ -114,7 +114,7 @@ broken9 = cell 8 0 289 ∷ yard
 
 -- one page too many unreserved
 abbrev pub broken10 : List Cell
-broken10 = cell 0 1023 15 ∷ yard
+broken10 = cell 0 (suc unreservedCount) 15 ∷ yard
 
 -- ---- rule 1
 
@@ -133,7 +133,7 @@ nameless w k z (l, a, b, c, d) =
 
 pub breaks1 : Lowest (rules 16 (volume broken1)) 1
 unfolding rules Lowest volume
-breaks1 = inl (refl, λ r. nameless (volume [] 0) 1008 refl (r .name))
+breaks1 = inl (refl, λ r. nameless (volume [] 0) volumeName refl (r .name))
 
 -- ---- rule 2
 
@@ -157,19 +157,19 @@ breaks2 = inr (head-rule (volume broken2) head2, inl (refl, no))
 -- what the master page of such a volume says
 pub record Master (v : Vol) (o : ℕ) : Type 0 where
   pub head : Head v
-  pub ufl : v 0 1018 ≡ 16384
-  pub upg : v 0 1019 ≡ 1
-  pub ofl : v 0 1016 ≡ 16384
-  pub opg : v 0 1017 ≡ o
+  pub ufl : v 0 userPointer ≡ 16384
+  pub upg : v 0 (suc userPointer) ≡ 1
+  pub ofl : v 0 objectPointer ≡ 16384
+  pub opg : v 0 (suc objectPointer) ≡ o
 
 module _ (v : Vol) (o : ℕ) (M : Master v o) where
   pub user-root : userFile v ≡ tree 1 1
   unfolding userFile flags page
-  user-root = root-1 (v 0) 1018 0 (omega (arith, M .ufl)) ∙ ap (tree 1) (omega (arith, M .ufl, M .upg))
+  user-root = root-1 (v 0) userPointer 0 (omega (arith, M .ufl)) ∙ ap (tree 1) (omega (arith, M .ufl, M .upg))
 
   pub object-root : objectFile v ≡ tree 1 o
   unfolding objectFile flags page
-  object-root = root-1 (v 0) 1016 0 (omega (arith, M .ofl)) ∙ ap (tree 1) (omega (arith, M .ofl, M .opg))
+  object-root = root-1 (v 0) objectPointer 0 (omega (arith, M .ofl)) ∙ ap (tree 1) (omega (arith, M .ofl, M .opg))
 
   pub rule-2 : 0 < o → o < 16 → Rule2 16 v
   unfolding Rule2 Inside flags page
@@ -178,15 +178,15 @@ module _ (v : Vol) (o : ℕ) (M : Master v o) where
     inl (omega (arith, M .ofl), omega (arith, M .ofl, M .opg), omega (arith, M .ofl, M .opg)),
   )
 
-  pub user-page : page (v 0) 1018 ≡ 1
+  pub user-page : page (v 0) userPointer ≡ 1
   unfolding page
   user-page = omega (arith, M .ufl, M .upg)
 
-  pub object-page : page (v 0) 1016 ≡ o
+  pub object-page : page (v 0) objectPointer ≡ o
   unfolding page
   object-page = omega (arith, M .ofl, M .opg)
 
-  object-flags : flags (v 0) 1016 ≡ 1
+  object-flags : flags (v 0) objectPointer ≡ 1
   unfolding flags
   object-flags = omega (arith, M .ofl)
 
@@ -211,7 +211,7 @@ module _ (v : Vol) (o : ℕ) (M : Master v o) where
   -- the object index has at most its first slot in use, and no user above 63 is used
   pub rule-5 : o < 16 → slot v o 0 < 16 → ((n : ℕ) → 0 < n → slot v o n ≡ 0) → ((u : ℕ) → 63 < u → used (user v u) ≡ 0) → Rule5 16 v
   unfolding Rule5 Rule5By Below
-  rule-5 l a z nu = subst (λ (x : ℕ). Rule5By 16 v x (page (v 0) 1016)) (sym object-flags)
+  rule-5 l a z nu = subst (λ (x : ℕ). Rule5By 16 v x (page (v 0) objectPointer)) (sym object-flags)
       (subst (λ (t : ℕ). Rule5By 16 v 1 t) (sym object-page) ((l, λ k h. below k), λ u h i. nu u h))
     where
       below : (n : ℕ) → slot v o n < 16
@@ -221,7 +221,7 @@ module _ (v : Vol) (o : ℕ) (M : Master v o) where
   -- rule 5 asks each slot to be below P
   rule-5-slot : Rule5 16 v → slot v o 0 < 16
   unfolding Rule5 Rule5By Below
-  rule-5-slot r = subst (λ (t : ℕ). Rule5By 16 v 1 t) object-page (subst (λ (x : ℕ). Rule5By 16 v x (page (v 0) 1016)) object-flags r) .0 .1 0 (omega arith)
+  rule-5-slot r = subst (λ (t : ℕ). Rule5By 16 v 1 t) object-page (subst (λ (x : ℕ). Rule5By 16 v x (page (v 0) objectPointer)) object-flags r) .0 .1 0 (omega arith)
 
 -- the words of a slot that no cell has
 pub bare : (l : List Cell) (b n : ℕ) → 0 < b → Off l b (2 * n) → Off l b (suc (2 * n)) → slot (volume l) b n ≡ 0

@@ -10,12 +10,12 @@ use lib.ListN.{getD, List·getD-eq-default}
 use Rattle.sums.specs.Sum.{sum, is, sum-suc, sum-zero, sum-at}
 use Rattle.sums.specs.Search.{pick}
 use Rattle.book.specs.Words.{Words, Vol, two, word, put}
-use Rattle.book.specs.Pointers.{page, slot, Zero}
+use Rattle.book.specs.Pointers.{page, slot, Zero, bitPointer, objectPointer, userPointer}
 use Rattle.book.specs.Trees.{Root, tree, weigh, weighR, pageAt, upto}
 use Rattle.book.specs.Bits.{digit, bitPages, bitFile, bitPage, bit}
 use Rattle.book.specs.Entries.{entry, user, object, userFile, objectFile, used, given, usedPages, unreserved}
 use Rattle.book.specs.Names.{Letter, Text, NameText, Legal, packed}
-use Rattle.book.specs.Files.{FileShape}
+use Rattle.book.specs.Files.{FileShape, pageBytes}
 use Rattle.book.specs.Holders.{hit, some, all, system, holders, systemPages}
 use Rattle.book.specs.Rows.{Rows, end, row, Lowest}
 use Rattle.book.specs.Rules.{Rule1, Rule2, Rule3, Rule4, UserOk, Rule5, Rule6, FileOk, Rule7, Rule8, Rule9, Rule10, rules}
@@ -132,7 +132,7 @@ breaks7 = inr (
         })
 
     no : Rule7 16 (volume broken7) → ⊥
-    no r = let s : two (object (volume broken7) 0) 28 ≡ 2048 * two (object (volume broken7) 0) 26 = r 0 (omega arith) (omega (arith, O 0)) .1 in
+    no r = let s : two (object (volume broken7) 0) 28 ≡ pageBytes * two (object (volume broken7) 0) 26 = r 0 (omega arith) (omega (arith, O 0)) .1 in
         let q : ⊥ = omega (arith, s, O 26, O 27, O 28, O 29) in q
 
 -- ---- rule 8
@@ -191,15 +191,15 @@ breaks8 = inr (
 -- what the master page of a fresh yard disk says
 pub record Fresh (v : Vol) : Type 0 where
   pub head : Head v
-  pub users : Zero (v 0) 1018
-  pub objects : Zero (v 0) 1016
+  pub users : Zero (v 0) userPointer
+  pub objects : Zero (v 0) objectPointer
 
 module _ (v : Vol) (F : Fresh v) where
   fresh-all : (g : ℕ → ℕ) → all 16 v g ≡ g 8
   unfolding bitFile bitPages weighR page
   fresh-all g =
-      all-none v (F .users) (F .objects) 16 g ∙ sum-suc 0 (λ i. g (v 0 1020 % 16384 * 65536 + v 0 1021 + i))
-      ∙ omega (arith, sum-zero (λ i. g (v 0 1020 % 16384 * 65536 + v 0 1021 + i)), ap g (let e : v 0 1020 % 16384 * 65536 + v 0 1021 + 0 ≡ 8 = omega (arith, F .head .high, F .head .low) in e))
+      all-none v (F .users) (F .objects) 16 g ∙ sum-suc 0 (λ i. g (v 0 bitPointer % 16384 * 65536 + v 0 (suc bitPointer) + i))
+      ∙ omega (arith, sum-zero (λ i. g (v 0 bitPointer % 16384 * 65536 + v 0 (suc bitPointer) + i)), ap g (let e : v 0 bitPointer % 16384 * 65536 + v 0 (suc bitPointer) + 0 ≡ 8 = omega (arith, F .head .high, F .head .low) in e))
 
   fresh-holders : (p : ℕ) → holders 16 v p ≡ is p 0 + hit p 8
   unfolding holders

@@ -1,18 +1,17 @@
 -- The words of a file's last position (Around), and a file that is one page longer in one volume than in another (Longer). Assumes nothing.
-use mathlib.Core.Path.{_≡_, sym, _∙_, subst, ap}
-use mathlib.Core.Logic.{_⊎_, inl, inr}
+use mathlib.Core.Path.{_≡_, sym, _∙_, ap}
+use mathlib.Core.Logic.{_⊎_}
 use Prim.Native.Nat.{ℕ, _+_, _*_, _/_, _%_, _<_, suc}
 use native.Mathlib.Omega.{arith}
-use Rattle.book.specs.Bits.{bitPage, bitWord, mark, claim}
+use Rattle.book.specs.Bits.{bitPage, bitWord}
 use Rattle.book.specs.Entries.{objectPage, userPage, Table, user, object, usedPages}
-use Rattle.book.specs.Files.{fileAt, need}
+use Rattle.book.specs.Files.{fileAt, need, pageBytes}
 use Rattle.book.specs.Grow.{finish}
 use Rattle.book.specs.Holders.{hit}
-use Rattle.book.specs.Pointers.{setSlot}
 use Rattle.book.specs.Trees.{Root, indexAt, subindexOf, weighR, pageAt}
 use Rattle.book.specs.Words.{Vol, put2, two}
-use Rattle.laws.specs.Frame.Places.{Places, PageOf, WordsOf, FieldOf, Either, OnlyAt, only-wider, only-put, only-put2, only-wipe, only-trans}
-use Rattle.laws.specs.Frame.Still.{SamePlaces, bitPage-same, Still}
+use Rattle.laws.specs.Frame.Places.{Places, WordsOf, FieldOf, Either, OnlyAt, only-wider, only-put2, only-trans}
+use Rattle.laws.specs.Frame.Still.{Still}
 use Rattle.laws.specs.Tree.Levels.{last}
 
 -- page x is one of those that position n needs
@@ -38,24 +37,12 @@ Around P v a e n = Either (BitsOf P v (fileAt v e) n) (Either (SlotOf v (fileAt 
 abbrev pub AroundNew : ℕ → Vol → ℕ → ℕ → ℕ → Places
 AroundNew P v a e n = Either (λ p k. Needs v (fileAt v e) n p) (Around P v a e n)
 
-pub only-slot : (A : Places) (v : Vol) (b k d : ℕ) → ((p j : ℕ) → WordsOf b (2 * k) 2 p j → A p j) → OnlyAt A v (setSlot v b k d)
-unfolding setSlot
-only-slot A v b k d w = only-wider (WordsOf b (2 * k) 2) A v _ w (only-put2 v b (2 * k) d)
-
-pub only-mark : (A : Places) (P : ℕ) (v : Vol) (d x : ℕ) → ((p j : ℕ) → WordsOf (bitPage P v d) (bitWord d) 1 p j → A p j) → OnlyAt A v (mark P v d x)
-unfolding mark
-only-mark A P v d x w = only-wider (WordsOf (bitPage P v d) (bitWord d) 1) A v _ w (only-put v (bitPage P v d) (bitWord d) _)
-
-pub only-claim : (A : Places) (P : ℕ) (v : Vol) (d : ℕ) → ((p j : ℕ) → WordsOf (bitPage P v d) (bitWord d) 1 p j → A p j) → ((j : ℕ) → A d j) → OnlyAt A v (claim P v d)
-unfolding claim
-only-claim A P v d w c = only-trans A v (mark P v d 1) _ (only-mark A P v d 1 w) (only-wider (PageOf d) A _ _ (λ p j e. subst (λ (q : ℕ). A q j) (sym e) (c j)) (only-wipe (mark P v d 1) d))
-
 pub only-finish : (A : Places) (v : Vol) (U O a e n ptr x : ℕ) → ((p j : ℕ) → FieldOf O e 26 6 p j → A p j) → ((p j : ℕ) → FieldOf U a 16 2 p j → A p j) → OnlyAt A v (finish v U O a e n ptr x)
 unfolding finish
 only-finish A v U O a e n ptr x o u =
     only-trans A v v₃ _ (only-trans A v v₂ v₃ (only-trans A v v₁ v₂
     (only-wider _ A v v₁ (λ p j h. o p j (h .0, omega (arith, h .1), omega (arith, h .2))) (only-put2 v O (w + 26) n))
-    (only-wider _ A v₁ v₂ (λ p j h. o p j (h .0, omega (arith, h .1), omega (arith, h .2))) (only-put2 v₁ O (w + 28) (2048 * n))))
+    (only-wider _ A v₁ v₂ (λ p j h. o p j (h .0, omega (arith, h .1), omega (arith, h .2))) (only-put2 v₁ O (w + 28) (pageBytes * n))))
     (only-wider _ A v₂ v₃ (λ p j h. o p j (h .0, omega (arith, h .1), omega (arith, h .2))) (only-put2 v₂ O (w + 30) ptr)))
     (only-wider _ A v₃ _ u (only-put2 v₃ U (32 * (a % 32) + 16) x))
   where
@@ -66,15 +53,10 @@ only-finish A v U O a e n ptr x o u =
     v₁ = put2 v O (w + 26) n
 
     v₂ : Vol
-    v₂ = put2 v₁ O (w + 28) (2048 * n)
+    v₂ = put2 v₁ O (w + 28) (pageBytes * n)
 
     v₃ : Vol
     v₃ = put2 v₂ O (w + 30) ptr
-
--- a page is taken that the new position of z needs
-pub only-take : (P : ℕ) (v w z : Vol) (a e n d : ℕ) → SamePlaces w z → Needs z (fileAt z e) n d → OnlyAt (AroundNew P z a e n) v w → OnlyAt (AroundNew P z a e n) v (claim P w d)
-only-take P v w z a e n d L h o = only-trans (AroundNew P z a e n) v w (claim P w d) o
-    (only-claim (AroundNew P z a e n) P w d (λ p j i. inr (inl (d, h, (i .0 ∙ sym (bitPage-same P w z L d), i .1, i .2)))) (λ j. inl h))
 
 -- the file at e of user a has n pages in v; in v′ it has position n too, with the pages that this one needs, and is else the same
 pub record Longer (v v′ : Vol) (a e n : ℕ) : Type 0 where

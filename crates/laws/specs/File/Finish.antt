@@ -5,10 +5,10 @@ use Prim.Native.Nat.{ℕ, suc, _+_, _-_, _*_, _/_, _%_, _≤_, _<_}
 use native.Mathlib.Omega.{arith}
 use Rattle.sums.specs.Search.{pick}
 use Rattle.book.specs.Entries.{entry, userFile, objectFile, user, object, used, given, usedPages, grant}
-use Rattle.book.specs.Files.{fileAt, Shape, FileShape}
+use Rattle.book.specs.Files.{fileAt, Shape, FileShape, pageBytes}
 use Rattle.book.specs.Grow.{finish}
 use Rattle.book.specs.Holders.{hit, some, all}
-use Rattle.book.specs.Pointers.{flags, page, pointer}
+use Rattle.book.specs.Pointers.{flags, page, pointer, objectPointer, unreservedCount}
 use Rattle.book.specs.Rules.{UserOk, FileOk, Rule4, Rule5, Rule5By, Rule6, Rule10}
 use Rattle.book.specs.Trees.{Root, weighR, blocksR, pageAt, rootAt, rootBy}
 use Rattle.book.specs.Words.{Vol, two, word, put2}
@@ -35,41 +35,41 @@ module _ (v : Vol) (U O a e n ptr x : ℕ) (apart : U ≢ O) where
 
   pub fin-page : (q k : ℕ) → q ≢ O → q ≢ U → v′ q k ≡ v q k
   unfolding finish
-  fin-page q k i j = put2-page _ U (z + 16) x q k j ∙ put2-page _ O (w + 30) ptr q k i ∙ put2-page _ O (w + 28) (2048 * n) q k i ∙ put2-page v O (w + 26) n q k i
+  fin-page q k i j = put2-page _ U (z + 16) x q k j ∙ put2-page _ O (w + 30) ptr q k i ∙ put2-page _ O (w + 28) (pageBytes * n) q k i ∙ put2-page v O (w + 26) n q k i
 
   -- page O
-  ofO : (k : ℕ) → v′ O k ≡ put2 (put2 (put2 v O (w + 26) n) O (w + 28) (2048 * n)) O (w + 30) ptr O k
+  ofO : (k : ℕ) → v′ O k ≡ put2 (put2 (put2 v O (w + 26) n) O (w + 28) (pageBytes * n)) O (w + 30) ptr O k
   unfolding finish
   ofO k = put2-page _ U (z + 16) x O k (λ i. apart (sym i))
 
   pub fin-O : (k : ℕ) → (k < w + 26) ⊎ (w + 32 ≤ k) → v′ O k ≡ v O k
-  fin-O k (inl h) = ofO k ∙ put2-word _ O (w + 30) ptr O k (omega arith) (omega arith) ∙ put2-word _ O (w + 28) (2048 * n) O k (omega arith) (omega arith) ∙ put2-word v O (w + 26) n O k (omega arith) (omega arith)
-  fin-O k (inr h) = ofO k ∙ put2-word _ O (w + 30) ptr O k (omega arith) (omega arith) ∙ put2-word _ O (w + 28) (2048 * n) O k (omega arith) (omega arith) ∙ put2-word v O (w + 26) n O k (omega arith) (omega arith)
+  fin-O k (inl h) = ofO k ∙ put2-word _ O (w + 30) ptr O k (omega arith) (omega arith) ∙ put2-word _ O (w + 28) (pageBytes * n) O k (omega arith) (omega arith) ∙ put2-word v O (w + 26) n O k (omega arith) (omega arith)
+  fin-O k (inr h) = ofO k ∙ put2-word _ O (w + 30) ptr O k (omega arith) (omega arith) ∙ put2-word _ O (w + 28) (pageBytes * n) O k (omega arith) (omega arith) ∙ put2-word v O (w + 26) n O k (omega arith) (omega arith)
 
   pub fin-26 : v′ O (w + 26) ≡ n / 65536
-  fin-26 = ofO (w + 26) ∙ put2-word _ O (w + 30) ptr O (w + 26) (omega arith) (omega arith) ∙ put2-word _ O (w + 28) (2048 * n) O (w + 26) (omega arith) (omega arith) ∙ put2-hi v O (w + 26) n
+  fin-26 = ofO (w + 26) ∙ put2-word _ O (w + 30) ptr O (w + 26) (omega arith) (omega arith) ∙ put2-word _ O (w + 28) (pageBytes * n) O (w + 26) (omega arith) (omega arith) ∙ put2-hi v O (w + 26) n
 
   pub fin-27 : v′ O (w + 27) ≡ n % 65536
-  fin-27 = ofO (w + 27) ∙ put2-word _ O (w + 30) ptr O (w + 27) (omega arith) (omega arith) ∙ put2-word _ O (w + 28) (2048 * n) O (w + 27) (omega arith) (omega arith)
+  fin-27 = ofO (w + 27) ∙ put2-word _ O (w + 30) ptr O (w + 27) (omega arith) (omega arith) ∙ put2-word _ O (w + 28) (pageBytes * n) O (w + 27) (omega arith) (omega arith)
       ∙ ap (put2 v O (w + 26) n O) (let s : w + 27 ≡ suc (w + 26) = omega arith in s) ∙ put2-lo v O (w + 26) n
 
-  pub fin-28 : v′ O (w + 28) ≡ 2048 * n / 65536
-  fin-28 = ofO (w + 28) ∙ put2-word _ O (w + 30) ptr O (w + 28) (omega arith) (omega arith) ∙ put2-hi _ O (w + 28) (2048 * n)
+  pub fin-28 : v′ O (w + 28) ≡ pageBytes * n / 65536
+  fin-28 = ofO (w + 28) ∙ put2-word _ O (w + 30) ptr O (w + 28) (omega arith) (omega arith) ∙ put2-hi _ O (w + 28) (pageBytes * n)
 
-  pub fin-29 : v′ O (w + 29) ≡ 2048 * n % 65536
+  pub fin-29 : v′ O (w + 29) ≡ pageBytes * n % 65536
   fin-29 = ofO (w + 29) ∙ put2-word _ O (w + 30) ptr O (w + 29) (omega arith) (omega arith)
-      ∙ ap (put2 (put2 v O (w + 26) n) O (w + 28) (2048 * n) O) (let s : w + 29 ≡ suc (w + 28) = omega arith in s) ∙ put2-lo _ O (w + 28) (2048 * n)
+      ∙ ap (put2 (put2 v O (w + 26) n) O (w + 28) (pageBytes * n) O) (let s : w + 29 ≡ suc (w + 28) = omega arith in s) ∙ put2-lo _ O (w + 28) (pageBytes * n)
 
   pub fin-30 : v′ O (w + 30) ≡ ptr / 65536
   fin-30 = ofO (w + 30) ∙ put2-hi _ O (w + 30) ptr
 
   pub fin-31 : v′ O (w + 31) ≡ ptr % 65536
-  fin-31 = ofO (w + 31) ∙ ap (put2 (put2 (put2 v O (w + 26) n) O (w + 28) (2048 * n)) O (w + 30) ptr O) (let s : w + 31 ≡ suc (w + 30) = omega arith in s) ∙ put2-lo _ O (w + 30) ptr
+  fin-31 = ofO (w + 31) ∙ ap (put2 (put2 (put2 v O (w + 26) n) O (w + 28) (pageBytes * n)) O (w + 30) ptr O) (let s : w + 31 ≡ suc (w + 30) = omega arith in s) ∙ put2-lo _ O (w + 30) ptr
 
   -- page U
   pub fin-U : (k : ℕ) → k ≢ z + 16 → k ≢ z + 17 → v′ U k ≡ v U k
   unfolding finish
-  fin-U k i j = put2-word _ U (z + 16) x U k i (λ q. j (omega arith)) ∙ put2-page _ O (w + 30) ptr U k apart ∙ put2-page _ O (w + 28) (2048 * n) U k apart ∙ put2-page v O (w + 26) n U k apart
+  fin-U k i j = put2-word _ U (z + 16) x U k i (λ q. j (omega arith)) ∙ put2-page _ O (w + 30) ptr U k apart ∙ put2-page _ O (w + 28) (pageBytes * n) U k apart ∙ put2-page v O (w + 26) n U k apart
 
   pub fin-16 : v′ U (z + 16) ≡ x / 65536
   unfolding finish
@@ -171,7 +171,7 @@ module _ (P : ℕ) (v : Vol) (hand : ℕ → ℕ) (G : Good P v hand) (pos : 0 <
     unfolding two
     new-pages = omega (arith, o-word 26, o-word 27, fin-26 v₂ UU OO a ee n (pointer kind t) x UO, fin-27 v₂ UU OO a ee n (pointer kind t) x UO)
 
-    pub new-bytes : two (object v₃ ee) 28 ≡ 2048 * n
+    pub new-bytes : two (object v₃ ee) 28 ≡ pageBytes * n
     unfolding two
     new-bytes = omega (arith, o-word 28, o-word 29, fin-28 v₂ UU OO a ee n (pointer kind t) x UO, fin-29 v₂ UU OO a ee n (pointer kind t) x UO)
 
@@ -291,9 +291,9 @@ module _ (P : ℕ) (v : Vol) (hand : ℕ → ℕ) (G : Good P v hand) (pos : 0 <
       pub weight : (g : ℕ → ℕ) → g 0 ≡ 0 → weighR v₃ (fileAt v₃ ee) g + gone g ≡ weighR v (fileAt v ee) g + new g
       weight g g0 = omega (arith, ap (λ (r : Root). weighR v₃ r g) new-root ∙ weighR-frame v₂ v₃ B agreeB (rootBy kind t n) quiet g, R .weight g g0)
 
-      high : flags (v 0) 1016 ≡ 1 → 63 < a → used (user v a) ≡ 0
+      high : flags (v 0) objectPointer ≡ 1 → 63 < a → used (user v a) ≡ 0
       unfolding Rule5 Rule5By
-      high q i = subst (λ (x : ℕ). Rule5By P v x (page (v 0) 1016)) q (G .most .r5) .1 a i ha
+      high q i = subst (λ (x : ℕ). Rule5By P v x (page (v 0) objectPointer)) q (G .most .r5) .1 a i ha
 
       pub master : (k : ℕ) → v₃ 0 k ≡ v 0 k
       master k = fin-page v₂ UU OO a ee n (pointer kind t) x UO 0 k (λ i. omega (arith, i, isO)) (λ i. omega (arith, i, isU)) ∙ K .master k
@@ -328,7 +328,7 @@ module _ (P : ℕ) (v : Vol) (hand : ℕ → ℕ) (G : Good P v hand) (pos : 0 <
         };
         owner = λ h i q. omega (arith, user-used, owner-used);
         high = λ q i. user-used ∙ high q i;
-        balance = omega (arith, two-ext (v₃ 0) (v 0) 1022 (master 1022) (master 1023), ap₂ (λ (x y : ℕ). pick x y 0) user-used given-kept);
+        balance = omega (arith, two-ext (v₃ 0) (v 0) unreservedCount (master unreservedCount) (master (suc unreservedCount)), ap₂ (λ (x y : ℕ). pick x y 0) user-used given-kept);
         count = λ h. omega (arith, R .count, new-spent, G .most .r10 .0 a ha owner-used, weight some some-zero, edit-mine P v hand G pos a f ha hf D v₃ change some);
       }
 

@@ -5,6 +5,7 @@ use mathlib.Core.List.{List}
 use Prim.Native.Nat.{ℕ, _/_, _<_}
 use native.Mathlib.Omega.{arith}
 use lib.ListN.{length}
+use Rattle.book.specs.Pointers.{volumeName}
 use Rattle.book.specs.Words.{Vol, vol}
 use Rattle.book.specs.Bits.{bitPages}
 use Rattle.book.specs.Names.{NameText}
@@ -57,7 +58,7 @@ module _ (img name : List ℕ) (b : ℕ) (r : Numbers ℕ) (img′ : List ℕ) (
       go (inl x) = subst (λ (i : List ℕ). Sound (pages i) (vol i)) (sym (x .image)) S
       go (inr x) = done-sound x
 
-  pub frame-format : OnlyAt (Either (WordsOf 0 1008 16) (RunOf b (bitPages (pages img)))) (vol img) (vol img′)
+  pub frame-format : OnlyAt (Either (WordsOf 0 volumeName 16) (RunOf b (bitPages (pages img)))) (vol img) (vol img′)
   unfolding Outcome formatCall Clear
   frame-format p k a = go o
     where

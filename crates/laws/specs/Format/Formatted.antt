@@ -9,7 +9,7 @@ use Rattle.book.specs.Bits.{bitFile, bit}
 use Rattle.book.specs.Entries.{entry, userFile, objectFile, user, object, used, grant, given, unreserved}
 use Rattle.book.specs.Files.{fileAt}
 use Rattle.book.specs.Holders.{hit, some, all, system, mine, holders, systemPages}
-use Rattle.book.specs.Pointers.{slot, page, Zero}
+use Rattle.book.specs.Pointers.{slot, page, Zero, objectPointer, unreservedCount, userPointer}
 use Rattle.book.specs.Rules.{Rule1, Rule2, Rule3, Rule4, Rule5, Rule5By, Rule6, Rule7, Rule8, Rule9, Rule10, Sound}
 use Rattle.book.specs.Trees.{Root, run, weighR, pageAt}
 use Rattle.book.specs.Words.{Vol, two, word}
@@ -51,14 +51,14 @@ module _ (v : Vol) (no : (e : ℕ) → used (object v e) ≡ 0) where
 
 -- ---- no user file and no object file
 
-module _ (v : Vol) (zu : Zero (v 0) 1018) (zo : Zero (v 0) 1016) where
-  users-none : userFile v ≡ run (page (v 0) 1018) 0
+module _ (v : Vol) (zu : Zero (v 0) userPointer) (zo : Zero (v 0) objectPointer) where
+  users-none : userFile v ≡ run (page (v 0) userPointer) 0
   unfolding userFile
-  users-none = root-0 (v 0) 1018 0 (zero-flags (v 0) 1018 zu)
+  users-none = root-0 (v 0) userPointer 0 (zero-flags (v 0) userPointer zu)
 
-  objs-none : objectFile v ≡ run (page (v 0) 1016) 0
+  objs-none : objectFile v ≡ run (page (v 0) objectPointer) 0
   unfolding objectFile
-  objs-none = root-0 (v 0) 1016 0 (zero-flags (v 0) 1016 zo)
+  objs-none = root-0 (v 0) objectPointer 0 (zero-flags (v 0) objectPointer zo)
 
   entry-none : (t n k : ℕ) → entry v (run t 0) n k ≡ 0
   unfolding entry pageAt
@@ -81,20 +81,20 @@ module _ (v : Vol) (zu : Zero (v 0) 1018) (zo : Zero (v 0) 1016) where
 
   pub rule3-none : (P : ℕ) → 0 < P → Rule3 P v
   unfolding Rule3
-  rule3-none P pos n i = let z : slot v (page (v 0) 1018) n ≡ 0 = ap (λ (x : ℕ). slot v x n) (zero-page (v 0) 1018 zu) ∙ slot-zero v n in (omega arith, λ j. z)
+  rule3-none P pos n i = let z : slot v (page (v 0) userPointer) n ≡ 0 = ap (λ (x : ℕ). slot v x n) (zero-page (v 0) userPointer zu) ∙ slot-zero v n in (omega arith, λ j. z)
 
   pub rule5-none : (P : ℕ) → Rule5 P v
   unfolding Rule5 Rule5By
-  rule5-none P = subst (λ (x : ℕ). Rule5By P v x (page (v 0) 1016)) (sym (zero-flags (v 0) 1016 zo)) tt
+  rule5-none P = subst (λ (x : ℕ). Rule5By P v x (page (v 0) objectPointer)) (sym (zero-flags (v 0) objectPointer zo)) tt
 
 -- ---- a formatted volume
 
 pub record Formatted (P : ℕ) (v : Vol) : Type 0 where
   pub first : Rule1 P v
-  pub noUsers : Zero (v 0) 1018
-  pub noObjs : Zero (v 0) 1016
+  pub noUsers : Zero (v 0) userPointer
+  pub noObjs : Zero (v 0) objectPointer
   pub bits : (p : ℕ) → p < P → bit P v p ≡ is p 0 + weighR v (bitFile P v) (hit p)
-  pub rest : two (v 0) 1022 + (1 + weighR v (bitFile P v) some) ≡ P
+  pub rest : two (v 0) unreservedCount + (1 + weighR v (bitFile P v) some) ≡ P
 
 pub format-sound : (P : ℕ) (v : Vol) → 0 < P → Formatted P v → Sound P v
 unfolding Rule2 Rule8 Rule9 Rule10 holders unreserved systemPages

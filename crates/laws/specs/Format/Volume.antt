@@ -8,7 +8,7 @@ use native.Mathlib.Decide.{ℕ-discrete, decLt}
 use native.Mathlib.Omega.{arith}
 use Rattle.sums.specs.Sum.{sum, is, is-same, is-other, sum-suc, sum-zero, sum-ext, sum-const}
 use Rattle.book.specs.Words.{Vol, two, put2, putWords, wipe}
-use Rattle.book.specs.Pointers.{flags, page, pointer, Zero, volumeName, objectPointer, userPointer, bitPointer}
+use Rattle.book.specs.Pointers.{flags, page, pointer, Zero, volumeName, objectPointer, userPointer, bitPointer, unreservedCount}
 use Rattle.book.specs.Trees.{weighR, run}
 use Rattle.book.specs.Bits.{digit, pageBits, bitPages, bitPageOf, bitWord, bitPlace, bitFile, bitPage, bit, mark}
 use Rattle.book.specs.Entries.{unreserved}
@@ -50,7 +50,7 @@ unfolding markRun
 markRun-more P v s m p k = refl
 
 -- the bit page of a page below P is one of the bit file's
-bits-few : (P d : ℕ) → d < P → d / 16384 < bitPages P
+bits-few : (P d : ℕ) → d < P → d / pageBits < bitPages P
 unfolding bitPages
 bits-few P d h = omega arith
 
@@ -108,56 +108,56 @@ module _ (P : ℕ) (v : Vol) (name : List ℕ) (b : ℕ) (T : NameText name) (A 
   abbrev w₀ : Vol
   w₀ = directory P v name b
 
-  dir-name : (k : ℕ) → 1008 ≤ k → k < 1016 → w₀ 0 k ≡ packed name (k - 1008)
+  dir-name : (k : ℕ) → volumeName ≤ k → k < objectPointer → w₀ 0 k ≡ packed name (k - volumeName)
   unfolding directory
   dir-name k h l =
-      put2-word _ 0 1022 (P - 1 - n) 0 k (omega arith) (omega arith) ∙ put2-word _ 0 1020 (pointer 0 b) 0 k (omega arith) (omega arith)
-      ∙ put2-word _ 0 1018 0 0 k (omega arith) (omega arith) ∙ put2-word _ 0 1016 0 0 k (omega arith) (omega arith)
-      ∙ putWords-here v 0 1008 8 (packed name) k h (omega arith)
+      put2-word _ 0 unreservedCount (P - 1 - n) 0 k (omega arith) (omega arith) ∙ put2-word _ 0 bitPointer (pointer 0 b) 0 k (omega arith) (omega arith)
+      ∙ put2-word _ 0 userPointer 0 0 k (omega arith) (omega arith) ∙ put2-word _ 0 objectPointer 0 0 k (omega arith) (omega arith)
+      ∙ putWords-here v 0 volumeName 8 (packed name) k h (omega arith)
 
-  dir-objects : (w₀ 0 1016 ≡ 0) × (w₀ 0 1017 ≡ 0)
+  dir-objects : (w₀ 0 objectPointer ≡ 0) × (w₀ 0 (suc objectPointer) ≡ 0)
   unfolding directory
-  dir-objects = (off 1016 (omega arith) ∙ put2-hi _ 0 1016 0, off 1017 (omega arith) ∙ put2-lo _ 0 1016 0)
+  dir-objects = (off objectPointer (omega arith) ∙ put2-hi _ 0 objectPointer 0, off (suc objectPointer) (omega arith) ∙ put2-lo _ 0 objectPointer 0)
     where
-      off : (k : ℕ) → k < 1018 → w₀ 0 k ≡ put2 (putWords v 0 1008 8 (packed name)) 0 1016 0 0 k
-      off k h = put2-word _ 0 1022 (P - 1 - n) 0 k (omega arith) (omega arith) ∙ put2-word _ 0 1020 (pointer 0 b) 0 k (omega arith) (omega arith)
-          ∙ put2-word _ 0 1018 0 0 k (omega arith) (omega arith)
+      off : (k : ℕ) → k < userPointer → w₀ 0 k ≡ put2 (putWords v 0 volumeName 8 (packed name)) 0 objectPointer 0 0 k
+      off k h = put2-word _ 0 unreservedCount (P - 1 - n) 0 k (omega arith) (omega arith) ∙ put2-word _ 0 bitPointer (pointer 0 b) 0 k (omega arith) (omega arith)
+          ∙ put2-word _ 0 userPointer 0 0 k (omega arith) (omega arith)
 
-  dir-users : (w₀ 0 1018 ≡ 0) × (w₀ 0 1019 ≡ 0)
+  dir-users : (w₀ 0 userPointer ≡ 0) × (w₀ 0 (suc userPointer) ≡ 0)
   unfolding directory
-  dir-users = (off 1018 (omega arith) ∙ put2-hi _ 0 1018 0, off 1019 (omega arith) ∙ put2-lo _ 0 1018 0)
+  dir-users = (off userPointer (omega arith) ∙ put2-hi _ 0 userPointer 0, off (suc userPointer) (omega arith) ∙ put2-lo _ 0 userPointer 0)
     where
-      off : (k : ℕ) → k < 1020 → w₀ 0 k ≡ put2 (put2 (putWords v 0 1008 8 (packed name)) 0 1016 0) 0 1018 0 0 k
-      off k h = put2-word _ 0 1022 (P - 1 - n) 0 k (omega arith) (omega arith) ∙ put2-word _ 0 1020 (pointer 0 b) 0 k (omega arith) (omega arith)
+      off : (k : ℕ) → k < bitPointer → w₀ 0 k ≡ put2 (put2 (putWords v 0 volumeName 8 (packed name)) 0 objectPointer 0) 0 userPointer 0 0 k
+      off k h = put2-word _ 0 unreservedCount (P - 1 - n) 0 k (omega arith) (omega arith) ∙ put2-word _ 0 bitPointer (pointer 0 b) 0 k (omega arith) (omega arith)
 
-  dir-bits : (w₀ 0 1020 ≡ b / 65536) × (w₀ 0 1021 ≡ b % 65536)
+  dir-bits : (w₀ 0 bitPointer ≡ b / 65536) × (w₀ 0 (suc bitPointer) ≡ b % 65536)
   unfolding directory pointer
   dir-bits = (
-    put2-word _ 0 1022 (P - 1 - n) 0 1020 (omega arith) (omega arith) ∙ put2-hi _ 0 1020 (pointer 0 b) ∙ omega arith,
-    put2-word _ 0 1022 (P - 1 - n) 0 1021 (omega arith) (omega arith) ∙ put2-lo _ 0 1020 (pointer 0 b) ∙ omega arith,
+    put2-word _ 0 unreservedCount (P - 1 - n) 0 bitPointer (omega arith) (omega arith) ∙ put2-hi _ 0 bitPointer (pointer 0 b) ∙ omega arith,
+    put2-word _ 0 unreservedCount (P - 1 - n) 0 (suc bitPointer) (omega arith) (omega arith) ∙ put2-lo _ 0 bitPointer (pointer 0 b) ∙ omega arith,
   )
 
-  dir-bit : two (w₀ 0) 1020 ≡ b
+  dir-bit : two (w₀ 0) bitPointer ≡ b
   unfolding two
   dir-bit = omega (arith, dir-bits .0, dir-bits .1)
 
-  dir-rest : two (w₀ 0) 1022 ≡ P - 1 - n
+  dir-rest : two (w₀ 0) unreservedCount ≡ P - 1 - n
   unfolding directory
-  dir-rest = put2-two _ 0 1022 (P - 1 - n)
+  dir-rest = put2-two _ 0 unreservedCount (P - 1 - n)
 
   module _ (small : P < 1073741824) where
     -- what the master page alone decides
     module _ (w : Vol) (same : (k : ℕ) → w 0 k ≡ w₀ 0 k) where
-      bits-page : page (w 0) 1020 ≡ b
+      bits-page : page (w 0) bitPointer ≡ b
       unfolding page
-      bits-page = omega (arith, same 1020, same 1021, dir-bits .0, dir-bits .1, A .1)
+      bits-page = omega (arith, same bitPointer, same (suc bitPointer), dir-bits .0, dir-bits .1, A .1)
 
       rule-1 : Rule1 P w
       unfolding flags
       rule-1 = record {
-        name = packed-legal 1 16 name T (w 0) 1008 (λ i h. same (1008 + i / 2) ∙ dir-name (1008 + i / 2) (omega arith) (omega arith)
-            ∙ ap (packed name) (let e : 1008 + i / 2 - 1008 ≡ i / 2 = omega arith in e));
-        unflagged = omega (arith, same 1020, dir-bits .0, A .1);
+        name = packed-legal 1 16 name T (w 0) volumeName (λ i h. same (volumeName + i / 2) ∙ dir-name (volumeName + i / 2) (omega arith) (omega arith)
+            ∙ ap (packed name) (let e : volumeName + i / 2 - volumeName ≡ i / 2 = omega arith in e));
+        unflagged = omega (arith, same bitPointer, dir-bits .0, A .1);
         start = omega (arith, bits-page, A .0);
         fits = omega (arith, bits-page, A .1);
       }
@@ -173,9 +173,9 @@ module _ (P : ℕ) (v : Vol) (name : List ℕ) (b : ℕ) (T : NameText name) (A 
     unfolding bit bitPages
     bits₁ p h =
         let r : Rule1 P w₁ = rule-1 w₁ same₁ in
-        ap (digit (p % 16)) (word-pos w₁ (bitPage P w₁ p) (p % 16384 / 16) (bitPage-pos P w₁ r p h)
-        ∙ ap (λ (q : ℕ). w₁ q (p % 16384 / 16)) (bitPage-is P w₁ r p h ∙ ap (λ (x : ℕ). x + p / 16384) (bits-page w₁ same₁))
-        ∙ wipeRun-in w₀ b n (p / 16384) (p % 16384 / 16) (omega arith)) ∙ digit-none (p % 16)
+        ap (digit (p % 16)) (word-pos w₁ (bitPage P w₁ p) (bitWord p) (bitPage-pos P w₁ r p h)
+        ∙ ap (λ (q : ℕ). w₁ q (bitWord p)) (bitPage-is P w₁ r p h ∙ ap (λ (x : ℕ). x + p / pageBits) (bits-page w₁ same₁))
+        ∙ wipeRun-in w₀ b n (p / pageBits) (bitWord p) (omega arith)) ∙ digit-none (p % 16)
 
     -- the master page is reserved
     abbrev w₂ : Vol
@@ -214,12 +214,12 @@ module _ (P : ℕ) (v : Vol) (name : List ℕ) (b : ℕ) (T : NameText name) (A 
       unfolding format weighR bitFile Zero
       formatted = record {
         first = rule-1 w same;
-        noUsers = (same 1018 ∙ dir-users .0, same 1019 ∙ dir-users .1);
-        noObjs = (same 1016 ∙ dir-objects .0, same 1017 ∙ dir-objects .1);
+        noUsers = (same userPointer ∙ dir-users .0, same (suc userPointer) ∙ dir-users .1);
+        noObjs = (same objectPointer ∙ dir-objects .0, same (suc objectPointer) ∙ dir-objects .1);
         bits = λ p h. bits₃ n (omega arith) p h ∙ ap (λ (x : ℕ). is p 0 + sum n (λ i. hit p (x + i))) (sym (bits-page w same));
         rest = omega (
           arith,
-          two-ext (w 0) (w₀ 0) 1022 (same 1022) (same 1023),
+          two-ext (w 0) (w₀ 0) unreservedCount (same unreservedCount) (same (suc unreservedCount)),
           dir-rest,
           A .0,
           A .1,
@@ -273,7 +273,7 @@ module _ (P : ℕ) (v : Vol) (name : List ℕ) (b : ℕ) (T : NameText name) (A 
       -- ---- every other word stays
 
       -- the words written: the directory entry and the bit file
-      pub format-only : OnlyAt (Either (WordsOf 0 1008 16) (RunOf b n)) v (format P v name b)
+      pub format-only : OnlyAt (Either (WordsOf 0 volumeName 16) (RunOf b n)) v (format P v name b)
       unfolding format directory
       format-only p k a = run n (omega arith) ∙ marked 0 pos w₁ same₁ ∙ wiped ∙ master
         where
@@ -287,11 +287,11 @@ module _ (P : ℕ) (v : Vol) (name : List ℕ) (b : ℕ) (T : NameText name) (A 
           ]
 
           master : w₀ p k ≡ v p k
-          master = only-wider _ (WordsOf 0 1008 16) v w₀ (λ q j h. wide q j h)
-              (only-then _ _ v _ _ (only-then _ _ v _ _ (only-then _ _ v _ _ (only-then _ _ v _ _ (only-putWords v 0 1008 8 (packed name)) (only-put2 _ 0 1016 0)) (only-put2 _ 0 1018 0)) (only-put2 _ 0 1020 (pointer 0 b))) (only-put2 _ 0 1022 (P - 1 - n)))
+          master = only-wider _ (WordsOf 0 volumeName 16) v w₀ (λ q j h. wide q j h)
+              (only-then _ _ v _ _ (only-then _ _ v _ _ (only-then _ _ v _ _ (only-then _ _ v _ _ (only-putWords v 0 volumeName 8 (packed name)) (only-put2 _ 0 objectPointer 0)) (only-put2 _ 0 userPointer 0)) (only-put2 _ 0 bitPointer (pointer 0 b))) (only-put2 _ 0 unreservedCount (P - 1 - n)))
               p k (λ h. a (inl h))
             where
-              wide : (q j : ℕ) → Either (Either (Either (Either (WordsOf 0 1008 8) (WordsOf 0 1016 2)) (WordsOf 0 1018 2)) (WordsOf 0 1020 2)) (WordsOf 0 1022 2) q j → WordsOf 0 1008 16 q j
+              wide : (q j : ℕ) → Either (Either (Either (Either (WordsOf 0 volumeName 8) (WordsOf 0 objectPointer 2)) (WordsOf 0 userPointer 2)) (WordsOf 0 bitPointer 2)) (WordsOf 0 unreservedCount 2) q j → WordsOf 0 volumeName 16 q j
               wide q j (inl (inl (inl (inl h)))) = (h .0, omega (arith, h .1), omega (arith, h .2))
               wide q j (inl (inl (inl (inr h)))) = (h .0, omega (arith, h .1), omega (arith, h .2))
               wide q j (inl (inl (inr h))) = (h .0, omega (arith, h .1), omega (arith, h .2))
@@ -305,7 +305,7 @@ module _ (P : ℕ) (v : Vol) (name : List ℕ) (b : ℕ) (T : NameText name) (A 
           inside : (d : ℕ) → d < P → (w : Vol) → ((k : ℕ) → w 0 k ≡ w₀ 0 k) → p ≢ bitPage P w d
           inside d h w same e = out off (omega (arith, e, bitPage-is P w (rule-1 w same) d h, bits-page w same)) (omega (arith, e, bitPage-is P w (rule-1 w same) d h, bits-page w same, few d h))
             where
-              few : (d : ℕ) → d < P → d / 16384 < n
+              few : (d : ℕ) → d < P → d / pageBits < n
               few d h = bits-few P d h
 
               out : (p < b) ⊎ (b + n ≤ p) → b ≤ p → p < b + n → ⊥

@@ -1,21 +1,22 @@
 -- One file of one user changes, with his entry: all else stays. Assumes nothing.
 use mathlib.Core.Path.{_≡_, sym, ap, _∙_, subst}
-use mathlib.Core.Logic.{_≢_, _⊎_, inl, inr}
+use mathlib.Core.Logic.{_≢_, inl, inr}
 use Prim.Native.Nat.{ℕ, _+_, _-_, _*_, _/_, _%_, _≤_, _<_}
 use native.Mathlib.Nat.{le-trans, eq-zero-or-pos}
-use native.Mathlib.Decide.{ℕ-discrete, decLt}
+use native.Mathlib.Decide.{ℕ-discrete}
 use native.Mathlib.Omega.{arith}
 use Rattle.sums.specs.Sum.{sum, sum-at, sum-at₂, sum-none, sum-change}
-use Rattle.book.specs.Bits.{bitFile, bitPage, bit, digit}
+use Rattle.book.specs.Bits.{bitFile, bitPage, bit, digit, bitWord, pageBits}
 use Rattle.book.specs.Entries.{entry, userFile, objectFile, user, object, used, usedPages, grant, unreserved}
 use Rattle.book.specs.Files.{fileAt}
 use Rattle.book.specs.Holders.{hit, some, all, system, mine, systemPages}
-use Rattle.book.specs.Pointers.{flags}
+use Rattle.book.specs.Pointers.{flags, objectPointer, unreservedCount}
 use Rattle.book.specs.Rules.{Rule10}
 use Rattle.book.specs.Trees.{Root, weighR, blocksR, pageAt}
 use Rattle.book.specs.Words.{Vol, two, word}
 use Rattle.laws.specs.Count.Good.{Good, bit-le, sound-within}
 use Rattle.laws.specs.Count.Reach.{Within}
+use Rattle.laws.specs.Frame.Fields.{Outside, outside}
 use Rattle.laws.specs.Frame.Renewed.{Master, Entries, UserNew, FileNew, rule1, rule2, rule3, rule4, rule5, rule6, rule7, used-same, spent-same, grant-same}
 use Rattle.laws.specs.Frame.Rest.{rest, all-rest, file-le}
 use Rattle.laws.specs.Frame.Roots.{weighR-add, blocksR-add, pageAt-le, pageAt-le₂, pageAt-below, pageAt-frame, weighR-frame, Roots, bits-root, users-root, objs-root, blocksR-le, file-kept, mine-other, mine-change, all-change, weighR-nobody}
@@ -91,14 +92,6 @@ module _ (P : ℕ) (v : Vol) (hand : ℕ → ℕ) (G : Good P v hand) (pos : 0 <
 
 -- ---- one entry of an entry file changes: the others stay
 
--- outside the 32 words of entry n of its page
-unfoldable pub Outside : ℕ → ℕ → Type 0
-Outside n k = (k < 32 * (n % 32)) ⊎ (32 * (n % 32) + 32 ≤ k)
-
-outside : (n m k : ℕ) → n % 32 ≢ m % 32 → k < 32 → Outside m (32 * (n % 32) + k)
-unfolding Outside
-outside n m k ne h = elim (decLt (n % 32) (m % 32)) [ yes l ↦ inl (omega arith) | no l ↦ inr (omega arith) ]
-
 module _ (v v′ : Vol) (C : ℕ → ℕ) (A : Agree C v v′) (r : Root) (bz : blocksR v r C ≡ 0) (m : ℕ)
     (uniq : (i : ℕ) → 0 < pageAt v r (m / 32) → pageAt v r (m / 32) ≡ pageAt v r i → m / 32 ≡ i)
     (far : (i : ℕ) → pageAt v r i ≢ pageAt v r (m / 32) → C (pageAt v r i) ≡ 0)
@@ -132,7 +125,7 @@ module _ (P : ℕ) (v : Vol) (hand : ℕ → ℕ) (G : Good P v hand) (pos : 0 <
     pub none : D 0 ≡ 0
     pub only : all P v D ≡ weighR v (fileAt v (256 * a + f)) D
     pub agree : Agree (λ x. D x + (hit O x + hit U x)) v v′
-    pub master : (k : ℕ) → k < 1022 → v′ 0 k ≡ v 0 k
+    pub master : (k : ℕ) → k < unreservedCount → v′ 0 k ≡ v 0 k
     pub onO : (k : ℕ) → Outside (256 * a + f) k → word v′ O k ≡ word v O k
     pub onU : (k : ℕ) → Outside a k → word v′ U k ≡ word v U k
 
@@ -256,9 +249,9 @@ module _ (P : ℕ) (v : Vol) (hand : ℕ → ℕ) (G : Good P v hand) (pos : 0 <
     pub bits-same : (p : ℕ) → p < P → bit P v′ p ≡ bit P v p
     unfolding bit bitPage Agree
     bits-same p h =
-        ap (λ (r : Root). digit (p % 16) (word v′ (pageAt v′ r (p / 16384)) (p % 16384 / 16))) (bits-root v v′ roots P)
-        ∙ ap (λ (x : ℕ). digit (p % 16) (word v′ x (p % 16384 / 16))) (pageAt-frame v v′ C (E .agree) (bitFile P v) (omega (arith, c-bits, blocksR-le v (bitFile P v) C)) (p / 16384))
-        ∙ ap (digit (p % 16)) (E .agree (pageAt v (bitFile P v) (p / 16384)) (omega (arith, c-bits, pageAt-le v C c0 (bitFile P v) (p / 16384))) (p % 16384 / 16))
+        ap (λ (r : Root). digit (p % 16) (word v′ (pageAt v′ r (p / pageBits)) (bitWord p))) (bits-root v v′ roots P)
+        ∙ ap (λ (x : ℕ). digit (p % 16) (word v′ x (bitWord p))) (pageAt-frame v v′ C (E .agree) (bitFile P v) (omega (arith, c-bits, blocksR-le v (bitFile P v) C)) (p / pageBits))
+        ∙ ap (digit (p % 16)) (E .agree (pageAt v (bitFile P v) (p / pageBits)) (omega (arith, c-bits, pageAt-le v C c0 (bitFile P v) (p / pageBits))) (bitWord p))
 
     -- the trees' weights
     pub zeroB : (r : Root) → weighR v r C ≡ 0 → blocksR v r C ≡ 0
@@ -306,8 +299,8 @@ module _ (P : ℕ) (v : Vol) (hand : ℕ → ℕ) (G : Good P v hand) (pos : 0 <
       pub userNew : UserNew v′ a
       pub fileNew : FileNew P v′ a f
       pub owner : (h : ℕ) → h < 256 → 0 < used (object v′ (256 * a + h)) → 0 < used (user v′ a)
-      pub high : flags (v 0) 1016 ≡ 1 → 63 < a → used (user v′ a) ≡ 0
-      pub balance : two (v′ 0) 1022 + grant (user v′) a ≡ two (v 0) 1022 + grant (user v) a
+      pub high : flags (v 0) objectPointer ≡ 1 → 63 < a → used (user v′ a) ≡ 0
+      pub balance : two (v′ 0) unreservedCount + grant (user v′) a ≡ two (v 0) unreservedCount + grant (user v) a
       pub count : 0 < used (user v′ a) → usedPages (user v′) a ≡ mine v′ a some
 
     module _ (gone new : (ℕ → ℕ) → ℕ) (hand′ : ℕ → ℕ) (F : Fine gone new hand′) where
@@ -333,7 +326,7 @@ module _ (P : ℕ) (v : Vol) (hand : ℕ → ℕ) (G : Good P v hand) (pos : 0 <
             )
           ]
 
-      five : flags (v 0) 1016 ≡ 1 → (u : ℕ) → 63 < u → u < 256 → used (user v u) ≡ 0 → used (user v′ u) ≡ 0
+      five : flags (v 0) objectPointer ≡ 1 → (u : ℕ) → 63 < u → u < 256 → used (user v u) ≡ 0 → used (user v′ u) ≡ 0
       five k u i j z = elim (ℕ-discrete u a) [
         | yes q ↦ subst (λ (x : ℕ). used (user v′ x) ≡ 0) (sym q) (F .high k (omega arith))
         | no n ↦ used-same P v v′ a f ha hf entries u j n ∙ z

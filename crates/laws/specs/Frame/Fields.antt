@@ -1,7 +1,7 @@
 -- An entry is written into its page, and fields into the words just written: what is read there afterwards. Assumes nothing.
 use mathlib.Core.Path.{_≡_, sym, ap, _∙_, fun-ext, subst}
-use mathlib.Core.Logic.{_≢_, inl, inr}
-use Prim.Native.Nat.{ℕ, suc, _+_, _-_, _/_, _%_, _≤_, _<_}
+use mathlib.Core.Logic.{_≢_, inl, inr, _⊎_}
+use Prim.Native.Nat.{ℕ, suc, _+_, _-_, _/_, _%_, _≤_, _<_, _*_}
 use native.Mathlib.Nat.{add-suc}
 use native.Mathlib.Decide.{ℕ-discrete, decLt}
 use native.Mathlib.Omega.{arith}
@@ -9,8 +9,15 @@ use Rattle.book.specs.Entries.{entryWord, putEntry}
 use Rattle.book.specs.Holders.{hit}
 use Rattle.book.specs.Words.{Words, Vol, put, put2, putWords, setWord, setTwo, setWords, word}
 use Rattle.book.specs.Written.{put-here, put-page, put-word, putWords-here, putWords-page, putWords-low, putWords-high, setWord-here, setWord-other, setWords-in, setWords-low, setWords-high, word-pos, word-ext}
-use Rattle.laws.specs.Frame.Fields.{Outside}
 use Rattle.laws.specs.Tree.Slot.{Agree, hit-same}
+
+-- outside the 32 words of entry n of its page
+unfoldable pub Outside : ℕ → ℕ → Type 0
+Outside n k = (k < 32 * (n % 32)) ⊎ (32 * (n % 32) + 32 ≤ k)
+
+pub outside : (n m k : ℕ) → n % 32 ≢ m % 32 → k < 32 → Outside m (32 * (n % 32) + k)
+unfolding Outside
+outside n m k ne h = elim (decLt (n % 32) (m % 32)) [ yes l ↦ inl (omega arith) | no l ↦ inr (omega arith) ]
 
 -- a volume that is v but for n words of page q from k on, which are those of w
 pub row-is : (v x : Vol) (q k n : ℕ) (w : Words) → ((p i : ℕ) → p ≢ q → x p i ≡ v p i) → ((i : ℕ) → i < k → x q i ≡ v q i) → ((i : ℕ) → k + n ≤ i → x q i ≡ v q i)

@@ -1,10 +1,12 @@
 -- Places: the words of a volume that a step may change, and that it leaves all others. Assumes nothing.
-use mathlib.Core.Path.{_≡_, _∙_}
+use mathlib.Core.Path.{_≡_, _∙_, sym, subst}
 use mathlib.Core.Logic.{_⊎_, inl, inr}
-use Prim.Native.Nat.{ℕ, _+_, _≤_, _<_}
+use Prim.Native.Nat.{ℕ, _+_, _≤_, _<_, _*_}
 use native.Mathlib.Decide.{ℕ-discrete, decLt}
 use native.Mathlib.Omega.{arith}
+use Rattle.book.specs.Bits.{bitPage, bitWord, mark, claim}
 use Rattle.book.specs.Entries.{entryWord}
+use Rattle.book.specs.Pointers.{unreservedCount, setSlot}
 use Rattle.book.specs.Words.{Words, Vol, put, put2, putWords, wipe}
 use Rattle.book.specs.Written.{put-page, put-word, put2-page, put2-word, putWords-page, putWords-low, putWords-high, wipe-page}
 
@@ -33,7 +35,7 @@ FieldOf q n j m = WordsOf q (entryWord n + j) m
 
 -- the unreserved pages' two words of page 0
 abbrev pub UnreservedWords : Places
-UnreservedWords = WordsOf 0 1022 2
+UnreservedWords = WordsOf 0 unreservedCount 2
 
 abbrev pub Either : Places → Places → Places
 Either A B p k = A p k ⊎ B p k
@@ -91,3 +93,15 @@ module _ (v : Vol) (q : ℕ) where
 
 pub only-trans : (A : Places) (u v w : Vol) → OnlyAt A u v → OnlyAt A v w → OnlyAt A u w
 only-trans A u v w a b p k h = b p k h ∙ a p k h
+
+pub only-slot : (A : Places) (v : Vol) (b k d : ℕ) → ((p j : ℕ) → WordsOf b (2 * k) 2 p j → A p j) → OnlyAt A v (setSlot v b k d)
+unfolding setSlot
+only-slot A v b k d w = only-wider (WordsOf b (2 * k) 2) A v _ w (only-put2 v b (2 * k) d)
+
+pub only-mark : (A : Places) (P : ℕ) (v : Vol) (d x : ℕ) → ((p j : ℕ) → WordsOf (bitPage P v d) (bitWord d) 1 p j → A p j) → OnlyAt A v (mark P v d x)
+unfolding mark
+only-mark A P v d x w = only-wider (WordsOf (bitPage P v d) (bitWord d) 1) A v _ w (only-put v (bitPage P v d) (bitWord d) _)
+
+pub only-claim : (A : Places) (P : ℕ) (v : Vol) (d : ℕ) → ((p j : ℕ) → WordsOf (bitPage P v d) (bitWord d) 1 p j → A p j) → ((j : ℕ) → A d j) → OnlyAt A v (claim P v d)
+unfolding claim
+only-claim A P v d w c = only-trans A v (mark P v d 1) _ (only-mark A P v d 1 w) (only-wider (PageOf d) A _ _ (λ p j e. subst (λ (q : ℕ). A q j) (sym e) (c j)) (only-wipe (mark P v d 1) d))

@@ -1,14 +1,15 @@
 -- A quiet change: pages that are no tree's block and hold no bit; the users stay, and of the objects all but word 19. Assumes nothing.
 use mathlib.Core.Path.{_≡_, refl, sym, ap, _∙_, subst}
 use mathlib.Core.Logic.{_≢_}
-use Prim.Native.Nat.{ℕ, _+_, _/_, _%_, _≤_, _<_}
+use Prim.Native.Nat.{ℕ, suc, _+_, _/_, _%_, _≤_, _<_}
 use native.Mathlib.Omega.{arith}
 use Rattle.sums.specs.Sum.{sum, sum-ext}
-use Rattle.book.specs.Bits.{bitFile, bitPage, bit, digit}
+use Rattle.book.specs.Bits.{bitFile, bitPage, bit, digit, bitWord, pageBits}
 use Rattle.book.specs.Entries.{Table, userFile, objectFile, user, object, used, usedPages, grant, fileEntry, unreserved}
 use Rattle.book.specs.Files.{fileAt}
 use Rattle.book.specs.Holders.{hit, some, mine, system, all, systemPages}
 use Rattle.book.specs.Names.{SameFile}
+use Rattle.book.specs.Pointers.{unreservedCount}
 use Rattle.book.specs.Rules.{FileOk, Rule4, Rule6, Rule7, Rule10, Sound}
 use Rattle.book.specs.Trees.{Root, weighR, blocksR, pageAt}
 use Rattle.book.specs.Words.{Vol, word}
@@ -74,10 +75,10 @@ module _ (P : ℕ) (v v′ : Vol) (C : ℕ → ℕ) (q : Quiet P v C) (s : Stays
   bit-same : (p : ℕ) → bit P v′ p ≡ bit P v p
   unfolding bit bitPage Agree
   bit-same p =
-      let t : ℕ = pageAt v (bitFile P v) (p / 16384) in
-      ap (λ (r : Root). digit (p % 16) (word v′ (pageAt v′ r (p / 16384)) (p % 16384 / 16))) (bits-root v v′ roots P)
-      ∙ ap (λ (x : ℕ). digit (p % 16) (word v′ x (p % 16384 / 16))) (pageAt-frame v v′ C (s .pages) (bitFile P v) no-bits (p / 16384))
-      ∙ ap (digit (p % 16)) (s .pages t (omega (arith, q .bits, pageAt-le v C (q .none) (bitFile P v) (p / 16384))) (p % 16384 / 16))
+      let t : ℕ = pageAt v (bitFile P v) (p / pageBits) in
+      ap (λ (r : Root). digit (p % 16) (word v′ (pageAt v′ r (p / pageBits)) (bitWord p))) (bits-root v v′ roots P)
+      ∙ ap (λ (x : ℕ). digit (p % 16) (word v′ x (bitWord p))) (pageAt-frame v v′ C (s .pages) (bitFile P v) no-bits (p / pageBits))
+      ∙ ap (digit (p % 16)) (s .pages t (omega (arith, q .bits, pageAt-le v C (q .none) (bitFile P v) (p / pageBits))) (bitWord p))
 
   used-object : (e : ℕ) → used (object v′ e) ≡ used (object v e)
   used-object e = used-ext (object v′ e) (object v e) (s .objects e 0 (omega arith) (omega arith))
@@ -113,7 +114,7 @@ module _ (P : ℕ) (v v′ : Vol) (C : ℕ → ℕ) (q : Quiet P v C) (s : Stays
   unfolding Rule10 unreserved systemPages
   ten r = (
     (λ u h i. ap (λ (U : Table). usedPages U u) (s .users) ∙ r .0 u h (omega (arith, used-user u)) ∙ sym (mine-same some u h)),
-    omega (arith, r .1, two-ext (v′ 0) (v 0) 1022 (s .master 1022) (s .master 1023), ap (λ (U : Table). sum 256 (grant U)) (s .users), system-same some),
+    omega (arith, r .1, two-ext (v′ 0) (v 0) unreservedCount (s .master unreservedCount) (s .master (suc unreservedCount)), ap (λ (U : Table). sum 256 (grant U)) (s .users), system-same some),
   )
 
   pub quiet-sound : Sound P v → Sound P v′

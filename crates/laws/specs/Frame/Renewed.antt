@@ -9,7 +9,7 @@ use Rattle.sums.specs.Search.{pick}
 use Rattle.book.specs.Entries.{userFile, objectFile, user, object, used, given, usedPages, grant}
 use Rattle.book.specs.Files.{fileAt, Shape, FileShape}
 use Rattle.book.specs.Names.{SameName, SameFile}
-use Rattle.book.specs.Pointers.{slot, flags, page, Zero, Inside}
+use Rattle.book.specs.Pointers.{slot, flags, page, Zero, Inside, bitPointer, objectPointer, unreservedCount, userPointer, volumeName}
 use Rattle.book.specs.Rules.{UserOk, FileOk, Rule1, Rule2, Rule3, Rule4, Rule5, Rule5By, Rule6, Rule7}
 use Rattle.book.specs.Trees.{run, blocks, blocksR, rootAt, rootBy, Root}
 use Rattle.book.specs.Words.{Vol, two}
@@ -21,10 +21,10 @@ use Rattle.laws.specs.Tree.Weigh.{Below-frame, Fill-frame}
 
 -- the page of the user index, and of the object file's top, is one of its tree's blocks
 module _ (P : ℕ) (v : Vol) (C : ℕ → ℕ) (c0 : C 0 ≡ 0) where
-  pub users-top : Rule2 P v → C (page (v 0) 1018) ≤ blocksR v (userFile v) C
+  pub users-top : Rule2 P v → C (page (v 0) userPointer) ≤ blocksR v (userFile v) C
   unfolding Rule2 Inside userFile blocksR blocks
-  users-top (inl z) = omega (arith, c0, ap C (zero-page (v 0) 1018 (z .0)))
-  users-top (inr i) = subst (λ (r : Root). C (page (v 0) 1018) ≤ blocksR v r C) (sym (root-1 (v 0) 1018 0 (i .0 .0))) (omega arith)
+  users-top (inl z) = omega (arith, c0, ap C (zero-page (v 0) userPointer (z .0)))
+  users-top (inr i) = subst (λ (r : Root). C (page (v 0) userPointer) ≤ blocksR v r C) (sym (root-1 (v 0) userPointer 0 (i .0 .0))) (omega arith)
 
 module _ (v v′ : Vol) (C : ℕ → ℕ) (A : Agree C v v′) where
   pub Shape-frame : (P x t n : ℕ) → blocksR v (rootBy x t n) C ≡ 0 → Shape P v x t n → Shape P v′ x t n
@@ -38,17 +38,17 @@ module _ (v v′ : Vol) (C : ℕ → ℕ) (A : Agree C v v′) where
 
 -- the directory entry's name and pointers stay
 unfoldable pub Master : Vol → Vol → Type 0
-Master v v′ = (k : ℕ) → 1008 ≤ k → k < 1022 → v′ 0 k ≡ v 0 k
+Master v v′ = (k : ℕ) → volumeName ≤ k → k < unreservedCount → v′ 0 k ≡ v 0 k
 
 module _ (P : ℕ) (v v′ : Vol) (M : Master v v′) where
-  at : (k : ℕ) → 1008 ≤ k → k < 1022 → v′ 0 k ≡ v 0 k
+  at : (k : ℕ) → volumeName ≤ k → k < unreservedCount → v′ 0 k ≡ v 0 k
   unfolding Master
   at = M
 
-  pub flags-at : (k : ℕ) → 1008 ≤ k → k < 1022 → flags (v′ 0) k ≡ flags (v 0) k
+  pub flags-at : (k : ℕ) → volumeName ≤ k → k < unreservedCount → flags (v′ 0) k ≡ flags (v 0) k
   flags-at k a b = flags-ext (v′ 0) (v 0) k (at k a b)
 
-  pub page-at : (k : ℕ) → 1008 ≤ k → k < 1021 → page (v′ 0) k ≡ page (v 0) k
+  pub page-at : (k : ℕ) → volumeName ≤ k → k < (suc bitPointer) → page (v′ 0) k ≡ page (v 0) k
   page-at k a b = page-ext (v′ 0) (v 0) k (at k a (omega arith)) (at (suc k) (omega arith) (omega arith))
 
   pub master-roots : Roots v v′
@@ -57,28 +57,28 @@ module _ (P : ℕ) (v v′ : Vol) (M : Master v v′) where
 
   pub rule1 : Rule1 P v → Rule1 P v′
   rule1 r = record {
-    name = Legal-ext (v′ 0) (v 0) 1008 1 16 (λ i h. at (1008 + i / 2) (omega arith) (omega arith)) (r .name);
-    unflagged = flags-at 1020 (omega arith) (omega arith) ∙ r .unflagged;
-    start = omega (arith, r .start, page-at 1020 (omega arith) (omega arith));
-    fits = omega (arith, r .fits, page-at 1020 (omega arith) (omega arith));
+    name = Legal-ext (v′ 0) (v 0) volumeName 1 16 (λ i h. at (volumeName + i / 2) (omega arith) (omega arith)) (r .name);
+    unflagged = flags-at bitPointer (omega arith) (omega arith) ∙ r .unflagged;
+    start = omega (arith, r .start, page-at bitPointer (omega arith) (omega arith));
+    fits = omega (arith, r .fits, page-at bitPointer (omega arith) (omega arith));
   }
 
-  zero-at : (k : ℕ) → 1008 ≤ k → k < 1021 → Zero (v 0) k → Zero (v′ 0) k
+  zero-at : (k : ℕ) → volumeName ≤ k → k < (suc bitPointer) → Zero (v 0) k → Zero (v′ 0) k
   unfolding Zero
   zero-at k a b z = (at k a (omega arith) ∙ z .0, at (suc k) (omega arith) (omega arith) ∙ z .1)
 
-  inside-at : (k x : ℕ) → 1008 ≤ k → k < 1021 → Inside P (v 0) k x → Inside P (v′ 0) k x
+  inside-at : (k x : ℕ) → volumeName ≤ k → k < (suc bitPointer) → Inside P (v 0) k x → Inside P (v′ 0) k x
   unfolding Inside
   inside-at k x a b i = (flags-at k a (omega arith) ∙ i .0, omega (arith, i .1, page-at k a b), omega (arith, i .2, page-at k a b))
 
   pub rule2 : Rule2 P v → Rule2 P v′
   unfolding Rule2
-  rule2 (inl z) = inl (zero-at 1018 (omega arith) (omega arith) (z .0), zero-at 1016 (omega arith) (omega arith) (z .1))
-  rule2 (inr i) = inr (inside-at 1018 1 (omega arith) (omega arith) (i .0), go (i .1))
+  rule2 (inl z) = inl (zero-at userPointer (omega arith) (omega arith) (z .0), zero-at objectPointer (omega arith) (omega arith) (z .1))
+  rule2 (inr i) = inr (inside-at userPointer 1 (omega arith) (omega arith) (i .0), go (i .1))
     where
-      go : (Inside P (v 0) 1016 1 ⊎ Inside P (v 0) 1016 2) → (Inside P (v′ 0) 1016 1 ⊎ Inside P (v′ 0) 1016 2)
-      go (inl a) = inl (inside-at 1016 1 (omega arith) (omega arith) a)
-      go (inr a) = inr (inside-at 1016 2 (omega arith) (omega arith) a)
+      go : (Inside P (v 0) objectPointer 1 ⊎ Inside P (v 0) objectPointer 2) → (Inside P (v′ 0) objectPointer 1 ⊎ Inside P (v′ 0) objectPointer 2)
+      go (inl a) = inl (inside-at objectPointer 1 (omega arith) (omega arith) a)
+      go (inr a) = inr (inside-at objectPointer 2 (omega arith) (omega arith) a)
 
 -- ---- the user and object trees stay
 
@@ -86,19 +86,19 @@ module _ (P : ℕ) (v v′ : Vol) (M : Master v v′) (C : ℕ → ℕ) (c0 : C 
   pub rule3 : Rule2 P v → blocksR v (userFile v) C ≡ 0 → Rule3 P v → Rule3 P v′
   unfolding Rule3 Agree
   rule3 r2 h r n i =
-      let t : ℕ = page (v 0) 1018 in
-      let e : slot v′ (page (v′ 0) 1018) n ≡ slot v t n =
-      ap (λ (x : ℕ). slot v′ x n) (page-at P v v′ M 1018 (omega arith) (omega arith))
+      let t : ℕ = page (v 0) userPointer in
+      let e : slot v′ (page (v′ 0) userPointer) n ≡ slot v t n =
+      ap (λ (x : ℕ). slot v′ x n) (page-at P v v′ M userPointer (omega arith) (omega arith))
       ∙ slot-same v v′ t (A t (omega (arith, users-top P v C c0 r2))) n in
       (omega (arith, e, r n i .0), λ j. e ∙ r n i .1 j)
 
-  pub rule5 : Rule2 P v → blocksR v (objectFile v) C ≡ 0 → (flags (v 0) 1016 ≡ 1 → (u : ℕ) → 63 < u → u < 256 → used (user v u) ≡ 0 → used (user v′ u) ≡ 0) → Rule5 P v → Rule5 P v′
+  pub rule5 : Rule2 P v → blocksR v (objectFile v) C ≡ 0 → (flags (v 0) objectPointer ≡ 1 → (u : ℕ) → 63 < u → u < 256 → used (user v u) ≡ 0 → used (user v′ u) ≡ 0) → Rule5 P v → Rule5 P v′
   unfolding Rule5 objectFile Rule5By rootAt rootBy blocksR blocks Agree
   rule5 r2 h k r =
-      subst (λ (x : ℕ). Rule5By P v′ x (page (v′ 0) 1016)) (sym (flags-at P v v′ M 1016 (omega arith) (omega arith)))
-      (subst (λ (t : ℕ). Rule5By P v′ (flags (v 0) 1016) t) (sym (page-at P v v′ M 1016 (omega arith) (omega arith))) (go (flags (v 0) 1016) (page (v 0) 1016) refl h r))
+      subst (λ (x : ℕ). Rule5By P v′ x (page (v′ 0) objectPointer)) (sym (flags-at P v v′ M objectPointer (omega arith) (omega arith)))
+      (subst (λ (t : ℕ). Rule5By P v′ (flags (v 0) objectPointer) t) (sym (page-at P v v′ M objectPointer (omega arith) (omega arith))) (go (flags (v 0) objectPointer) (page (v 0) objectPointer) refl h r))
     where
-      go : (x t : ℕ) → flags (v 0) 1016 ≡ x → blocksR v (rootBy x t 0) C ≡ 0 → Rule5By P v x t → Rule5By P v′ x t
+      go : (x t : ℕ) → flags (v 0) objectPointer ≡ x → blocksR v (rootBy x t 0) C ≡ 0 → Rule5By P v x t → Rule5By P v′ x t
       go zero t q b a = tt
       go (suc zero) t q b a = (Below-frame v v′ C A P 1 t b (a .0), λ u i j. k q u i j (a .1 u i j))
       go (suc (suc zero)) t q b a = (Below-frame v v′ C A P 2 t b (a .0), λ i j l. slot-same v v′ t (A t (omega (arith, b))) i ∙ a .1 i j l)

@@ -1,6 +1,6 @@
 -- The trees apart: what one holds, no other does. Assumes nothing.
 use mathlib.Core.Path.{_≡_, sym, ap, _∙_, subst, subst₂, fun-ext}
-use Prim.Native.Nat.{ℕ, _+_, _-_, _*_, _/_, _%_, _≤_, _<_}
+use Prim.Native.Nat.{ℕ, suc, _+_, _-_, _*_, _/_, _%_, _≤_, _<_}
 use native.Mathlib.Nat.{le-trans}
 use native.Mathlib.Omega.{arith}
 use Rattle.sums.specs.Search.{pick}
@@ -9,6 +9,7 @@ use Rattle.book.specs.Bits.{bitFile, bit}
 use Rattle.book.specs.Entries.{entry, userFile, objectFile, user, object, used, usedPages, grant, Table, unreserved}
 use Rattle.book.specs.Files.{fileAt}
 use Rattle.book.specs.Holders.{some, mine, system, all, systemPages, hit}
+use Rattle.book.specs.Pointers.{unreservedCount, volumeName}
 use Rattle.book.specs.Rules.{Rule4, Rule6, Rule7, Rule10}
 use Rattle.book.specs.Trees.{Root, run, weighR, blocksR, pageAt, rootAt}
 use Rattle.book.specs.Words.{Vol, two}
@@ -108,7 +109,7 @@ module _ (v v′ : Vol) (R : Roots v v′) (C : ℕ → ℕ) (c0 : C 0 ≡ 0) (A
   page-calm e h m = ap (λ (r : Root). pageAt v′ r m) (file-calm e) ∙ pageAt-frame v v′ C A (fileAt v e) (zero-blocks _ (q-entry e h)) m
 
   -- all that the rules but 8 and 9 say is as it was
-  pub most-calm : (P : ℕ) → ((k : ℕ) → 1008 ≤ k → v′ 0 k ≡ v 0 k) → Most P v → Most P v′
+  pub most-calm : (P : ℕ) → ((k : ℕ) → volumeName ≤ k → v′ 0 k ≡ v 0 k) → Most P v → Most P v′
   unfolding Master Rule7 Rule10 unreserved systemPages
   most-calm P m s = record {
     r1 = rule1 P v v′ M (s .r1);
@@ -132,7 +133,7 @@ module _ (v v′ : Vol) (R : Roots v v′) (C : ℕ → ℕ) (c0 : C 0 ≡ 0) (A
       ten : Rule10 P v′
       ten = (
         (λ u h i. ap (λ (U : Table). usedPages U u) user-calm ∙ s .r10 .0 u h (subst (λ (U : Table). 0 < used (U u)) user-calm i) ∙ sym (mine-calm u h some)),
-        omega (arith, s .r10 .1, two-ext (v′ 0) (v 0) 1022 (m 1022 (omega arith)) (m 1023 (omega arith)), ap (λ (U : Table). sum 256 (grant U)) user-calm, sys-calm P some),
+        omega (arith, s .r10 .1, two-ext (v′ 0) (v 0) unreservedCount (m unreservedCount (omega arith)) (m (suc unreservedCount) (omega arith)), ap (λ (U : Table). sum 256 (grant U)) user-calm, sys-calm P some),
       )
 
 -- only bits change: pages in hand are given back, or taken, in one go

@@ -11,10 +11,10 @@ use Rattle.book.specs.Bits.{bitFile, bitPages}
 use Rattle.book.specs.Entries.{entry, userFile, objectFile, object, used}
 use Rattle.book.specs.Files.{fileAt}
 use Rattle.book.specs.Holders.{mine, system, all}
-use Rattle.book.specs.Pointers.{page, Zero}
+use Rattle.book.specs.Pointers.{page, Zero, bitPointer, objectPointer, unreservedCount, userPointer}
 use Rattle.book.specs.Trees.{Root, tree, run, weigh, weighR, blocks, blocksR, leaf, pageAt, upto, rootAt}
 use Rattle.book.specs.Words.{Vol, two, word}
-use Rattle.laws.specs.Tree.Pointer.{root-0, zero-flags, rootAt-ext}
+use Rattle.laws.specs.Tree.Pointer.{root-0, zero-flags, rootAt-ext, page-ext}
 use Rattle.laws.specs.Tree.Slot.{Agree}
 use Rattle.laws.specs.Tree.Weigh.{BelowR, weigh-frame, blocks-frame, leaf-frame, blocks-le, leaf-le, leaf-le₂, leaf-below, weigh-nobody, weigh-add, blocks-add}
 
@@ -150,20 +150,20 @@ module _ (v v′ : Vol) (C : ℕ → ℕ) (same : Agree C v v′) where
 
 -- a change that leaves the pointers of the master page
 unfoldable pub Roots : Vol → Vol → Type 0
-Roots v v′ = (k : ℕ) → 1016 ≤ k → k < 1022 → v′ 0 k ≡ v 0 k
+Roots v v′ = (k : ℕ) → objectPointer ≤ k → k < unreservedCount → v′ 0 k ≡ v 0 k
 
 module _ (v v′ : Vol) (R : Roots v v′) where
   pub users-root : userFile v′ ≡ userFile v
   unfolding userFile Roots
-  users-root = rootAt-ext (v′ 0) (v 0) 1018 0 (R 1018 (omega arith) (omega arith)) (R 1019 (omega arith) (omega arith))
+  users-root = rootAt-ext (v′ 0) (v 0) userPointer 0 (R userPointer (omega arith) (omega arith)) (R (suc userPointer) (omega arith) (omega arith))
 
   pub objs-root : objectFile v′ ≡ objectFile v
   unfolding objectFile Roots
-  objs-root = rootAt-ext (v′ 0) (v 0) 1016 0 (R 1016 (omega arith) (omega arith)) (R 1017 (omega arith) (omega arith))
+  objs-root = rootAt-ext (v′ 0) (v 0) objectPointer 0 (R objectPointer (omega arith) (omega arith)) (R (suc objectPointer) (omega arith) (omega arith))
 
   pub bits-root : (P : ℕ) → bitFile P v′ ≡ bitFile P v
   unfolding bitFile Roots page
-  bits-root P = ap₂ (λ (m o : ℕ). run (m % 16384 * 65536 + o) (bitPages P)) (R 1020 (omega arith) (omega arith)) (R 1021 (omega arith) (omega arith))
+  bits-root P = ap (λ (t : ℕ). run t (bitPages P)) (page-ext (v′ 0) (v 0) bitPointer (R bitPointer (omega arith) (omega arith)) (R (suc bitPointer) (omega arith) (omega arith)))
 
 module _ (P : ℕ) (v v′ : Vol) (g : ℕ → ℕ) (a b : ℕ) (ha : a < 256) (hb : b < 256)
     (wb : weighR v′ (bitFile P v′) g ≡ weighR v (bitFile P v) g) (wu : weighR v′ (userFile v′) g ≡ weighR v (userFile v) g) (wo : weighR v′ (objectFile v′) g ≡ weighR v (objectFile v) g)

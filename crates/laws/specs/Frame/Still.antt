@@ -1,13 +1,14 @@
 -- No entry and no tree changed (Still): so it is where the pages that change are no block of any tree. Assumes nothing.
 use mathlib.Core.Path.{_≡_, sym, ap, _∙_, subst, fun-ext, refl}
 use mathlib.Core.Logic.{_≢_}
-use Prim.Native.Nat.{ℕ, _/_, _%_, _<_}
+use Prim.Native.Nat.{ℕ, suc, _/_, _%_, _<_}
 use native.Mathlib.Omega.{arith}
 use Rattle.sums.specs.Sum.{sum}
-use Rattle.book.specs.Bits.{bitFile, bitPage}
+use Rattle.book.specs.Bits.{bitFile, bitPage, pageBits}
 use Rattle.book.specs.Entries.{entry, userFile, objectFile, user, object, fileEntry, userPage, objectPage, unreserved}
 use Rattle.book.specs.Files.{fileAt}
 use Rattle.book.specs.Holders.{hit, mine, all}
+use Rattle.book.specs.Pointers.{unreservedCount}
 use Rattle.book.specs.Trees.{Root, weighR, blocksR, pageAt}
 use Rattle.book.specs.Words.{Words, Vol}
 use Rattle.book.specs.Written.{word-ext}
@@ -134,7 +135,7 @@ still-calm P v v′ C c0 A q m = record {
 
 pub bitPage-same : (P : ℕ) (v v′ : Vol) → SamePlaces v v′ → (p : ℕ) → bitPage P v′ p ≡ bitPage P v p
 unfolding bitPage bitFile pageAt Roots
-bitPage-same P v v′ L p = ap (λ (r : Root). pageAt v r (p / 16384)) (bits-root v v′ (λ k i j. L .master k) P)
+bitPage-same P v v′ L p = ap (λ (r : Root). pageAt v r (p / pageBits)) (bits-root v v′ (λ k i j. L .master k) P)
 
 pub rest-same : (P : ℕ) (v v′ : Vol) → Still P v v′ → (g : ℕ → ℕ) → rest v′ g ≡ rest v g
 unfolding bitFile weighR Roots
@@ -145,4 +146,4 @@ rest-same P v v′ S g = omega (arith, S .held g, all-rest P v′ g, all-rest P 
 module _ (v v′ : Vol) (L : SamePlaces v v′) where
   pub places-unreserved : unreserved v′ ≡ unreserved v
   unfolding unreserved
-  places-unreserved = two-ext (v′ 0) (v 0) 1022 (L .master 1022) (L .master 1023)
+  places-unreserved = two-ext (v′ 0) (v 0) unreservedCount (L .master unreservedCount) (L .master (suc unreservedCount))

@@ -65,8 +65,8 @@ root-2 w k n h = ap (λ (x : ℕ). rootBy x (page w k) n) h
 -- ---- roots
 
 pub rootAt-ext : (w x : ℕ → ℕ) (k n : ℕ) → w k ≡ x k → w (suc k) ≡ x (suc k) → rootAt w k n ≡ rootAt x k n
-unfolding rootAt flags page
-rootAt-ext w x k n a b = ap₂ (λ (m o : ℕ). rootBy (m / 16384) (m % 16384 * 65536 + o) n) a b
+unfolding rootAt
+rootAt-ext w x k n a b = ap₂ (λ (f t : ℕ). rootBy f t n) (flags-ext w x k a) (page-ext w x k a b)
 
 -- the pages of a used entry's file, and of an unused one's
 pub file-used : (v : Vol) (e : ℕ) → 0 < used (object v e) → fileAt v e ≡ rootAt (object v e) 30 (two (object v e) 26)

@@ -4,6 +4,7 @@ use mathlib.Core.Logic.{_≢_, inl, inr}
 use Prim.Native.Nat.{ℕ, suc, _+_, _/_, _%_, _≤_, _<_}
 use native.Mathlib.Omega.{arith}
 use Rattle.book.specs.Entries.{user, used, given, usedPages, userPage, entryWord, unreserved}
+use Rattle.book.specs.Pointers.{unreservedCount}
 use Rattle.book.specs.Rules.{UserOk, Rule4, Rule10, Sound}
 use Rattle.book.specs.Steps.{moved}
 use Rattle.book.specs.Words.{Vol, two, put2}
@@ -21,7 +22,7 @@ use Rattle.laws.specs.User.Words.{BesideUser, user-has-page, user-now, u
 -- words 14 and 15 of his entry and the unreserved words alone
 pub moved-only : (v : Vol) (u g s : ℕ) → OnlyAt (Either (FieldOf (userPage v u) u 14 2) UnreservedWords) v (moved v u g s)
 unfolding moved
-moved-only v u g s = only-then (FieldOf (userPage v u) u 14 2) UnreservedWords v _ _ (only-put2 v (userPage v u) (entryWord u + 14) g) (only-put2 _ 0 1022 s)
+moved-only v u g s = only-then (FieldOf (userPage v u) u 14 2) UnreservedWords v _ _ (only-put2 v (userPage v u) (entryWord u + 14) g) (only-put2 _ 0 unreservedCount s)
 
 moved-wide : (v : Vol) (u g s : ℕ) → OnlyAt (Either (EntryOf (userPage v u) u) UnreservedWords) v (moved v u g s)
 moved-wide v u g s =
@@ -64,11 +65,11 @@ module _ (P : ℕ) (v : Vol) (S : Sound P v) (pos : 0 < P) (u : ℕ) (hu : u < 2
       omega (arith, hi, lo)
     where
       at : (k : ℕ) → v′ U k ≡ put2 v U (E + 14) g U k
-      at k = put2-page (put2 v U (E + 14) g) 0 1022 s U k (λ e. let i = isU in let r : ⊥ = omega arith in absurd r)
+      at k = put2-page (put2 v U (E + 14) g) 0 unreservedCount s U k (λ e. let i = isU in let r : ⊥ = omega arith in absurd r)
 
   left-now : unreserved v′ ≡ s
   unfolding v′ moved unreserved
-  left-now = put2-two (put2 v U (E + 14) g) 0 1022 s
+  left-now = put2-two (put2 v U (E + 14) g) 0 unreservedCount s
 
   used-now : used (user v′ u) ≡ used (user v u)
   used-now = used-ext (user v′ u) (user v u) (kept 0 (omega arith) (omega arith))

@@ -9,7 +9,7 @@ use Rattle.book.specs.Bits.{bit}
 use Rattle.book.specs.Entries.{entry, userFile, objectFile, user, object, used, usedPages, grant}
 use Rattle.book.specs.Files.{fileAt}
 use Rattle.book.specs.Holders.{hit, some, mine}
-use Rattle.book.specs.Pointers.{flags}
+use Rattle.book.specs.Pointers.{flags, objectPointer, unreservedCount}
 use Rattle.book.specs.Rules.{Rule6, Rule7}
 use Rattle.book.specs.Trees.{Root, weighR, blocksR, pageAt}
 use Rattle.book.specs.Words.{Vol, two, word}
@@ -25,7 +25,7 @@ use Rattle.laws.specs.Tree.Pointer.{used-ext}
 use Rattle.laws.specs.Tree.Slot.{Agree, two-ext, hit-zero}
 
 module _ (P : ℕ) (v : Vol) (hand : ℕ → ℕ) (G : Good P v hand) (pos : 0 < P) (a : ℕ) (ha : a < 256) (v′ : Vol)
-    (agree : Agree (hit (pageAt v (userFile v) (a / 32))) v v′) (master : (k : ℕ) → k < 1022 → v′ 0 k ≡ v 0 k)
+    (agree : Agree (hit (pageAt v (userFile v) (a / 32))) v v′) (master : (k : ℕ) → k < unreservedCount → v′ 0 k ≡ v 0 k)
     (onU : (k : ℕ) → Outside a k → word v′ (pageAt v (userFile v) (a / 32)) k ≡ word v (pageAt v (userFile v) (a / 32)) k) where
   abbrev U : ℕ
   U = pageAt v (userFile v) (a / 32)
@@ -84,8 +84,8 @@ module _ (P : ℕ) (v : Vol) (hand : ℕ → ℕ) (G : Good P v hand) (pos : 0 <
   used-obj x = used-ext (object v′ x) (object v x) (words x 0 (omega arith))
 
   module _ (N : UserNew v′ a) (owner : (h : ℕ) → h < 256 → 0 < used (object v (256 * a + h)) → 0 < used (user v′ a))
-      (high : flags (v 0) 1016 ≡ 1 → 63 < a → used (user v′ a) ≡ 0)
-      (balance : two (v′ 0) 1022 + grant (user v′) a ≡ two (v 0) 1022 + grant (user v) a)
+      (high : flags (v 0) objectPointer ≡ 1 → 63 < a → used (user v′ a) ≡ 0)
+      (balance : two (v′ 0) unreservedCount + grant (user v′) a ≡ two (v 0) unreservedCount + grant (user v) a)
       (count : 0 < used (user v′ a) → usedPages (user v′) a ≡ mine v a some) where
     file-new : FileNew P v′ a 0
     unfolding Rule6 Rule7

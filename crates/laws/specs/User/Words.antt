@@ -6,7 +6,7 @@ use native.Mathlib.Omega.{arith}
 use Rattle.book.specs.Entries.{Table, userFile, objectFile, user, object, used, usedPages, grant, userPage, entryWord, fileEntry, unreserved}
 use Rattle.book.specs.Files.{fileAt}
 use Rattle.book.specs.Holders.{hit, some, mine}
-use Rattle.book.specs.Pointers.{flags, objectPointer, indexed}
+use Rattle.book.specs.Pointers.{flags, objectPointer, indexed, unreservedCount}
 use Rattle.book.specs.Rules.{Sound}
 use Rattle.book.specs.Trees.{pageAt}
 use Rattle.book.specs.Words.{Vol, word}
@@ -45,7 +45,7 @@ module _ (P : ℕ) (v : Vol) (S : Sound P v) (pos : 0 < P) (u : ℕ) (hu : u < 2
   unfolding userPage
   agree = agree-at v v′ (Either (EntryOf U u) UnreservedWords) U user-has-page (λ p k i c. elim c [ inl a ↦ a .0 | inr b ↦ absurd (let r : ⊥ = omega (arith, b .0) in r) ]) only
 
-  master : (k : ℕ) → k < 1022 → v′ 0 k ≡ v 0 k
+  master : (k : ℕ) → k < unreservedCount → v′ 0 k ≡ v 0 k
   master k h = only-either (EntryOf U u) UnreservedWords v v′ only 0 k (λ a. let i = user-has-page in let r : ⊥ = omega (arith, a .0) in r) (λ b. let r : ⊥ = omega (arith, b .1) in r)
 
   off : (k : ℕ) → Outside u k → word v′ (pageAt v (userFile v) (u / 32)) k ≡ word v (pageAt v (userFile v) (u / 32)) k
