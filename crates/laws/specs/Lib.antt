@@ -32,6 +32,7 @@ pub mod Places
 pub mod After
 pub mod Still
 pub mod There
+pub mod Unflagged
 pub mod UserWords
 pub mod Called
 pub mod Move
@@ -88,6 +89,7 @@ pub mod Created
 pub mod RunTaking
 pub mod CreateFile
 pub mod CreateUserCall
+pub mod HighUser
 pub mod Numbered
 pub mod CreateFileCall
 pub mod Enough
