@@ -48,7 +48,7 @@ digits-back (suc k) n h =
       | inl z ↦ ap (readOn 0) (pick-no (n / 10) (digits k (n / 10)) [] z) ∙ sym z
       | inr p ↦ ap (readOn 0) (pick-yes (n / 10) (digits k (n / 10)) [] p) ∙ rest
     ] in
-    read-last 0 (pick (n / 10) (digits k (n / 10)) []) (48 + n % 10) ∙ omega (arith, front)
+    read-last 0 (pick (n / 10) (digits k (n / 10)) []) _ ∙ omega (arith, front)
 
 pub decimal-back : (n : ℕ) → n < 10000000000 → value (decimal n) ≡ n
 decimal-back n h = digits-back 10 n h

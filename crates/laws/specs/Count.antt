@@ -7,4 +7,5 @@ pub mod Pages
 pub mod Reach
 pub mod Room
 pub mod Sums
+pub mod Unflagged
 pub mod Who

@@ -5,6 +5,7 @@ pub mod File
 pub mod FileCall
 pub mod FilePlace
 pub mod First
+pub mod HighUser
 pub mod Join
 pub mod NewEntry
 pub mod NewFile

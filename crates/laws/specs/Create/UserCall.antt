@@ -1,40 +1,27 @@
 -- The create user call: sound again, what it writes, what it leaves. Assumes nothing.
-use mathlib.Core.Path.{_≡_, refl, sym, _∙_, subst₂}
-use mathlib.Core.Logic.{_≢_, inl, inr}
+use mathlib.Core.Path.{_≡_, refl, sym, subst₂}
+use mathlib.Core.Logic.{_≢_}
 use mathlib.Core.List.{List}
-use Prim.Native.Nat.{ℕ, _/_, _≤_, _<_}
+use Prim.Native.Nat.{ℕ, _≤_, _<_}
 use native.Mathlib.Omega.{arith}
 use Rattle.book.specs.Answers.{Numbers}
 use Rattle.book.specs.Bits.{lowestFree}
 use Rattle.book.specs.Calls.{createUserCall, IsUser}
-use Rattle.book.specs.Create.{userNeed, userEntry, createUser}
-use Rattle.book.specs.Entries.{user, userFile, object, used, newUser, unreserved}
+use Rattle.book.specs.Create.{userNeed, createUser}
+use Rattle.book.specs.Entries.{user, object, newUser, unreserved}
 use Rattle.book.specs.Files.{fileAt}
 use Rattle.book.specs.Image.{pages, Whole}
 use Rattle.book.specs.Names.{NameText}
 use Rattle.book.specs.Outcome.{Outcome, DoneAs, call, asking, judged}
 use Rattle.book.specs.Rows.{Clear, Counted}
-use Rattle.book.specs.Pointers.{flags, Inside, subindexed, userPointer, objectPointer}
-use Rattle.book.specs.Rules.{Rule2, Rule5, Sound}
-use Rattle.book.specs.Trees.{pageAt, rootAt}
+use Rattle.book.specs.Rules.{Sound}
+use Rattle.book.specs.Trees.{pageAt}
 use Rattle.book.specs.Words.{Vol, vol}
 use Rattle.laws.specs.Bits.Choose.{lowest-chooser}
 use Rattle.laws.specs.Call.After.{after-call, kept-call}
 use Rattle.laws.specs.Call.Done.{done}
-use Rattle.laws.specs.Count.Reach.{high-unused}
-use Rattle.laws.specs.Create.NewEntry.{user-used}
 use Rattle.laws.specs.Create.User.{UserCreateWords, UserCreated, create-user}
 use Rattle.laws.specs.Frame.Places.{OnlyAt}
-use Rattle.laws.specs.Frame.Roots.{used-page, zero-none}
-use Rattle.laws.specs.Tree.Pointer.{used-ext}
-
--- where a user above 63 is used, the object file is subindexed
-pub high-subindexed : (P : ℕ) (v : Vol) → Rule2 P v → Rule5 P v → (u : ℕ) → 63 < u → u < 256 → 0 < used (user v u) → flags (v 0) objectPointer ≡ subindexed
-unfolding Rule2 Inside user userFile
-high-subindexed P v (inl z) r u a b q =
-    absurd (let w : ⊥ = omega (arith, used-page v (rootAt (v 0) userPointer 0) u q, zero-none v (v 0) userPointer (z .0) (u / 32)) in w)
-high-subindexed P v (inr (i, inl o)) r u a b q = absurd (let w : ⊥ = omega (arith, q, high-unused P v r (o .0) u a b) in w)
-high-subindexed P v (inr (i, inr o)) r u a b q = o .0
 
 module _ (img : List ℕ) (name : List ℕ) where
   abbrev P : ℕ
@@ -91,12 +78,3 @@ module _ (img : List ℕ) (name : List ℕ) where
       pub create-user-value : r .value ≡ newUser v
       unfolding createUserCall call asking
       create-user-value = create-user-done .value
-
-      -- user 64 and up: the object file is subindexed then
-      pub create-user-high : 63 < r .value → flags (v′ 0) objectPointer ≡ subindexed
-      unfolding createUserCall call asking judged Clear
-      create-user-high h =
-          let c : UserCreated P v v′ (r .value) name = user-created in
-          let lt : newUser v < 256 = create-user-done .clear .1 .1 .1 .1 .0 in
-          let e : used (user v′ (r .value)) ≡ 1 = used-ext (user v′ (r .value)) (userEntry (r .value) name) (c .words 0 (omega arith)) ∙ user-used (r .value) name in
-          high-subindexed P v′ (c .sound .r2) (c .sound .r5) (r .value) h (omega (arith, lt, create-user-value)) (omega (arith, e))

@@ -6,18 +6,22 @@ use Prim.Native.Nat.{ℕ, zero, suc, _+_, _-_, _/_, _%_, _≤_, _<_}
 use native.Mathlib.Nat.{not-suc-le-zero}
 use native.Mathlib.Decide.{ℕ-discrete, decLt}
 use native.Mathlib.Omega.{arith}
+use Rattle.book.specs.Pointers.{volumeName, objectPointer, userPointer, bitPointer}
+use Rattle.book.specs.Bits.{pageBits, bitPageOf, bitWord, bitPlace}
+use Rattle.book.specs.Entries.{unreserved}
+use Rattle.book.specs.Names.{Same}
+use Rattle.book.specs.Written.{digit-other, put-here, put-page, put-word}
 use Rattle.sums.specs.Sum.{sum, is, is-same, is-other, sum-suc, sum-zero, sum-ext, sum-const}
 use Rattle.book.specs.Words.{Vol, two, put2, putWords, wipe}
-use Rattle.book.specs.Pointers.{flags, page, pointer, Zero, volumeName, objectPointer, userPointer, bitPointer, unreservedCount}
+use Rattle.book.specs.Pointers.{flags, page, pointer, Zero, bitPointer, objectPointer, unreservedCount, userPointer, volumeName}
 use Rattle.book.specs.Trees.{weighR, run}
-use Rattle.book.specs.Bits.{digit, pageBits, bitPages, bitPageOf, bitWord, bitPlace, bitFile, bitPage, bit, mark}
-use Rattle.book.specs.Entries.{unreserved}
-use Rattle.book.specs.Names.{NameText, Same, packed}
+use Rattle.book.specs.Bits.{digit, bitPages, bitFile, bitPage, bit, mark, bitWord, pageBits}
+use Rattle.book.specs.Names.{NameText, packed}
 use Rattle.book.specs.Holders.{hit, some}
 use Rattle.book.specs.Image.{BitArg}
 use Rattle.book.specs.Rules.{Rule1, Sound}
 use Rattle.book.specs.Format.{wipeRun, markRun, directory, format}
-use Rattle.book.specs.Written.{digit-other, word-pos, put-here, put-page, put-word, put2-hi, put2-lo, put2-two, put2-word, putWords-here, wipe-here, wipe-page}
+use Rattle.book.specs.Written.{word-pos, put2-hi, put2-lo, put2-two, put2-word, putWords-here, wipe-here, wipe-page}
 use Rattle.laws.specs.Bits.Claim.{bitPage-is, bitPage-pos}
 use Rattle.laws.specs.Bits.Mark.{mark-page, mark-master, mark-bit, mark-other}
 use Rattle.laws.specs.File.Packed.{packed-legal}
@@ -137,10 +141,6 @@ module _ (P : ℕ) (v : Vol) (name : List ℕ) (b : ℕ) (T : NameText name) (A 
     put2-word _ 0 unreservedCount (P - 1 - n) 0 (suc bitPointer) (omega arith) (omega arith) ∙ put2-lo _ 0 bitPointer (pointer 0 b) ∙ omega arith,
   )
 
-  dir-bit : two (w₀ 0) bitPointer ≡ b
-  unfolding two
-  dir-bit = omega (arith, dir-bits .0, dir-bits .1)
-
   dir-rest : two (w₀ 0) unreservedCount ≡ P - 1 - n
   unfolding directory
   dir-rest = put2-two _ 0 unreservedCount (P - 1 - n)
@@ -238,38 +238,6 @@ module _ (P : ℕ) (v : Vol) (name : List ℕ) (b : ℕ) (T : NameText name) (A 
       pub formatted-sound : Sound P (format P v name b)
       formatted-sound = format-sound P (format P v name b) pos formatted
 
-      -- the directory entry: the name, no objects and no users, the bit file at b, all but the master page and the bit file unreserved
-      pub format-entry : Same 8 (format P v name b 0) volumeName (packed name) 0 × Zero (format P v name b 0) objectPointer × Zero (format P v name b 0) userPointer
-          × (two (format P v name b 0) bitPointer ≡ b) × (unreserved (format P v name b) ≡ P - 1 - n)
-      unfolding format Same unreserved
-      format-entry = (
-        λ i h. same (1008 + i) ∙ dir-name (1008 + i) (omega arith) (omega arith) ∙ ap (packed name) (let e : 1008 + i - 1008 ≡ 0 + i = omega arith in e),
-        formatted .noObjs,
-        formatted .noUsers,
-        bits-at,
-        two-ext (markRun P w₂ b n 0) (w₀ 0) 1022 (same 1022) (same 1023) ∙ dir-rest,
-      )
-        where
-          same : (k : ℕ) → markRun P w₂ b n 0 k ≡ w₀ 0 k
-          same = same₃ n (omega arith)
-
-          bits-at : two (markRun P w₂ b n 0) 1020 ≡ b
-          bits-at = two-ext (markRun P w₂ b n 0) (w₀ 0) 1020 (same 1020) (same 1021) ∙ dir-bit
-
-      -- the bits from P on are 0
-      past : (p : ℕ) → P ≤ p → bitPageOf p < n → (m : ℕ) → m ≤ n → digit (bitPlace p) (markRun P w₂ b m (b + bitPageOf p) (bitWord p)) ≡ 0
-      unfolding markRun
-      past p h l zero i =
-          mark-past P w₁ (rule-1 w₁ same₁) b (bits-page w₁ same₁) 0 1 p pos (omega arith) h
-          ∙ ap (digit (p % 16)) (wipeRun-in w₀ b n (p / 16384) (p % 16384 / 16) l) ∙ digit-none (p % 16)
-      past p h l (suc m) i =
-          mark-past P (markRun P w₂ b m) (rule-1 (markRun P w₂ b m) (same₃ m (omega arith))) b (bits-page (markRun P w₂ b m) (same₃ m (omega arith))) (b + m) 1 p (omega (arith, A .1)) (omega arith) h
-          ∙ past p h l m (omega arith)
-
-      pub format-past : (p : ℕ) → P ≤ p → bitPageOf p < n → digit (bitPlace p) (format P v name b (b + bitPageOf p) (bitWord p)) ≡ 0
-      unfolding format
-      format-past p h l = past p h l n (omega arith)
-
       -- ---- every other word stays
 
       -- the words written: the directory entry and the bit file
@@ -318,3 +286,38 @@ module _ (P : ℕ) (v : Vol) (name : List ℕ) (b : ℕ) (T : NameText name) (A 
           run : (m : ℕ) → m ≤ n → markRun P w₂ b m p k ≡ w₂ p k
           run zero h = markRun-none P w₂ b p k
           run (suc m) h = markRun-more P w₂ b m p k ∙ marked (b + m) (omega (arith, A .1)) (markRun P w₂ b m) (same₃ m (omega arith)) ∙ run m (omega arith)
+
+      -- ---- what format writes
+
+      same : (k : ℕ) → markRun P w₂ b n 0 k ≡ w₀ 0 k
+      same = same₃ n (omega arith)
+
+      bits-at : two (markRun P w₂ b n 0) bitPointer ≡ b
+      unfolding two
+      bits-at = omega (arith, same 1020, same 1021, dir-bits .0, dir-bits .1)
+
+      -- the directory entry: the name, no objects and no users, the bit file at b, all but the master page and the bit file unreserved
+      pub format-entry : Same 8 (format P v name b 0) volumeName (packed name) 0 × Zero (format P v name b 0) objectPointer × Zero (format P v name b 0) userPointer
+          × (two (format P v name b 0) bitPointer ≡ b) × (unreserved (format P v name b) ≡ P - 1 - n)
+      unfolding format Same unreserved
+      format-entry = (
+        λ i h. same (volumeName + i) ∙ dir-name (volumeName + i) (omega arith) (omega arith) ∙ ap (packed name) (let e : volumeName + i - volumeName ≡ 0 + i = omega arith in e),
+        formatted .noObjs,
+        formatted .noUsers,
+        bits-at,
+        two-ext (markRun P w₂ b n 0) (w₀ 0) 1022 (same 1022) (same 1023) ∙ dir-rest,
+      )
+
+      -- the bits from P on are 0
+      past : (p : ℕ) → P ≤ p → bitPageOf p < n → (m : ℕ) → m ≤ n → digit (bitPlace p) (markRun P w₂ b m (b + bitPageOf p) (bitWord p)) ≡ 0
+      unfolding markRun
+      past p h l zero i =
+          mark-past P w₁ (rule-1 w₁ same₁) b (bits-page w₁ same₁) 0 1 p pos (omega arith) h
+          ∙ ap (digit (bitPlace p)) (wipeRun-in w₀ b n (bitPageOf p) (bitWord p) l) ∙ digit-none (bitPlace p)
+      past p h l (suc m) i =
+          mark-past P (markRun P w₂ b m) (rule-1 (markRun P w₂ b m) (same₃ m (omega arith))) b (bits-page (markRun P w₂ b m) (same₃ m (omega arith))) (b + m) 1 p (omega (arith, A .1)) (omega arith) h
+          ∙ past p h l m (omega arith)
+
+      pub format-past : (p : ℕ) → P ≤ p → bitPageOf p < n → digit (bitPlace p) (format P v name b (b + bitPageOf p) (bitWord p)) ≡ 0
+      unfolding format
+      format-past p h l = past p h l n (omega arith)
