@@ -23,5 +23,7 @@ pub mod Yard
 pub mod Written
 pub mod Coincide
 pub mod Gate
+pub mod Enter
 pub mod Return
+pub mod Run
 pub mod Listing

@@ -1,5 +1,5 @@
 use mathlib.Core.Bool.{true}
-use Rattle.book.specs.Return.{gate-ready}
+use Rattle.book.specs.Enter.{gated, fit}
 use Rattle.listing.proofs.Reports.{reported-shut, reported-open}
 use borrow.Author.Needs.{needs}
 use Rattle.listing.proofs.list.Statement.{statement}
@@ -23,7 +23,7 @@ enum-told : tie.Need-enum-told
 enum-told c = search needs
 
 put-listing-requires : tie.Need-put-listing-requires
-put-listing-requires c κs = gate-ready _ true (c .before .before .before .gate .result) _ (c .before .before .before .gate .ensures) (c .before .enum-told .given .1)
+put-listing-requires c κs = let s = c .before .before .before in fit (gated _ true (s .gate .result) (s .gate .ensures)) (c .before .enum-told .given .1) .ready
 
 same-length : tie.Need-same-length
 same-length c = search needs
