@@ -20,21 +20,21 @@ abbrev pub Judged : ℕ → Vol → Verdict → Type 0
 Judged P v (Right n) = Sound P v × (n ≡ visits P v)
 Judged P v (Broken r) = Lowest (rules P v) r
 
--- the gate is shut by 1, 2 or 3, and by no other number; `ok` tells whether the arguments are right
-abbrev pub Shuts : List ℕ → Bool → Refusal → Type 0
-Shuts img ok Size = Whole img → ⊥
-Shuts img ok Argument = Whole img × (ok ≡ false)
-Shuts img ok (Unsound r) = Whole img × (ok ≡ true) × Lowest (rules (pages img) (vol img)) r
-Shuts img ok Missing = ⊥
-Shuts img ok Taken = ⊥
-Shuts img ok Kind = ⊥
-Shuts img ok HasFiles = ⊥
-Shuts img ok Full = ⊥
-Shuts img ok Allowance = ⊥
-Shuts img ok Unreserved = ⊥
-Shuts img ok NoRun = ⊥
+-- the gate is shut by 1, 2 or 3, and by no other number
+abbrev pub Shuts : List ℕ → Type 0 → Refusal → Type 0
+Shuts img args Size = Whole img → ⊥
+Shuts img args Argument = Whole img × (args → ⊥)
+Shuts img args (Unsound r) = Whole img × args × Lowest (rules (pages img) (vol img)) r
+Shuts img args Missing = ⊥
+Shuts img args Taken = ⊥
+Shuts img args Kind = ⊥
+Shuts img args HasFiles = ⊥
+Shuts img args Full = ⊥
+Shuts img args Allowance = ⊥
+Shuts img args Unreserved = ⊥
+Shuts img args NoRun = ⊥
 
--- open: the arguments are right, and the image is whole and sound
+-- open: the arguments are right, as `ok` tells, and the image is whole and sound
 abbrev pub Gated : List ℕ → Bool → Gate → Type 0
-Gated img ok (Shut w) = Shuts img ok w
+Gated img ok (Shut w) = Shuts img (ok ≡ true) w
 Gated img ok (Open n) = Ready img × (ok ≡ true) × (n ≡ visits (pages img) (vol img))

@@ -24,6 +24,8 @@ pub mod Orders
 pub mod Written
 pub mod Coincide
 pub mod Gate
+pub mod Enter
 pub mod Return
+pub mod Run
 pub mod Listing
 pub mod Decimal

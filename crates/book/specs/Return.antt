@@ -1,98 +1,106 @@
--- How a call comes back: from the row that fails, or from all rows, to its outcome. Assumes nothing.
+-- How a call comes back: from a shut gate, from its own row that fails, or from all its rows, to its outcome. Assumes nothing.
 use mathlib.Core.Path.{_≡_, refl, subst}
-use mathlib.Core.Bool.{Bool, true, false}
+use mathlib.Core.Bool.{Bool}
 use mathlib.Core.Logic.{inl, inr}
 use mathlib.Core.List.{List}
-use Prim.Native.Nat.{ℕ}
+use Prim.Native.Nat.{ℕ, _<_}
 use native.Mathlib.Omega.{arith}
 use lib.ListN.{length}
 use Rattle.book.specs.Words.{Vol, vol}
-use Rattle.book.specs.Decides.{Decides}
 use Rattle.book.specs.Holders.{visits}
 use Rattle.book.specs.Rows.{Rows, Lowest, Clear}
-use Rattle.book.specs.Rules.{Sound, rules}
-use Rattle.book.specs.Image.{pages, Whole, Ready}
-use Rattle.book.specs.Answers.{Numbers, numberOf, ruleOf, doneWith, refusedWith}
+use Rattle.book.specs.Image.{pages}
+use Rattle.book.specs.Answers.{numberOf, ruleOf, doneWith, refusedWith}
 use Rattle.book.specs.Outcome.{Call, asking, judged, Outcome, RuleFor}
 use Rattle.book.specs.Coincide.{broken-unsound}
 use Rattle.book.specs.Gate.{Shuts, Gated}
+use Rattle.book.specs.Enter.{Fit, Enters, Entered}
 use Rattle.book.specs.declared.Refusal.{Refusal}
 use Rattle.book.specs.declared.Refusal.the-variants.{Size, Argument, Unsound, Missing, Taken, Kind, HasFiles, Full, Allowance, Unreserved, NoRun}
 use Rattle.book.specs.declared.Gate.{Gate}
 use Rattle.book.specs.declared.Gate.the-variants.{Shut, Open}
+
+-- every refusal has a number
+pub number-pos : (w : Refusal) → 0 < numberOf w
+number-pos Size = omega arith
+number-pos Argument = omega arith
+number-pos (Unsound r) = omega arith
+number-pos Missing = omega arith
+number-pos Taken = omega arith
+number-pos Kind = omega arith
+number-pos HasFiles = omega arith
+number-pos Full = omega arith
+number-pos Allowance = omega arith
+number-pos Unreserved = omega arith
+number-pos NoRun = omega arith
+
+-- a refusal of a call's own: any but 1, 2 and 3
+abbrev pub Own : Refusal → Type 0
+Own Size = ⊥
+Own Argument = ⊥
+Own (Unsound r) = ⊥
+Own Missing = Unit {0}
+Own Taken = Unit {0}
+Own Kind = Unit {0}
+Own HasFiles = Unit {0}
+Own Full = Unit {0}
+Own Allowance = Unit {0}
+Own Unreserved = Unit {0}
+Own NoRun = Unit {0}
+
+-- it is told with rule 0, for its number is not 3
+own-plain : (w : Refusal) → Own w → (ruleOf w ≡ 0) × (numberOf w ≡ 3 → ⊥)
+own-plain Missing h = (refl, λ e. omega (arith, e))
+own-plain Taken h = (refl, λ e. omega (arith, e))
+own-plain Kind h = (refl, λ e. omega (arith, e))
+own-plain HasFiles h = (refl, λ e. omega (arith, e))
+own-plain Full h = (refl, λ e. omega (arith, e))
+own-plain Allowance h = (refl, λ e. omega (arith, e))
+own-plain Unreserved h = (refl, λ e. omega (arith, e))
+own-plain NoRun h = (refl, λ e. omega (arith, e))
 
 module _ {A : Type 0} (img : List ℕ) (args : Type 0) (rest : Rows) (none : A) (gives : A → Type 0) (after : Vol) where
   abbrev C : Call A
   C = asking img args rest none gives after
 
   -- refused with a number other than 3
-  no : (w : Refusal) → ruleOf w ≡ 0 → (numberOf w ≡ 3 → ⊥) → Lowest (C .table) (numberOf w) → Outcome C img (refusedWith none w) img
+  plain : (w : Refusal) → (ruleOf w ≡ 0) × (numberOf w ≡ 3 → ⊥) → Lowest (C .table) (numberOf w) → Outcome C img (refusedWith none w) img
   unfolding Outcome RuleFor asking
-  no w z h l = inl record { number = l; value = refl; rule = (λ e. absurd (h e), λ e. z); image = refl }
+  plain w p l = inl record { number = l; value = refl; rule = (λ e. absurd (p .1 e), λ e. p .0); image = refl }
 
-  refuse-size : (Whole img → ⊥) → Outcome C img (refusedWith none Size) img
+  shuts : (w : Refusal) → Shuts img args w → Outcome C img (refusedWith none w) img
+  unfolding asking judged Lowest Outcome RuleFor
+  shuts Size h = plain Size (refl, λ e. let z : ⊥ = omega arith in z) (inl (refl, h))
+  shuts Argument h = plain Argument (refl, λ e. let z : ⊥ = omega arith in z) (inr (h .0, inl (refl, h .1)))
+  shuts (Unsound r) h = inl record {
+    number = inr (h .0, inr (h .1, inl (refl, broken-unsound (pages img) (vol img) r (h .2))));
+    value = refl;
+    rule = (λ e. h .2, λ e. absurd (e refl));
+    image = refl;
+  }
+  shuts Missing h = absurd h
+  shuts Taken h = absurd h
+  shuts Kind h = absurd h
+  shuts HasFiles h = absurd h
+  shuts Full h = absurd h
+  shuts Allowance h = absurd h
+  shuts Unreserved h = absurd h
+  shuts NoRun h = absurd h
+
+  -- the gate is shut: that is the call's outcome
+  pub shut : {g : Gate} {w : Refusal} → Entered img args g → g ≡ Shut w → Outcome C img (refusedWith none w) img
+  shut {g} {w} h e = shuts w (subst (λ (x : Gate). Enters img args x) e (h .enters))
+
+  -- one of the call's own rows fails
+  pub refused : Fit img args → (w : Refusal) → Own w → Lowest rest (numberOf w) → Outcome C img (refusedWith none w) img
   unfolding asking judged Lowest
-  refuse-size h = no Size refl (λ e. let z : ⊥ = omega arith in z) (inl (refl, h))
+  refused f w o l = plain w (own-plain w o) (inr (f .ready .whole, inr (f .right, inr (f .ready .sound, l))))
 
-  module _ (W : Whole img) where
-    refuse-argument : (args → ⊥) → Outcome C img (refusedWith none Argument) img
-    unfolding asking judged Lowest
-    refuse-argument h = no Argument refl (λ e. let z : ⊥ = omega arith in z) (inr (W, inl (refl, h)))
+  -- all of them hold
+  pub finished : Fit img args → Clear rest → (x : A) → gives x → (img′ : List ℕ) → vol img′ ≡ after → length img′ ≡ length img → Outcome C img (doneWith x) img′
+  unfolding asking judged Clear Outcome
+  finished f c x g img′ e l = inr record { number = refl; clear = (f .ready .whole, (f .right, (f .ready .sound, c))); value = g; rule = refl; image = e; size = l }
 
-    module _ (a : args) where
-      refuse-unsound : (r : ℕ) → Lowest (rules (pages img) (vol img)) r → Outcome C img (refusedWith none (Unsound r)) img
-      unfolding asking judged Lowest Outcome RuleFor
-      refuse-unsound r l = inl record {
-        number = inr (W, inr (a, inl (refl, broken-unsound (pages img) (vol img) r l)));
-        value = refl;
-        rule = (λ e. l, λ e. absurd (e refl));
-        image = refl;
-      }
-
-  -- the call's own rows, on an image that is whole and sound
-  module _ (R : Ready img) (a : args) where
-    pub refuse : (w : Refusal) → ruleOf w ≡ 0 → (numberOf w ≡ 3 → ⊥) → Lowest rest (numberOf w) → Outcome C img (refusedWith none w) img
-    unfolding asking judged Lowest
-    refuse w z h l = no w z h (inr (R .whole, inr (a, inr (R .sound, l))))
-
-    pub done : Clear rest → (x : A) → gives x → (img′ : List ℕ) → vol img′ ≡ after → length img′ ≡ length img → Outcome C img (doneWith x) img′
-    unfolding asking judged Clear Outcome
-    done c x g img′ e l = inr record { number = refl; clear = (R .whole, (a, (R .sound, c))); value = g; rule = refl; image = e; size = l }
-
-  -- ---- through the gate
-
-  right : (ok : Bool) → Decides ok args → ok ≡ true → args
-  right ok d e = subst (λ (b : Bool). Decides b args) e d
-
-  wrong : (ok : Bool) → Decides ok args → ok ≡ false → args → ⊥
-  wrong ok d e = subst (λ (b : Bool). Decides b args) e d
-
-  module _ (ok : Bool) (d : Decides ok args) where
-    -- shut: that is the call's outcome
-    pub gate-shut : (g : Gate) (w : Refusal) → Gated img ok g → g ≡ Shut w → Outcome C img (refusedWith none w) img
-    gate-shut g w h e = go w (subst (λ (x : Gate). Gated img ok x) e h)
-      where
-        go : (w : Refusal) → Shuts img ok w → Outcome C img (refusedWith none w) img
-        go Size k = refuse-size k
-        go Argument k = refuse-argument (k .0) (wrong ok d (k .1))
-        go (Unsound r) k = refuse-unsound (k .0) (right ok d (k .1)) r (k .2)
-        go Missing k = absurd k
-        go Taken k = absurd k
-        go Kind k = absurd k
-        go HasFiles k = absurd k
-        go Full k = absurd k
-        go Allowance k = absurd k
-        go Unreserved k = absurd k
-        go NoRun k = absurd k
-
--- open: the arguments are right
-pub gate-args : (img : List ℕ) (args : Type 0) (ok : Bool) → Decides ok args → (g : Gate) (n : ℕ) → Gated img ok g → g ≡ Open n → args
-gate-args img args ok d g n h e = subst (λ (b : Bool). Decides b args) (subst (λ (x : Gate). Gated img ok x) e h .1) d
-
--- and the image is whole and sound
-pub gate-ready : (img : List ℕ) (ok : Bool) (g : Gate) (n : ℕ) → Gated img ok g → g ≡ Open n → Ready img
-gate-ready img ok g n h e = subst (λ (x : Gate). Gated img ok x) e h .0
-
--- and the visits are those of the volume
+-- an open gate of the check counts the volume's visits
 pub gate-visits : (img : List ℕ) (ok : Bool) (g : Gate) (n : ℕ) → Gated img ok g → g ≡ Open n → n ≡ visits (pages img) (vol img)
 gate-visits img ok g n h e = subst (λ (x : Gate). Gated img ok x) e h .2

@@ -3,13 +3,13 @@ use native.Mathlib.Omega.{arith}
 use mathlib.Core.Path.{_≡_, refl, sym, ap, subst, _∙_}
 use mathlib.Core.List.{List}
 use Prim.Native.Nat.{ℕ, _*_}
-use Rattle.book.specs.Answers.{Numbers, numbers, numberOf, holding, roleNumbers, holderNumbers}
+use Rattle.book.specs.Answers.{Numbers, numbers, holding, roleNumbers, holderNumbers}
 use Rattle.book.specs.Outcome.{Call, Outcome}
+use Rattle.book.specs.Return.{number-pos}
 use Rattle.book.specs.declared.Role.{Role}
 use Rattle.book.specs.declared.Holder.{Holder}
 use Rattle.book.specs.declared.Holding.{Holding}
 use Rattle.book.specs.declared.Refusal.{Refusal}
-use Rattle.book.specs.declared.Refusal.the-variants.{Size, Argument, Unsound, Missing, Taken, Kind, HasFiles, Full, Allowance, Unreserved, NoRun}
 use Rattle.book.specs.declared.Answer.{Answer}
 use Rattle.book.specs.declared.Answer.the-variants.{Done, Refused}
 use Rattle.edge.specs.Replied.{inNumbers, Replied, Spelled, Held, HeldBy, HeldAs, Placed, Lies}
@@ -36,20 +36,6 @@ pub lies : (C : Call ℕ) (img : List ℕ) (n : Numbers ℕ) (r : Part) → Outc
 unfolding Lies
 lies C img n r o s = (n, o, s)
 
--- a refusal has a number
-pub refused-number : (w : Refusal) → numberOf w ≡ 0 → ⊥
-refused-number Size e = let z : ⊥ = omega (arith, e) in z
-refused-number Argument e = let z : ⊥ = omega (arith, e) in z
-refused-number (Unsound r) e = let z : ⊥ = omega (arith, e) in z
-refused-number Missing e = let z : ⊥ = omega (arith, e) in z
-refused-number Taken e = let z : ⊥ = omega (arith, e) in z
-refused-number Kind e = let z : ⊥ = omega (arith, e) in z
-refused-number HasFiles e = let z : ⊥ = omega (arith, e) in z
-refused-number Full e = let z : ⊥ = omega (arith, e) in z
-refused-number Allowance e = let z : ⊥ = omega (arith, e) in z
-refused-number Unreserved e = let z : ⊥ = omega (arith, e) in z
-refused-number NoRun e = let z : ⊥ = omega (arith, e) in z
-
 pub placed-done : (a : Answer) (v : ℕ) (r : Part) → a ≡ Done v → r .offset ≡ 1024 * v → r .length ≡ 1024 → Placed (numbers a) r
 placed-done a v r e o l =
     subst (λ (b : Answer). Placed (numbers b) r) (sym e)
@@ -58,7 +44,7 @@ placed-done a v r e o l =
 pub placed-refused : (a : Answer) (w : Refusal) (r : Part) → a ≡ Refused w → r .offset ≡ 0 → r .length ≡ 0 → Placed (numbers a) r
 placed-refused a w r e o l =
     subst (λ (b : Answer). Placed (numbers b) r) (sym e)
-    ((λ k. absurd (refused-number w k)), (λ k. (o, l)))
+    ((λ k. let z : ⊥ = omega (arith, k, number-pos w) in absurd z), (λ k. (o, l)))
 
 pub held-role : (u f : ℕ) (x y : Role) (r : HolderReply) → x ≡ y → HeldBy (roleNumbers u f y) r → HeldBy (roleNumbers u f x) r
 held-role u f x y r e h = subst (λ (z : Role). HeldBy (roleNumbers u f z) r) (sym e) h

@@ -22,7 +22,7 @@ pub extern "C" fn nord_check(img: &[u16]) -> Reply
 pub extern "C" fn nord_find_user(img: &[u16], name: &[u8]) -> Reply
     ensures { λ r. ⌜ Replied (findUserCall (now (img .entry)) (now (name .entry))) (now (img .entry)) r (now (img .entry)) ⌝ }
 {
-    reply_of(nord::ask::find_user(img, name))
+    reply_of(nord::ask::find_user(img, false, name))
 }
 
 // The index of the user's file of that name and type.
@@ -30,7 +30,7 @@ pub extern "C" fn nord_find_user(img: &[u16], name: &[u8]) -> Reply
 pub extern "C" fn nord_find_file(img: &[u16], user: usize, name: &[u8], kind: &[u8]) -> Reply
     ensures { λ r. ⌜ Replied (findFileCall (now (img .entry)) user (now (name .entry)) (now (kind .entry))) (now (img .entry)) r (now (img .entry)) ⌝ }
 {
-    reply_of(nord::ask::find_file(img, user, name, kind))
+    reply_of(nord::ask::find_file(img, false, user, name, kind))
 }
 
 // The page at that position of the user's file.
@@ -38,7 +38,7 @@ pub extern "C" fn nord_find_file(img: &[u16], user: usize, name: &[u8], kind: &[
 pub extern "C" fn nord_address(img: &[u16], user: usize, file: usize, position: usize) -> Reply
     ensures { λ r. ⌜ Replied (addressCall (now (img .entry)) user file position) (now (img .entry)) r (now (img .entry)) ⌝ }
 {
-    reply_of(nord::ask::address(img, user, file, position))
+    reply_of(nord::ask::address(img, false, user, file, position))
 }
 
 // Who holds a page, or that it is free.
@@ -46,7 +46,7 @@ pub extern "C" fn nord_address(img: &[u16], user: usize, file: usize, position: 
 pub extern "C" fn nord_who_holds(img: &[u16], page: usize) -> HolderReply
     ensures { λ r. ⌜ Held (whoCall (now (img .entry)) page) (now (img .entry)) r ⌝ }
 {
-    holding_of(nord::ask::who_holds(img, page))
+    holding_of(nord::ask::who_holds(img, false, page))
 }
 
 // Where the page at that position of the user's file lies in the image.
@@ -54,7 +54,7 @@ pub extern "C" fn nord_who_holds(img: &[u16], page: usize) -> HolderReply
 pub extern "C" fn nord_read_page(img: &[u16], user: usize, file: usize, position: usize) -> Part
     ensures { λ r. ⌜ Lies (addressCall (now (img .entry)) user file position) (now (img .entry)) r ⌝ }
 {
-    part_of(nord::ask::address(img, user, file, position))
+    part_of(nord::ask::address(img, false, user, file, position))
 }
 
 // Lists the image: writes the text as far as the buffer reaches, and gives the whole length of the text.

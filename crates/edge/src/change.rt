@@ -26,7 +26,7 @@ pub extern "C" fn nord_format_default(img: &mut [u16], name: &[u8]) -> Reply
 pub extern "C" fn nord_create_user(img: &mut [u16], name: &[u8]) -> Reply
     ensures { λ r. ⌜ Replied (createUserCall (now (img .entry)) (now (name .entry))) (now (img .entry)) r (now (img .exit)) ⌝ }
 {
-    reply_of(nord::users::create_user(img, name))
+    reply_of(nord::users::create_user(img, false, name))
 }
 
 // Deletes a user that has no file.
@@ -34,23 +34,23 @@ pub extern "C" fn nord_create_user(img: &mut [u16], name: &[u8]) -> Reply
 pub extern "C" fn nord_delete_user(img: &mut [u16], user: usize) -> Reply
     ensures { λ r. ⌜ Replied (deleteUserCall (now (img .entry)) user) (now (img .entry)) r (now (img .exit)) ⌝ }
 {
-    reply_of(nord::change::delete_user(img, user))
+    reply_of(nord::change::delete_user(img, false, user))
 }
 
 // Moves pages from unreserved to the user's given pages.
 #[no_mangle]
-pub extern "C" fn nord_give(img: &mut [u16], user: usize, count: u32) -> Reply
+pub extern "C" fn nord_give(img: &mut [u16], user: usize, count: usize) -> Reply
     ensures { λ r. ⌜ Replied (giveCall (now (img .entry)) user count) (now (img .entry)) r (now (img .exit)) ⌝ }
 {
-    reply_of(nord::change::give(img, user, count))
+    reply_of(nord::change::give(img, false, user, count))
 }
 
 // Moves them back.
 #[no_mangle]
-pub extern "C" fn nord_take(img: &mut [u16], user: usize, count: u32) -> Reply
+pub extern "C" fn nord_take(img: &mut [u16], user: usize, count: usize) -> Reply
     ensures { λ r. ⌜ Replied (takeCall (now (img .entry)) user count) (now (img .entry)) r (now (img .exit)) ⌝ }
 {
-    reply_of(nord::change::take(img, user, count))
+    reply_of(nord::change::take(img, false, user, count))
 }
 
 // Creates an empty indexed file.
@@ -64,7 +64,7 @@ pub extern "C" fn nord_create_indexed(
 ) -> Reply
     ensures { λ r. ⌜ Replied (createIndexedCall (now (img .entry)) user (now (name .entry)) (now (kind .entry)) created) (now (img .entry)) r (now (img .exit)) ⌝ }
 {
-    reply_of(nord::files::create_indexed(img, user, name, kind, created))
+    reply_of(nord::files::create_indexed(img, false, user, name, kind, created))
 }
 
 // Creates a contiguous file of that many pages.
@@ -75,11 +75,11 @@ pub extern "C" fn nord_create_contiguous(
     name: &[u8],
     kind: &[u8],
     created: u32,
-    count: u32,
+    count: usize,
 ) -> Reply
     ensures { λ r. ⌜ Replied (createContiguousCall (now (img .entry)) user (now (name .entry)) (now (kind .entry)) created count) (now (img .entry)) r (now (img .exit)) ⌝ }
 {
-    reply_of(nord::files::create_contiguous(img, user, name, kind, created, count))
+    reply_of(nord::files::create_contiguous(img, false, user, name, kind, created, count))
 }
 
 // Grows an indexed file by one page: done with the page's number.
@@ -87,7 +87,7 @@ pub extern "C" fn nord_create_contiguous(
 pub extern "C" fn nord_grow(img: &mut [u16], user: usize, file: usize) -> Reply
     ensures { λ r. ⌜ Replied (growCall (now (img .entry)) user file) (now (img .entry)) r (now (img .exit)) ⌝ }
 {
-    reply_of(nord::files::grow(img, user, file))
+    reply_of(nord::files::grow(img, false, user, file))
 }
 
 // Shrinks an indexed file by its last page.
@@ -95,7 +95,7 @@ pub extern "C" fn nord_grow(img: &mut [u16], user: usize, file: usize) -> Reply
 pub extern "C" fn nord_shrink(img: &mut [u16], user: usize, file: usize) -> Reply
     ensures { λ r. ⌜ Replied (shrinkCall (now (img .entry)) user file) (now (img .entry)) r (now (img .exit)) ⌝ }
 {
-    reply_of(nord::files::shrink(img, user, file))
+    reply_of(nord::files::shrink(img, false, user, file))
 }
 
 // Deletes a file.
@@ -103,7 +103,7 @@ pub extern "C" fn nord_shrink(img: &mut [u16], user: usize, file: usize) -> Repl
 pub extern "C" fn nord_delete_file(img: &mut [u16], user: usize, file: usize) -> Reply
     ensures { λ r. ⌜ Replied (deleteFileCall (now (img .entry)) user file) (now (img .entry)) r (now (img .exit)) ⌝ }
 {
-    reply_of(nord::files::delete_file(img, user, file))
+    reply_of(nord::files::delete_file(img, false, user, file))
 }
 
 // Writes the page at that position of the user's file.
@@ -117,7 +117,7 @@ pub extern "C" fn nord_write_page(
 ) -> Reply
     ensures { λ r. ⌜ Replied (writeCall (now (img .entry)) user file position (now («data» .entry))) (now (img .entry)) r (now (img .exit)) ⌝ }
 {
-    reply_of(nord::change::write_page(img, user, file, position, data))
+    reply_of(nord::change::write_page(img, false, user, file, position, data))
 }
 
 // Notes an open of the user's file.
@@ -125,5 +125,5 @@ pub extern "C" fn nord_write_page(
 pub extern "C" fn nord_note_open(img: &mut [u16], user: usize, file: usize) -> Reply
     ensures { λ r. ⌜ Replied (openCall (now (img .entry)) user file) (now (img .entry)) r (now (img .exit)) ⌝ }
 {
-    reply_of(nord::change::note_open(img, user, file))
+    reply_of(nord::change::note_open(img, false, user, file))
 }

@@ -1,4 +1,5 @@
-// The calls of crate nord for C: numbers and lent slices in, structs of numbers out. host/include/nord.h declares them.
+// The calls of crate nord, and crate run's list of calls, for C: numbers and lent slices in, structs of numbers out. host/include/nord.h declares them.
 pub mod ask;
 pub mod change;
 pub mod spell;
+pub mod steps;

@@ -13,11 +13,11 @@ use Rattle.book.specs.Rows.{Clear}
 use Rattle.book.specs.Outcome.{call}
 use Rattle.book.specs.Calls.{checkCall}
 use Rattle.book.specs.Gate.{Gated}
-use Rattle.book.specs.Return.{gate-shut, gate-ready, gate-visits, done}
+use Rattle.book.specs.Enter.{Entered, gated, entered, fit}
+use Rattle.book.specs.Return.{number-pos, shut, finished, gate-visits}
 use Rattle.book.specs.declared.Gate.{Gate}
 use Rattle.book.specs.declared.Gate.the-variants.{Shut, Open}
 use Rattle.book.specs.declared.Refusal.{Refusal}
-use Rattle.book.specs.declared.Refusal.the-variants.{Size, Argument, Unsound, Missing, Taken, Kind, HasFiles, Full, Allowance, Unreserved, NoRun}
 use Rattle.book.specs.Listing.{Bytes, field, refusedIs, ruleIs, newline, refusedLine, listing, report, Listed, Reported}
 use Rattle.listing.specs.Wrote.{Wrote}
 use Rattle.listing.proofs.Writing.{wrote-shown}
@@ -35,30 +35,19 @@ refused-rule n r e =
     let i : 0 < is n 3 = omega (arith, is-same 3, ap (λ (x : ℕ). is x 3) e) in
     ap (λ (t : Bytes). field refusedIs n ++ t ++ newline) (sym (pick-yes (is n 3) (field ruleIs r) [] i))
 
--- every refusal has a number
-number-pos : (w : Refusal) → 0 < numberOf w
-number-pos Size = omega arith
-number-pos Argument = omega arith
-number-pos (Unsound r) = omega arith
-number-pos Missing = omega arith
-number-pos Taken = omega arith
-number-pos Kind = omega arith
-number-pos HasFiles = omega arith
-number-pos Full = omega arith
-number-pos Allowance = omega arith
-number-pos Unreserved = omega arith
-number-pos NoRun = omega arith
-
 -- ---- what the buffer then shows, through the gate
 
 module _ (img : List ℕ) (o out : Bytes) (r : ℕ) (g : Gate) (G : Gated img true g) where
+  in-gate : Entered img (Unit {0}) g
+  in-gate = entered img (Unit {0}) true tt g (gated img true g G)
+
   pub reported-shut : {w : Refusal} → g ≡ Shut w → Wrote (refusedLine (numberOf w) (ruleOf w)) o 0 out r → Reported img o out r
   unfolding Listed report checkCall call
   reported-shut {w} e t =
-      (refusedLine (numberOf w) (ruleOf w), (refusedWith 0 w, gate-shut img _ _ _ _ _ true tt g w G e, sym (pick-yes (numberOf w) _ _ (number-pos w))), wrote-shown t)
+      (refusedLine (numberOf w) (ruleOf w), (refusedWith 0 w, shut img _ _ _ _ _ in-gate e, sym (pick-yes (numberOf w) _ _ (number-pos w))), wrote-shown t)
 
   pub reported-open : {n : ℕ} → g ≡ Open n → Wrote (listing (pages img) (vol img)) o 0 out r → Reported img o out r
   unfolding Listed report checkCall call Clear
   reported-open {n} e t =
-      let c = done img _ _ _ _ _ (gate-ready img true g n G e) tt tt n (gate-visits img true g n G e) img refl refl in
+      let c = finished img _ _ _ _ _ (fit in-gate e) tt n (gate-visits img true g n G e) img refl refl in
       (listing (pages img) (vol img), (doneWith n, c, sym (pick-no 0 _ _ refl)), wrote-shown t)

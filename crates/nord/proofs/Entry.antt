@@ -1,4 +1,4 @@
--- A file's entry by its number. Assumes nothing.
+-- A file's entry by its number, and a count by its 32 bits. Assumes nothing.
 use mathlib.Core.Path.{_≡_, sym, ap, _∙_, subst}
 use mathlib.Core.List.{List}
 use Prim.Native.Nat.{ℕ, _<_}
@@ -7,6 +7,8 @@ use Rattle.book.specs.Entries.{object, used, pageCount}
 use Rattle.book.specs.Files.{need}
 use Rattle.book.specs.Steps.{openStep, writeStep}
 use Rattle.book.specs.Create.{userNeed, fileNeed}
+use Rattle.book.specs.Answers.{Numbers}
+use Rattle.book.specs.Outcome.{Call, Outcome}
 use Rattle.book.specs.Calls.{Grows, Shrinks}
 
 module _ (v : Vol) (e d : ℕ) (q : e ≡ d) where
@@ -43,3 +45,7 @@ module _ (v : Vol) (e d : ℕ) (q : e ≡ d) where
 
   pub user-need-of : userNeed v e ≡ userNeed v d
   user-need-of = ap (userNeed v) q
+
+-- a call of the count that was read
+pub short-count : (C : ℕ → Call ℕ) (img : List ℕ) (r : Numbers ℕ) (img′ : List ℕ) (n m : ℕ) → n ≡ m → Outcome (C n) img r img′ → Outcome (C m) img r img′
+short-count C img r img′ n m e o = subst (λ (x : ℕ). Outcome (C x) img r img′) e o

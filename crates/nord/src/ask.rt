@@ -1,18 +1,20 @@
-// The calls that change nothing.
-use crate::args::file_args;
-use crate::args::name_args;
+// The calls that change nothing: check, find a user or a file, a page's address, read a page, who holds a page.
+use crate::enter::enter_file;
+use crate::enter::enter_name;
+use crate::enter::enter_names;
+use crate::enter::enter_page;
+use crate::width::short;
 use book::Answer;
 use book::Gate;
 use book::Holding;
 use book::Refusal;
 use seek::Found;
-ghost use mathlib.Core.Path.{_≡_};
-ghost use Prim.Native.Nat.{_<_};
-ghost use Rattle.book.specs.Decides.{Decides};
-ghost use Rattle.book.specs.Image.{pages, PageArg};
+ghost use Rattle.book.specs.Image.{pages, IndexArg, PageArg};
+ghost use Rattle.book.specs.Names.{NameText, TypeText};
 ghost use Rattle.book.specs.Answers.{numbers, holding};
 ghost use Rattle.book.specs.Outcome.{Outcome, Gives};
 ghost use Rattle.book.specs.Calls.{checkCall, findUserCall, findFileCall, addressCall, readCall, whoCall};
+ghost use Rattle.book.specs.Enter.{Known, Fit};
 
 // Judges the image: done with the pages visited, or 3 with the lowest broken rule.
 pub fn check(img: &[u16]) -> Answer
@@ -25,15 +27,11 @@ pub fn check(img: &[u16]) -> Answer
     }
 }
 
-// The index of the user of that name.
-pub fn find_user(img: &[u16], name: &[u8]) -> Answer
+// Find user on a ready image: number 4, or the index.
+fn find_user_open(img: &[u16], name: &[u8]) -> Answer
+    requires { ⌜ Fit (now img) (NameText (now name)) ⌝ }
     ensures { λ r. ⌜ Outcome (findUserCall (now (img .entry)) (now (name .entry))) (now (img .entry)) (numbers r) (now (img .entry)) ⌝ }
 {
-    let ok = page::names::text(name, 1, 16);
-    let g = sound::gate(img, ok);
-    if let Gate::Shut { why } = g {
-        return Answer::Refused { why };
-    }
     let found = seek::find::find_user(img, name);
     let Found::At { index } = found else {
         return Answer::Refused {
@@ -43,15 +41,23 @@ pub fn find_user(img: &[u16], name: &[u8]) -> Answer
     Answer::Done { value: index }
 }
 
-// The index of the user's file of that name and type.
-pub fn find_file(img: &[u16], user: usize, name: &[u8], kind: &[u8]) -> Answer
-    ensures { λ r. ⌜ Outcome (findFileCall (now (img .entry)) user (now (name .entry)) (now (kind .entry))) (now (img .entry)) (numbers r) (now (img .entry)) ⌝ }
+// The index of the user of that name.
+pub fn find_user(img: &[u16], known: bool, name: &[u8]) -> Answer
+    requires { ⌜ Known known (now img) ⌝ }
+    ensures { λ r. ⌜ Outcome (findUserCall (now (img .entry)) (now (name .entry))) (now (img .entry)) (numbers r) (now (img .entry)) ⌝ }
 {
-    let ok = name_args(user, name, kind);
-    let g = sound::gate(img, ok);
+    let g = enter_name(img, known, name);
     if let Gate::Shut { why } = g {
         return Answer::Refused { why };
     }
+    find_user_open(img, name)
+}
+
+// Find file on a ready image: number 4, or the index.
+fn find_file_open(img: &[u16], user: usize, name: &[u8], kind: &[u8]) -> Answer
+    requires { ⌜ Fit (now img) (IndexArg user × NameText (now name) × TypeText (now kind)) ⌝ }
+    ensures { λ r. ⌜ Outcome (findFileCall (now (img .entry)) user (now (name .entry)) (now (kind .entry))) (now (img .entry)) (numbers r) (now (img .entry)) ⌝ }
+{
     if !seek::users::has_user(img, user) {
         return Answer::Refused {
             why: Refusal::Missing,
@@ -66,22 +72,23 @@ pub fn find_file(img: &[u16], user: usize, name: &[u8], kind: &[u8]) -> Answer
     Answer::Done { value: index }
 }
 
-fn short(x: usize) -> u32
-    requires { ⌜ x < 4294967296 ⌝ }
-    ensures { λ r. ⌜ r ≡ x ⌝ }
+// The index of the user's file of that name and type.
+pub fn find_file(img: &[u16], known: bool, user: usize, name: &[u8], kind: &[u8]) -> Answer
+    requires { ⌜ Known known (now img) ⌝ }
+    ensures { λ r. ⌜ Outcome (findFileCall (now (img .entry)) user (now (name .entry)) (now (kind .entry))) (now (img .entry)) (numbers r) (now (img .entry)) ⌝ }
 {
-    x as u32
-}
-
-// The page of position n of the user's file.
-pub fn address(img: &[u16], user: usize, file: usize, n: usize) -> Answer
-    ensures { λ r. ⌜ Outcome (addressCall (now (img .entry)) user file n) (now (img .entry)) (numbers r) (now (img .entry)) ⌝ }
-{
-    let ok = file_args(user, file);
-    let g = sound::gate(img, ok);
+    let g = enter_names(img, known, user, name, kind);
     if let Gate::Shut { why } = g {
         return Answer::Refused { why };
     }
+    find_file_open(img, user, name, kind)
+}
+
+// Address on a ready image: number 4, or the page.
+fn address_open(img: &[u16], user: usize, file: usize, n: usize) -> Answer
+    requires { ⌜ Fit (now img) (IndexArg user × IndexArg file) ⌝ }
+    ensures { λ r. ⌜ Outcome (addressCall (now (img .entry)) user file n) (now (img .entry)) (numbers r) (now (img .entry)) ⌝ }
+{
     if !seek::positions::has_position(img, user, file, n) {
         return Answer::Refused {
             why: Refusal::Missing,
@@ -91,41 +98,59 @@ pub fn address(img: &[u16], user: usize, file: usize, n: usize) -> Answer
     Answer::Done { value }
 }
 
-// The 1,024 words of that page, or an empty part where the address call would refuse.
-pub fn read_page(img: &[u16], user: usize, file: usize, n: usize) -> &[u16]
+// The page of position n of the user's file.
+pub fn address(img: &[u16], known: bool, user: usize, file: usize, n: usize) -> Answer
+    requires { ⌜ Known known (now img) ⌝ }
+    ensures { λ r. ⌜ Outcome (addressCall (now (img .entry)) user file n) (now (img .entry)) (numbers r) (now (img .entry)) ⌝ }
+{
+    let g = enter_file(img, known, user, file);
+    if let Gate::Shut { why } = g {
+        return Answer::Refused { why };
+    }
+    address_open(img, user, file, n)
+}
+
+// Read on a ready image: the page, or an empty part where the position is missing.
+fn read_page_open(img: &[u16], user: usize, file: usize, n: usize) -> &[u16]
+    requires { ⌜ Fit (now img) (IndexArg user × IndexArg file) ⌝ }
     ensures { λ r. ⌜ Gives (readCall (now (img .entry)) user file n) (now (img .entry)) (now r) ⌝ }
 {
-    let ok = file_args(user, file);
-    let g = sound::gate(img, ok);
-    if let Gate::Shut { why: _ } = g {
-        return seek::part::empty(img);
-    }
     if !seek::positions::has_position(img, user, file, n) {
         return seek::part::empty(img);
     }
     seek::part::page_part(img, seek::positions::address(img, user, file, n))
 }
 
-// Number 2 of who-holds: a page number not below P.
-fn page_arg(img: &[u16], p: usize) -> bool
-    ensures { λ r. ⌜ Decides r (PageArg (pages (now (img .entry))) p) ⌝ }
+// The 1,024 words of that page, or an empty part where the address call would refuse.
+pub fn read_page(img: &[u16], known: bool, user: usize, file: usize, n: usize) -> &[u16]
+    requires { ⌜ Known known (now img) ⌝ }
+    ensures { λ r. ⌜ Gives (readCall (now (img .entry)) user file n) (now (img .entry)) (now r) ⌝ }
 {
-    if img.len() / page::WORDS <= p {
-        return false;
+    let g = enter_file(img, known, user, file);
+    if let Gate::Shut { why: _ } = g {
+        return seek::part::empty(img);
     }
-    true
+    read_page_open(img, user, file, n)
 }
 
-// Who holds page p, or that it is free.
-pub fn who_holds(img: &[u16], p: usize) -> Holding
+// Who-holds on a ready image: it has no number of its own.
+fn who_holds_open(img: &[u16], p: usize) -> Holding
+    requires { ⌜ Fit (now img) (PageArg (pages (now img)) p) ⌝ }
     ensures { λ r. ⌜ Outcome (whoCall (now (img .entry)) p) (now (img .entry)) (holding r) (now (img .entry)) ⌝ }
 {
-    let ok = page_arg(img, p);
-    let g = sound::gate(img, ok);
-    if let Gate::Shut { why } = g {
-        return Holding::Refused { why };
-    }
     Holding::By {
         holder: who::tell::who(img, p),
     }
+}
+
+// Who holds page p, or that it is free.
+pub fn who_holds(img: &[u16], known: bool, p: usize) -> Holding
+    requires { ⌜ Known known (now img) ⌝ }
+    ensures { λ r. ⌜ Outcome (whoCall (now (img .entry)) p) (now (img .entry)) (holding r) (now (img .entry)) ⌝ }
+{
+    let g = enter_page(img, known, p);
+    if let Gate::Shut { why } = g {
+        return Holding::Refused { why };
+    }
+    who_holds_open(img, p)
 }

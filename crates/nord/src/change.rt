@@ -1,30 +1,28 @@
 // Calls that change a volume and allocate no page: format, delete a user, give and take pages, write a page, note an open.
-use crate::args::count_args;
-use crate::args::file_args;
-use crate::args::page_args;
-use crate::args::user_arg;
+use crate::enter::enter_count;
+use crate::enter::enter_data;
+use crate::enter::enter_file;
+use crate::enter::enter_user;
+use crate::width::short;
 use book::Answer;
 use book::Gate;
 use book::Refusal;
 use seek::files::entry_number;
-use sound::gate;
 ghost use mathlib.Core.Path.{_≡_};
 ghost use Prim.Native.Nat.{_<_};
 ghost use Rattle.book.specs.Decides.{Decides};
 ghost use Rattle.book.specs.Names.{NameText};
+ghost use Rattle.book.specs.Image.{IndexArg, CountArg, DataArg};
 ghost use Rattle.book.specs.Answers.{numbers};
 ghost use Rattle.book.specs.Outcome.{Outcome};
 ghost use Rattle.book.specs.Calls.{giveCall, takeCall, deleteUserCall, openCall, writeCall, formatCall, formatDefaultCall};
+ghost use Rattle.book.specs.Enter.{Known, Fit};
 
-// Moves pages from unreserved to the user's given pages.
-pub fn give(img: &mut [u16], user: usize, count: u32) -> Answer
+// Give on a ready image: numbers 4 and 10, then the step.
+fn give_open(img: &mut [u16], user: usize, count: u32) -> Answer
+    requires { ⌜ Fit (now img) (IndexArg user × CountArg count) ⌝ }
     ensures { λ r. ⌜ Outcome (giveCall (now (img .entry)) user count) (now (img .entry)) (numbers r) (now (img .exit)) ⌝ }
 {
-    let ok = count_args(user, count);
-    let g = gate(img, ok);
-    if let Gate::Shut { why } = g {
-        return Answer::Refused { why };
-    }
     if !seek::users::has_user(img, user) {
         return Answer::Refused {
             why: Refusal::Missing,
@@ -39,15 +37,23 @@ pub fn give(img: &mut [u16], user: usize, count: u32) -> Answer
     Answer::Done { value: 0 }
 }
 
-// Moves them back.
-pub fn take(img: &mut [u16], user: usize, count: u32) -> Answer
-    ensures { λ r. ⌜ Outcome (takeCall (now (img .entry)) user count) (now (img .entry)) (numbers r) (now (img .exit)) ⌝ }
+// Moves pages from unreserved to the user's given pages.
+pub fn give(img: &mut [u16], known: bool, user: usize, count: usize) -> Answer
+    requires { ⌜ Known known (now img) ⌝ }
+    ensures { λ r. ⌜ Outcome (giveCall (now (img .entry)) user count) (now (img .entry)) (numbers r) (now (img .exit)) ⌝ }
 {
-    let ok = count_args(user, count);
-    let g = gate(img, ok);
+    let g = enter_count(img, known, user, count);
     if let Gate::Shut { why } = g {
         return Answer::Refused { why };
     }
+    give_open(img, user, short(count))
+}
+
+// Take on a ready image: numbers 4 and 9, then the step.
+fn take_open(img: &mut [u16], user: usize, count: u32) -> Answer
+    requires { ⌜ Fit (now img) (IndexArg user × CountArg count) ⌝ }
+    ensures { λ r. ⌜ Outcome (takeCall (now (img .entry)) user count) (now (img .entry)) (numbers r) (now (img .exit)) ⌝ }
+{
     if !seek::users::has_user(img, user) {
         return Answer::Refused {
             why: Refusal::Missing,
@@ -62,15 +68,23 @@ pub fn take(img: &mut [u16], user: usize, count: u32) -> Answer
     Answer::Done { value: 0 }
 }
 
-// Deletes a user that has no file.
-pub fn delete_user(img: &mut [u16], user: usize) -> Answer
-    ensures { λ r. ⌜ Outcome (deleteUserCall (now (img .entry)) user) (now (img .entry)) (numbers r) (now (img .exit)) ⌝ }
+// Moves them back.
+pub fn take(img: &mut [u16], known: bool, user: usize, count: usize) -> Answer
+    requires { ⌜ Known known (now img) ⌝ }
+    ensures { λ r. ⌜ Outcome (takeCall (now (img .entry)) user count) (now (img .entry)) (numbers r) (now (img .exit)) ⌝ }
 {
-    let ok = user_arg(user);
-    let g = gate(img, ok);
+    let g = enter_count(img, known, user, count);
     if let Gate::Shut { why } = g {
         return Answer::Refused { why };
     }
+    take_open(img, user, short(count))
+}
+
+// Delete user on a ready image: numbers 4 and 7, then the step.
+fn delete_user_open(img: &mut [u16], user: usize) -> Answer
+    requires { ⌜ Fit (now img) (IndexArg user) ⌝ }
+    ensures { λ r. ⌜ Outcome (deleteUserCall (now (img .entry)) user) (now (img .entry)) (numbers r) (now (img .exit)) ⌝ }
+{
     if !seek::users::has_user(img, user) {
         return Answer::Refused {
             why: Refusal::Missing,
@@ -85,15 +99,23 @@ pub fn delete_user(img: &mut [u16], user: usize) -> Answer
     Answer::Done { value: 0 }
 }
 
-// Notes an open of the user's file.
-pub fn note_open(img: &mut [u16], user: usize, file: usize) -> Answer
-    ensures { λ r. ⌜ Outcome (openCall (now (img .entry)) user file) (now (img .entry)) (numbers r) (now (img .exit)) ⌝ }
+// Deletes a user that has no file.
+pub fn delete_user(img: &mut [u16], known: bool, user: usize) -> Answer
+    requires { ⌜ Known known (now img) ⌝ }
+    ensures { λ r. ⌜ Outcome (deleteUserCall (now (img .entry)) user) (now (img .entry)) (numbers r) (now (img .exit)) ⌝ }
 {
-    let ok = file_args(user, file);
-    let g = gate(img, ok);
+    let g = enter_user(img, known, user);
     if let Gate::Shut { why } = g {
         return Answer::Refused { why };
     }
+    delete_user_open(img, user)
+}
+
+// Note open on a ready image: number 4, then the step.
+fn note_open_open(img: &mut [u16], user: usize, file: usize) -> Answer
+    requires { ⌜ Fit (now img) (IndexArg user × IndexArg file) ⌝ }
+    ensures { λ r. ⌜ Outcome (openCall (now (img .entry)) user file) (now (img .entry)) (numbers r) (now (img .exit)) ⌝ }
+{
     if !seek::files::has_file(img, user, file) {
         return Answer::Refused {
             why: Refusal::Missing,
@@ -104,15 +126,23 @@ pub fn note_open(img: &mut [u16], user: usize, file: usize) -> Answer
     Answer::Done { value: 0 }
 }
 
-// Writes the page at position n of the user's file.
-pub fn write_page(img: &mut [u16], user: usize, file: usize, n: usize, data: &[u16]) -> Answer
-    ensures { λ r. ⌜ Outcome (writeCall (now (img .entry)) user file n (now («data» .entry))) (now (img .entry)) (numbers r) (now (img .exit)) ⌝ }
+// Notes an open of the user's file.
+pub fn note_open(img: &mut [u16], known: bool, user: usize, file: usize) -> Answer
+    requires { ⌜ Known known (now img) ⌝ }
+    ensures { λ r. ⌜ Outcome (openCall (now (img .entry)) user file) (now (img .entry)) (numbers r) (now (img .exit)) ⌝ }
 {
-    let ok = page_args(user, file, data);
-    let g = gate(img, ok);
+    let g = enter_file(img, known, user, file);
     if let Gate::Shut { why } = g {
         return Answer::Refused { why };
     }
+    note_open_open(img, user, file)
+}
+
+// Write on a ready image: number 4, then the step.
+fn write_page_open(img: &mut [u16], user: usize, file: usize, n: usize, data: &[u16]) -> Answer
+    requires { ⌜ Fit (now img) (IndexArg user × IndexArg file × DataArg (now «data»)) ⌝ }
+    ensures { λ r. ⌜ Outcome (writeCall (now (img .entry)) user file n (now («data» .entry))) (now (img .entry)) (numbers r) (now (img .exit)) ⌝ }
+{
     if !seek::positions::has_position(img, user, file, n) {
         return Answer::Refused {
             why: Refusal::Missing,
@@ -121,6 +151,25 @@ pub fn write_page(img: &mut [u16], user: usize, file: usize, n: usize, data: &[u
     let e = entry_number(user, file);
     steps::write::write_step(img, e, n, data);
     Answer::Done { value: 0 }
+}
+
+// Writes the page at position n of the user's file.
+pub fn write_page(
+    img: &mut [u16],
+    known: bool,
+    user: usize,
+    file: usize,
+    n: usize,
+    data: &[u16],
+) -> Answer
+    requires { ⌜ Known known (now img) ⌝ }
+    ensures { λ r. ⌜ Outcome (writeCall (now (img .entry)) user file n (now («data» .entry))) (now (img .entry)) (numbers r) (now (img .exit)) ⌝ }
+{
+    let g = enter_data(img, known, user, file, data);
+    if let Gate::Shut { why } = g {
+        return Answer::Refused { why };
+    }
+    write_page_open(img, user, file, n, data)
 }
 
 // Whether a name and a bit page are right for a format of so many pages.

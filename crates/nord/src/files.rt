@@ -1,19 +1,21 @@
 // Creating a file, indexed or contiguous; growing and shrinking it by one page; deleting it.
-use crate::args::file_args;
-use crate::args::name_args;
-use crate::args::run_args;
-use crate::users::index;
+use crate::enter::enter_file;
+use crate::enter::enter_names;
+use crate::enter::enter_run;
+use crate::width::short;
 use book::Answer;
 use book::Gate;
 use book::Refusal;
 use seek::Found;
 ghost use Prim.Native.Nat.{_<_};
 ghost use Rattle.book.specs.Words.{vol};
-ghost use Rattle.book.specs.Image.{Ready};
+ghost use Rattle.book.specs.Names.{NameText, TypeText};
 ghost use Rattle.nord.specs.Fresh.{Fresh};
+ghost use Rattle.book.specs.Image.{Ready, IndexArg, CountArg};
 ghost use Rattle.book.specs.Answers.{numbers};
 ghost use Rattle.book.specs.Outcome.{Outcome};
 ghost use Rattle.book.specs.Calls.{createIndexedCall, createContiguousCall, growCall, shrinkCall, deleteFileCall};
+ghost use Rattle.book.specs.Enter.{Known, Fit};
 
 // Numbers 4, 5 and 8 of the calls that create a file, then the user's lowest unused index.
 fn new_file(img: &[u16], user: usize, name: &[u8], kind: &[u8]) -> Answer
@@ -35,24 +37,20 @@ fn new_file(img: &[u16], user: usize, name: &[u8], kind: &[u8]) -> Answer
     if 255 < f {
         return Answer::Refused { why: Refusal::Full };
     }
-    Answer::Done { value: index(f) }
+    Answer::Done { value: short(f) }
 }
 
-// Creates an empty indexed file of that name and type, at the user's lowest unused index.
-pub fn create_indexed(
+// Create indexed on a ready image: numbers 4, 5, 8 and 10, then the step.
+fn create_indexed_open(
     img: &mut [u16],
     user: usize,
     name: &[u8],
     kind: &[u8],
     created: u32,
 ) -> Answer
+    requires { ⌜ Fit (now img) (IndexArg user × NameText (now name) × TypeText (now kind)) ⌝ }
     ensures { λ r. ⌜ Outcome (createIndexedCall (now (img .entry)) user (now (name .entry)) (now (kind .entry)) created) (now (img .entry)) (numbers r) (now (img .exit)) ⌝ }
 {
-    let ok = name_args(user, name, kind);
-    let g = sound::gate(img, ok);
-    if let Gate::Shut { why } = g {
-        return Answer::Refused { why };
-    }
     let fresh = new_file(img, user, name, kind);
     let Answer::Done { value } = fresh else {
         return fresh;
@@ -68,8 +66,27 @@ pub fn create_indexed(
     Answer::Done { value }
 }
 
-// Creates a contiguous file of that many pages, at the highest run that the system pages leave.
-pub fn create_contiguous(
+// Creates an empty indexed file of that name and type, at the user's lowest unused index.
+pub fn create_indexed(
+    img: &mut [u16],
+    known: bool,
+    user: usize,
+    name: &[u8],
+    kind: &[u8],
+    created: u32,
+) -> Answer
+    requires { ⌜ Known known (now img) ⌝ }
+    ensures { λ r. ⌜ Outcome (createIndexedCall (now (img .entry)) user (now (name .entry)) (now (kind .entry)) created) (now (img .entry)) (numbers r) (now (img .exit)) ⌝ }
+{
+    let g = enter_names(img, known, user, name, kind);
+    if let Gate::Shut { why } = g {
+        return Answer::Refused { why };
+    }
+    create_indexed_open(img, user, name, kind, created)
+}
+
+// Create contiguous on a ready image: numbers 4, 5 and 8 to 11, then the step.
+fn create_contiguous_open(
     img: &mut [u16],
     user: usize,
     name: &[u8],
@@ -77,13 +94,9 @@ pub fn create_contiguous(
     created: u32,
     count: u32,
 ) -> Answer
+    requires { ⌜ Fit (now img) (IndexArg user × NameText (now name) × TypeText (now kind) × CountArg count) ⌝ }
     ensures { λ r. ⌜ Outcome (createContiguousCall (now (img .entry)) user (now (name .entry)) (now (kind .entry)) created count) (now (img .entry)) (numbers r) (now (img .exit)) ⌝ }
 {
-    let ok = run_args(user, name, kind, count);
-    let g = sound::gate(img, ok);
-    if let Gate::Shut { why } = g {
-        return Answer::Refused { why };
-    }
     let fresh = new_file(img, user, name, kind);
     let Answer::Done { value } = fresh else {
         return fresh;
@@ -110,15 +123,31 @@ pub fn create_contiguous(
     Answer::Done { value }
 }
 
-// Grows an indexed file by one page: done with the page's number.
-pub fn grow(img: &mut [u16], user: usize, file: usize) -> Answer
-    ensures { λ r. ⌜ Outcome (growCall (now (img .entry)) user file) (now (img .entry)) (numbers r) (now (img .exit)) ⌝ }
+// Creates a contiguous file of that many pages, at the highest run that the system pages leave.
+pub fn create_contiguous(
+    img: &mut [u16],
+    known: bool,
+    user: usize,
+    name: &[u8],
+    kind: &[u8],
+    created: u32,
+    count: usize,
+) -> Answer
+    requires { ⌜ Known known (now img) ⌝ }
+    ensures { λ r. ⌜ Outcome (createContiguousCall (now (img .entry)) user (now (name .entry)) (now (kind .entry)) created count) (now (img .entry)) (numbers r) (now (img .exit)) ⌝ }
 {
-    let ok = file_args(user, file);
-    let g = sound::gate(img, ok);
+    let g = enter_run(img, known, user, name, kind, count);
     if let Gate::Shut { why } = g {
         return Answer::Refused { why };
     }
+    create_contiguous_open(img, user, name, kind, created, short(count))
+}
+
+// Grow on a ready image: numbers 4, 6 and 9, then the step.
+fn grow_open(img: &mut [u16], user: usize, file: usize) -> Answer
+    requires { ⌜ Fit (now img) (IndexArg user × IndexArg file) ⌝ }
+    ensures { λ r. ⌜ Outcome (growCall (now (img .entry)) user file) (now (img .entry)) (numbers r) (now (img .exit)) ⌝ }
+{
     if !seek::files::has_file(img, user, file) {
         return Answer::Refused {
             why: Refusal::Missing,
@@ -137,15 +166,23 @@ pub fn grow(img: &mut [u16], user: usize, file: usize) -> Answer
     Answer::Done { value: page }
 }
 
-// Shrinks an indexed file by its last page.
-pub fn shrink(img: &mut [u16], user: usize, file: usize) -> Answer
-    ensures { λ r. ⌜ Outcome (shrinkCall (now (img .entry)) user file) (now (img .entry)) (numbers r) (now (img .exit)) ⌝ }
+// Grows an indexed file by one page: done with the page's number.
+pub fn grow(img: &mut [u16], known: bool, user: usize, file: usize) -> Answer
+    requires { ⌜ Known known (now img) ⌝ }
+    ensures { λ r. ⌜ Outcome (growCall (now (img .entry)) user file) (now (img .entry)) (numbers r) (now (img .exit)) ⌝ }
 {
-    let ok = file_args(user, file);
-    let g = sound::gate(img, ok);
+    let g = enter_file(img, known, user, file);
     if let Gate::Shut { why } = g {
         return Answer::Refused { why };
     }
+    grow_open(img, user, file)
+}
+
+// Shrink on a ready image: numbers 4 and 6, then the step.
+fn shrink_open(img: &mut [u16], user: usize, file: usize) -> Answer
+    requires { ⌜ Fit (now img) (IndexArg user × IndexArg file) ⌝ }
+    ensures { λ r. ⌜ Outcome (shrinkCall (now (img .entry)) user file) (now (img .entry)) (numbers r) (now (img .exit)) ⌝ }
+{
     if !seek::files::has_file(img, user, file) {
         return Answer::Refused {
             why: Refusal::Missing,
@@ -159,15 +196,23 @@ pub fn shrink(img: &mut [u16], user: usize, file: usize) -> Answer
     Answer::Done { value: 0 }
 }
 
-// Deletes a file: its entry is cleared and its pages are freed.
-pub fn delete_file(img: &mut [u16], user: usize, file: usize) -> Answer
-    ensures { λ r. ⌜ Outcome (deleteFileCall (now (img .entry)) user file) (now (img .entry)) (numbers r) (now (img .exit)) ⌝ }
+// Shrinks an indexed file by its last page.
+pub fn shrink(img: &mut [u16], known: bool, user: usize, file: usize) -> Answer
+    requires { ⌜ Known known (now img) ⌝ }
+    ensures { λ r. ⌜ Outcome (shrinkCall (now (img .entry)) user file) (now (img .entry)) (numbers r) (now (img .exit)) ⌝ }
 {
-    let ok = file_args(user, file);
-    let g = sound::gate(img, ok);
+    let g = enter_file(img, known, user, file);
     if let Gate::Shut { why } = g {
         return Answer::Refused { why };
     }
+    shrink_open(img, user, file)
+}
+
+// Delete file on a ready image: number 4, then the step.
+fn delete_file_open(img: &mut [u16], user: usize, file: usize) -> Answer
+    requires { ⌜ Fit (now img) (IndexArg user × IndexArg file) ⌝ }
+    ensures { λ r. ⌜ Outcome (deleteFileCall (now (img .entry)) user file) (now (img .entry)) (numbers r) (now (img .exit)) ⌝ }
+{
     if !seek::files::has_file(img, user, file) {
         return Answer::Refused {
             why: Refusal::Missing,
@@ -175,4 +220,16 @@ pub fn delete_file(img: &mut [u16], user: usize, file: usize) -> Answer
     }
     growth::delete::delete_file_step(img, user, file);
     Answer::Done { value: 0 }
+}
+
+// Deletes a file: its entry is cleared and its pages are freed.
+pub fn delete_file(img: &mut [u16], known: bool, user: usize, file: usize) -> Answer
+    requires { ⌜ Known known (now img) ⌝ }
+    ensures { λ r. ⌜ Outcome (deleteFileCall (now (img .entry)) user file) (now (img .entry)) (numbers r) (now (img .exit)) ⌝ }
+{
+    let g = enter_file(img, known, user, file);
+    if let Gate::Shut { why } = g {
+        return Answer::Refused { why };
+    }
+    delete_file_open(img, user, file)
 }

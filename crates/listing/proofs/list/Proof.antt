@@ -1,13 +1,13 @@
 -- `listing::list` meets its contract. Assumes nothing.
 use mathlib.Core.Bool.{true}
-use Rattle.book.specs.Return.{gate-ready}
+use Rattle.book.specs.Enter.{gated, fit}
 use Rattle.listing.proofs.Reports.{reported-shut, reported-open}
 use borrow.Author.Needs.{needs}
 use Rattle.listing.proofs.list.Statement.{statement}
 use Rattle.listing.proofs.list.Tie as tie
 
 put-listing-requires : tie.Need-put-listing-requires
-put-listing-requires c κs = gate-ready _ true (c .before .before .before .gate .result) _ (c .before .before .before .gate .ensures) (c .before .enum-told .given .1)
+put-listing-requires c κs = let s = c .before .before .before in fit (gated _ true (s .gate .result) (s .gate .ensures)) (c .before .enum-told .given .1) .ready
 
 returns : tie.Need-returns
 returns c =

@@ -1,5 +1,6 @@
 use borrow.Author.Tests.{not-true, not-false}
 use Rattle.book.specs.Decides.{holds, fails}
+use Rattle.book.specs.Enter.{not-right}
 use Rattle.sound.proofs.Laws.{judged-right, judged-broken}
 use borrow.Author.Needs.{needs}
 use Rattle.sound.proofs.gate.Statement.{statement}
@@ -16,7 +17,7 @@ returns : tie.Need-returns
 returns c = fails (c .before .whole .result) _ (c .before .whole .ensures) (c .if1 .taken)
 
 returns-2 : tie.Need-returns-2
-returns-2 c = (holds (c .before .before .whole .result) _ (c .before .before .whole .ensures) (c .before .if1 .left), not-true _ (c .if2 .taken))
+returns-2 c = (holds (c .before .before .whole .result) _ (c .before .before .whole .ensures) (c .before .if1 .left), not-right _ (not-true _ (c .if2 .taken)))
 
 judge-requires : tie.Need-judge-requires
 judge-requires c κs = holds (c .before .before .whole .result) _ (c .before .before .whole .ensures) (c .before .if1 .left)

@@ -1,90 +1,14 @@
-use native.Mathlib.Omega.{arith}
-use mathlib.Core.Path.{refl, _∙_}
-use mathlib.Core.Logic.{inl}
-use Rattle.book.specs.Decides.{holds, fails}
-use Rattle.book.specs.Rows.{Lowest, Clear}
-use Rattle.book.specs.Outcome.{call}
-use Rattle.book.specs.Return.{gate-shut, gate-args, gate-ready, refuse, done}
 use Rattle.book.specs.Calls.{openCall}
-use Rattle.book.specs.declared.Refusal.the-variants.{Missing}
-use Rattle.nord.proofs.Entry.{used-at, open-at}
-use borrow.Author.Needs.{needs}
+use Rattle.nord.proofs.Halves.{needs, call, fit, shut}
 use Rattle.nord.proofs.change.note_open.Statement.{statement}
 use Rattle.nord.proofs.change.note_open.Tie as tie
-use Rattle.nord.proofs.change.note_open.Reads as reads
-use Rattle.nord.proofs.change.note_open.Lts as lts
-use Rattle.nord.proofs.args.file_args.Reads as file-args-reads
-use Rattle.seek.proofs.files.entry_number.Reads as entry-number-reads
-use Rattle.seek.proofs.files.has_file.Reads as has-file-reads
-use Rattle.sound.proofs.gate.Reads as gate-reads
-use Rattle.steps.proofs.opens.open_step.Reads as open-step-reads
-
-file-args-requires : tie.Need-file-args-requires
-file-args-requires c κs = search needs
-
-gate-requires : tie.Need-gate-requires
-gate-requires c κs = search needs
-
-enum-known-g : tie.Need-enum-known-g
-enum-known-g c = search needs
-
-same-length : tie.Need-same-length
-same-length c = search needs
 
 returns : tie.Need-returns
 unfolding openCall call
-returns c =
-    gate-shut _ _ _ _ _ _ (c .before .before .before .before .before .file-args .result) (c .before .before .before .before .before .file-args .ensures) (c .before .before .before .gate .result) _ (c .before .before .before .gate .ensures) (c .before .g .given .1)
+returns c = let t = c .before in let s = t .before .before in shut _ _ _ _ _ _ (s .enter-file .ensures) (t .g .given .1)
 
-enum-told : tie.Need-enum-told
-enum-told c = search needs
-
-has-file-requires : tie.Need-has-file-requires
-has-file-requires c κs =
-    let a = gate-args _ _ (c .before .before .before .before .before .file-args .result) (c .before .before .before .before .before .file-args .ensures) (c .before .before .before .gate .result) _ (c .before .before .before .gate .ensures) (c .before .enum-told .given .1) in (gate-ready _ (c .before .before .before .before .before .file-args .result) (c .before .before .before .gate .result) _ (c .before .before .before .gate .ensures) (c .before .enum-told .given .1), omega (arith, a .0), omega (arith, a .1))
-
-same-length-2 : tie.Need-same-length-2
-same-length-2 c = search needs
-
-returns-2 : tie.Need-returns-2
-unfolding openCall call Lowest
-returns-2 c =
-    let a = gate-args _ _ (c .before .before .before .before .before .before .before .file-args .result) (c .before .before .before .before .before .before .before .file-args .ensures) (c .before .before .before .before .before .gate .result) _ (c .before .before .before .before .before .gate .ensures) (c .before .before .before .enum-told .given .1) in
-    refuse _ _ _ _ _ _ (gate-ready _ (c .before .before .before .before .before .before .before .file-args .result) (c .before .before .before .before .before .gate .result) _ (c .before .before .before .before .before .gate .ensures) (c .before .before .before .enum-told .given .1)) a Missing refl (λ e. let z : ⊥ = omega (arith, e) in z)
-    (inl (refl, fails (c .before .has-file .result) _ (c .before .has-file .ensures) (c .if1 .taken)))
-
-entry-number-requires : tie.Need-entry-number-requires
-entry-number-requires c κs =
-    let a = gate-args _ _ (c .before .before .before .before .before .before .before .file-args .result) (c .before .before .before .before .before .before .before .file-args .ensures) (c .before .before .before .before .before .gate .result) _ (c .before .before .before .before .before .gate .ensures) (c .before .before .before .enum-told .given .1) in (omega (arith, a .0), omega (arith, a .1))
-
-open-step-requires : tie.Need-open-step-requires
-open-step-requires c κs =
-    let h = holds (c .before .before .before .has-file .result) _ (c .before .before .before .has-file .ensures) (c .before .before .if1 .left) in let e = c .before .entry-number .ensures in (gate-ready _ (c .before .before .before .before .before .before .before .before .before .file-args .result) (c .before .before .before .before .before .before .before .gate .result) _ (c .before .before .before .before .before .before .before .gate .ensures) (c .before .before .before .before .before .enum-told .given .1), e .1, used-at _ _ _ (e .0) (h .1))
-
-same-length-3 : tie.Need-same-length-3
-same-length-3 c = search needs
-
-returns-3 : tie.Need-returns-3
-unfolding openCall call Clear
-returns-3 c =
-    let a = gate-args _ _ (c .before .before .before .before .before .before .before .before .before .before .before .before .file-args .result) (c .before .before .before .before .before .before .before .before .before .before .before .before .file-args .ensures) (c .before .before .before .before .before .before .before .before .before .before .gate .result) _ (c .before .before .before .before .before .before .before .before .before .before .gate .ensures) (c .before .before .before .before .before .before .before .before .enum-told .given .1) in
-    let h = holds (c .before .before .before .before .before .before .has-file .result) _ (c .before .before .before .before .before .before .has-file .ensures) (c .before .before .before .before .before .if1 .left) in
-    done _ _ _ _ _ _ (gate-ready _ (c .before .before .before .before .before .before .before .before .before .before .before .before .file-args .result) (c .before .before .before .before .before .before .before .before .before .before .gate .result) _ (c .before .before .before .before .before .before .before .before .before .before .gate .ensures) (c .before .before .before .before .before .before .before .before .enum-told .given .1)) a (h, tt) _ refl _ (c .before .before .open-step .ensures ∙ open-at _ _ _ (c .before .before .before .before .entry-number .ensures .0)) (c .before .before .open-step .kept .0)
+note-open-open-requires : tie.Need-note-open-open-requires
+note-open-open-requires c κs = let t = c .before in let s = t .before .before in fit (s .enter-file .ensures) (t .enum-told .given .1)
 
 pub note-open-spec : {M : Type 1} → statement M
-note-open-spec =
-    tie.close
-    (tie.spec
-    file-args-requires
-    gate-requires
-    enum-known-g
-    same-length
-    returns
-    enum-told
-    has-file-requires
-    same-length-2
-    returns-2
-    entry-number-requires
-    open-step-requires
-    same-length-3
-    returns-3)
+note-open-spec = tie.close (tie.spec (λ c κs. search needs) (λ c. search needs) (λ c. search needs) returns (λ c. search needs) note-open-open-requires (λ c. search needs) (λ c. search needs))

@@ -1,149 +1,23 @@
-use native.Mathlib.Omega.{arith}
-use mathlib.Core.Path.{refl, ap, _∙_}
-use mathlib.Core.Logic.{inl, inr}
-use Rattle.book.specs.Decides.{holds, fails}
-use Rattle.book.specs.Rows.{Lowest, Clear}
-use Rattle.book.specs.Outcome.{call}
-use Rattle.book.specs.Return.{gate-shut, gate-args, gate-ready, refuse, done}
-use Rattle.book.specs.Entries.{fileEntry}
 use Rattle.book.specs.Calls.{createContiguousCall}
-use Rattle.book.specs.declared.Refusal.the-variants.{Allowance, Unreserved, NoRun}
-use Rattle.nord.proofs.Entry.{file-need-of}
-use Rattle.nord.proofs.Fresh.{fresh-done, stale-as, run-of}
-use borrow.Author.Needs.{needs}
+use Rattle.nord.proofs.Entry.{short-count}
+use Rattle.nord.proofs.Halves.{arith, needs, call, fit, shut}
 use Rattle.nord.proofs.files.create_contiguous.Statement.{statement}
 use Rattle.nord.proofs.files.create_contiguous.Tie as tie
-use Rattle.nord.proofs.files.create_contiguous.Reads as reads
-use Rattle.nord.proofs.files.create_contiguous.Lts as lts
-use Rattle.making.proofs.file.create_contiguous_step.Reads as create-contiguous-step-reads
-use Rattle.making.proofs.run.find_run.Reads as find-run-reads
-use Rattle.nord.proofs.args.run_args.Reads as run-args-reads
-use Rattle.nord.proofs.files.new_file.Reads as new-file-reads
-use Rattle.seek.proofs.files.entry_number.Reads as entry-number-reads
-use Rattle.seek.proofs.needs.file_need.Reads as file-need-reads
-use Rattle.seek.proofs.users.spare.Reads as spare-reads
-use Rattle.seek.proofs.users.unreserved.Reads as unreserved-reads
-use Rattle.sound.proofs.gate.Reads as gate-reads
-
-run-args-requires : tie.Need-run-args-requires
-run-args-requires c κs = search needs
-
-gate-requires : tie.Need-gate-requires
-gate-requires c κs = search needs
-
-enum-known-g : tie.Need-enum-known-g
-enum-known-g c = search needs
-
-same-length : tie.Need-same-length
-same-length c = search needs
 
 returns : tie.Need-returns
 unfolding createContiguousCall call
-returns c = gate-shut _ _ _ _ _ _ (c .before .before .before .before .before .run-args .result) (c .before .before .before .before .before .run-args .ensures) (c .before .before .before .gate .result) _ (c .before .before .before .gate .ensures) (c .before .g .given .1)
+returns c = let t = c .before in let s = t .before .before in shut _ _ _ _ _ _ (s .enter-run .ensures) (t .g .given .1)
 
-enum-told : tie.Need-enum-told
-enum-told c = search needs
+short-requires : tie.Need-short-requires
+short-requires c κs = let t = c .before in let s = t .before .before in omega (arith, fit (s .enter-run .ensures) (t .enum-told .given .1) .right .3 .1)
 
-new-file-requires : tie.Need-new-file-requires
-new-file-requires c κs = let a = (gate-args _ _ (c .before .before .before .before .before .run-args .result) (c .before .before .before .before .before .run-args .ensures) (c .before .before .before .gate .result) _ (c .before .before .before .gate .ensures) (c .before .enum-told .given .1)) in ((gate-ready _ (c .before .before .before .before .before .run-args .result) (c .before .before .before .gate .result) _ (c .before .before .before .gate .ensures) (c .before .enum-told .given .1)), omega (arith, a .0))
-
-enum-known-fresh : tie.Need-enum-known-fresh
-enum-known-fresh c = search needs
-
-enum-told-2 : tie.Need-enum-told-2
-enum-told-2 c = search needs
-
-same-length-2 : tie.Need-same-length-2
-same-length-2 c = search needs
+create-contiguous-open-requires : tie.Need-create-contiguous-open-requires
+create-contiguous-open-requires c κs =
+    let t = c .before .before in let s = t .before .before in let f = fit (s .enter-run .ensures) (t .enum-told .given .1) in let e = c .short .ensures in
+    record { ready = f .ready; right = (f .right .0, f .right .1, f .right .2, (omega (arith, e, f .right .3 .0), omega (arith, e, f .right .3 .1))) }
 
 returns-2 : tie.Need-returns-2
-unfolding createContiguousCall call
-returns-2 c = stale-as _ _ _ _ _ _ _ _ (gate-ready _ (c .before .before .before .before .before .before .before .before .run-args .result) (c .before .before .before .before .before .before .gate .result) _ (c .before .before .before .before .before .before .gate .ensures) (c .before .before .before .before .enum-told .given .1)) (gate-args _ _ (c .before .before .before .before .before .before .before .before .run-args .result) (c .before .before .before .before .before .before .before .before .run-args .ensures) (c .before .before .before .before .before .before .gate .result) _ (c .before .before .before .before .before .before .gate .ensures) (c .before .before .before .before .enum-told .given .1)) (c .before .before .new-file .result) _ (c .enum-told2 .given .1) (c .before .before .new-file .ensures)
-
-cast-f : tie.Need-cast-f
-cast-f c = search needs
-
-spare-requires : tie.Need-spare-requires
-spare-requires c κs = let a = (gate-args _ _ (c .before .before .before .before .before .before .before .before .before .before .run-args .result) (c .before .before .before .before .before .before .before .before .before .before .run-args .ensures) (c .before .before .before .before .before .before .before .before .gate .result) _ (c .before .before .before .before .before .before .before .before .gate .ensures) (c .before .before .before .before .before .before .enum-told .given .1)) in let N = (fresh-done _ _ _ _ (c .before .before .before .before .new-file .result) (c .before .before .before .before .new-file .ensures) _ (c .before .before .fresh .given .1)) in ((gate-ready _ (c .before .before .before .before .before .before .before .before .before .before .run-args .result) (c .before .before .before .before .before .before .before .before .gate .result) _ (c .before .before .before .before .before .before .before .before .gate .ensures) (c .before .before .before .before .before .before .enum-told .given .1)), omega (arith, a .0), N .owner)
-
-same-length-3 : tie.Need-same-length-3
-same-length-3 c = search needs
-
-returns-3 : tie.Need-returns-3
-unfolding createContiguousCall call Lowest
-returns-3 c =
-    let N = (fresh-done _ _ _ _ (c .before .before .before .before .before .before .new-file .result) (c .before .before .before .before .before .before .new-file .ensures) _ (c .before .before .before .before .fresh .given .1)) in
-    refuse _ _ _ _ _ _ (gate-ready _ (c .before .before .before .before .before .before .before .before .before .before .before .before .run-args .result) (c .before .before .before .before .before .before .before .before .before .before .gate .result) _ (c .before .before .before .before .before .before .before .before .before .before .gate .ensures) (c .before .before .before .before .before .before .before .before .enum-told .given .1)) (gate-args _ _ (c .before .before .before .before .before .before .before .before .before .before .before .before .run-args .result) (c .before .before .before .before .before .before .before .before .before .before .before .before .run-args .ensures) (c .before .before .before .before .before .before .before .before .before .before .gate .result) _ (c .before .before .before .before .before .before .before .before .before .before .gate .ensures) (c .before .before .before .before .before .before .before .before .enum-told .given .1)) Allowance refl (λ e. let z : ⊥ = omega arith in z) (inr (N .owner, inr (N .single, inr (omega (arith, N .lowest, N .room), inl (refl, λ h. let z : ⊥ = omega (arith, h, c .if1 .taken, c .before .spare .ensures .0) in z)))))
-
-entry-number-requires : tie.Need-entry-number-requires
-entry-number-requires c κs = let a = (gate-args _ _ (c .before .before .before .before .before .before .before .before .before .before .before .before .run-args .result) (c .before .before .before .before .before .before .before .before .before .before .before .before .run-args .ensures) (c .before .before .before .before .before .before .before .before .before .before .gate .result) _ (c .before .before .before .before .before .before .before .before .before .before .gate .ensures) (c .before .before .before .before .before .before .before .before .enum-told .given .1)) in let N = (fresh-done _ _ _ _ (c .before .before .before .before .before .before .new-file .result) (c .before .before .before .before .before .before .new-file .ensures) _ (c .before .before .before .before .fresh .given .1)) in (omega (arith, a .0), N .room)
-
-unreserved-requires : tie.Need-unreserved-requires
-unreserved-requires c κs = (gate-ready _ (c .before .before .before .before .before .before .before .before .before .before .before .before .before .before .run-args .result) (c .before .before .before .before .before .before .before .before .before .before .before .before .gate .result) _ (c .before .before .before .before .before .before .before .before .before .before .before .before .gate .ensures) (c .before .before .before .before .before .before .before .before .before .before .enum-told .given .1)) .whole
-
-file-need-requires : tie.Need-file-need-requires
-file-need-requires c κs = ((gate-ready _ (c .before .before .before .before .before .before .before .before .before .before .before .before .before .before .before .before .run-args .result) (c .before .before .before .before .before .before .before .before .before .before .before .before .before .before .gate .result) _ (c .before .before .before .before .before .before .before .before .before .before .before .before .before .before .gate .ensures) (c .before .before .before .before .before .before .before .before .before .before .before .before .enum-told .given .1)), c .before .before .before .entry-number .ensures .1)
-
-same-length-4 : tie.Need-same-length-4
-same-length-4 c = search needs
-
-returns-4 : tie.Need-returns-4
-unfolding createContiguousCall call Lowest
-returns-4 c =
-    let N = (fresh-done _ _ _ _ (c .before .before .before .before .before .before .before .before .before .before .before .before .new-file .result) (c .before .before .before .before .before .before .before .before .before .before .before .before .new-file .ensures) _ (c .before .before .before .before .before .before .before .before .before .before .fresh .given .1)) in
-    refuse _ _ _ _ _ _ (gate-ready _ (c .before .before .before .before .before .before .before .before .before .before .before .before .before .before .before .before .before .before .run-args .result) (c .before .before .before .before .before .before .before .before .before .before .before .before .before .before .before .before .gate .result) _ (c .before .before .before .before .before .before .before .before .before .before .before .before .before .before .before .before .gate .ensures) (c .before .before .before .before .before .before .before .before .before .before .before .before .before .before .enum-told .given .1)) (gate-args _ _ (c .before .before .before .before .before .before .before .before .before .before .before .before .before .before .before .before .before .before .run-args .result) (c .before .before .before .before .before .before .before .before .before .before .before .before .before .before .before .before .before .before .run-args .ensures) (c .before .before .before .before .before .before .before .before .before .before .before .before .before .before .before .before .gate .result) _ (c .before .before .before .before .before .before .before .before .before .before .before .before .before .before .before .before .gate .ensures) (c .before .before .before .before .before .before .before .before .before .before .before .before .before .before .enum-told .given .1)) Unreserved refl (λ e. let z : ⊥ = omega arith in z) (inr (N .owner, inr (N .single, inr (omega (arith, N .lowest, N .room), inr (omega (arith, c .before .before .before .before .before .before .if1 .left, c .before .before .before .before .before .before .before .spare .ensures .0), inl (refl, λ h. let z : ⊥ = omega (arith, h, c .if2 .taken, c .before .before .before .unreserved .ensures .0, (c .before .file-need .ensures .0 ∙ file-need-of _ _ _ (c .before .before .before .before .before .entry-number .ensures .0 ∙ ap (fileEntry _) (N .lowest)))) in z))))))
-
-find-run-requires : tie.Need-find-run-requires
-find-run-requires c κs = let a = (gate-args _ _ (c .before .before .before .before .before .before .before .before .before .before .before .before .before .before .before .before .before .before .before .run-args .result) (c .before .before .before .before .before .before .before .before .before .before .before .before .before .before .before .before .before .before .before .run-args .ensures) (c .before .before .before .before .before .before .before .before .before .before .before .before .before .before .before .before .before .gate .result) _ (c .before .before .before .before .before .before .before .before .before .before .before .before .before .before .before .before .before .gate .ensures) (c .before .before .before .before .before .before .before .before .before .before .before .before .before .before .before .enum-told .given .1)) in let N = (fresh-done _ _ _ _ (c .before .before .before .before .before .before .before .before .before .before .before .before .before .new-file .result) (c .before .before .before .before .before .before .before .before .before .before .before .before .before .new-file .ensures) _ (c .before .before .before .before .before .before .before .before .before .before .before .fresh .given .1)) in ((gate-ready _ (c .before .before .before .before .before .before .before .before .before .before .before .before .before .before .before .before .before .before .before .run-args .result) (c .before .before .before .before .before .before .before .before .before .before .before .before .before .before .before .before .before .gate .result) _ (c .before .before .before .before .before .before .before .before .before .before .before .before .before .before .before .before .before .gate .ensures) (c .before .before .before .before .before .before .before .before .before .before .before .before .before .before .before .enum-told .given .1)), omega (arith, a .0), N .owner, N .room, omega (arith, c .before .if2 .left, c .before .before .before .before .unreserved .ensures .0, c .before .before .file-need .ensures .0 ∙ file-need-of _ _ _ (c .before .before .before .before .before .before .entry-number .ensures .0)), a .3)
-
-same-length-5 : tie.Need-same-length-5
-same-length-5 c = search needs
-
-returns-5 : tie.Need-returns-5
-unfolding createContiguousCall call Lowest
-returns-5 c =
-    let N = (fresh-done _ _ _ _ (c .before .before .before .before .before .before .before .before .before .before .before .before .before .before .before .new-file .result) (c .before .before .before .before .before .before .before .before .before .before .before .before .before .before .before .new-file .ensures) _ (c .before .before .before .before .before .before .before .before .before .before .before .before .before .fresh .given .1)) in
-    refuse _ _ _ _ _ _ (gate-ready _ (c .before .before .before .before .before .before .before .before .before .before .before .before .before .before .before .before .before .before .before .before .before .run-args .result) (c .before .before .before .before .before .before .before .before .before .before .before .before .before .before .before .before .before .before .before .gate .result) _ (c .before .before .before .before .before .before .before .before .before .before .before .before .before .before .before .before .before .before .before .gate .ensures) (c .before .before .before .before .before .before .before .before .before .before .before .before .before .before .before .before .before .enum-told .given .1)) (gate-args _ _ (c .before .before .before .before .before .before .before .before .before .before .before .before .before .before .before .before .before .before .before .before .before .run-args .result) (c .before .before .before .before .before .before .before .before .before .before .before .before .before .before .before .before .before .before .before .before .before .run-args .ensures) (c .before .before .before .before .before .before .before .before .before .before .before .before .before .before .before .before .before .before .before .gate .result) _ (c .before .before .before .before .before .before .before .before .before .before .before .before .before .before .before .before .before .before .before .gate .ensures) (c .before .before .before .before .before .before .before .before .before .before .before .before .before .before .before .before .before .enum-told .given .1)) NoRun refl (λ e. let z : ⊥ = omega arith in z) (inr (N .owner, inr (N .single, inr (omega (arith, N .lowest, N .room), inr (omega (arith, c .before .before .before .before .before .before .before .before .before .if1 .left, c .before .before .before .before .before .before .before .before .before .before .spare .ensures .0), inr (omega (arith, c .before .before .before .if2 .left, c .before .before .before .before .before .before .unreserved .ensures .0, (c .before .before .before .before .file-need .ensures .0 ∙ file-need-of _ _ _ (c .before .before .before .before .before .before .before .before .entry-number .ensures .0 ∙ ap (fileEntry _) (N .lowest)))), inl (refl, λ h. let z : ⊥ = omega (arith, h, c .if3 .taken, (c .before .find-run .ensures ∙ run-of _ _ _ _ _ _ (N .lowest))) in z)))))))
-
-create-contiguous-step-requires : tie.Need-create-contiguous-step-requires
-create-contiguous-step-requires c κs = let a = (gate-args _ _ (c .before .before .before .before .before .before .before .before .before .before .before .before .before .before .before .before .before .before .before .before .before .before .run-args .result) (c .before .before .before .before .before .before .before .before .before .before .before .before .before .before .before .before .before .before .before .before .before .before .run-args .ensures) (c .before .before .before .before .before .before .before .before .before .before .before .before .before .before .before .before .before .before .before .before .gate .result) _ (c .before .before .before .before .before .before .before .before .before .before .before .before .before .before .before .before .before .before .before .before .gate .ensures) (c .before .before .before .before .before .before .before .before .before .before .before .before .before .before .before .before .before .before .enum-told .given .1)) in let N = (fresh-done _ _ _ _ (c .before .before .before .before .before .before .before .before .before .before .before .before .before .before .before .before .new-file .result) (c .before .before .before .before .before .before .before .before .before .before .before .before .before .before .before .before .new-file .ensures) _ (c .before .before .before .before .before .before .before .before .before .before .before .before .before .before .fresh .given .1)) in ((gate-ready _ (c .before .before .before .before .before .before .before .before .before .before .before .before .before .before .before .before .before .before .before .before .before .before .run-args .result) (c .before .before .before .before .before .before .before .before .before .before .before .before .before .before .before .before .before .before .before .before .gate .result) _ (c .before .before .before .before .before .before .before .before .before .before .before .before .before .before .before .before .before .before .before .before .gate .ensures) (c .before .before .before .before .before .before .before .before .before .before .before .before .before .before .before .before .before .before .enum-told .given .1)), omega (arith, a .0), N .owner, N .lowest, N .room, omega (arith, c .before .before .before .before .if2 .left, c .before .before .before .before .before .before .before .unreserved .ensures .0, c .before .before .before .before .before .file-need .ensures .0 ∙ file-need-of _ _ _ (c .before .before .before .before .before .before .before .before .before .entry-number .ensures .0)), a .3, omega (arith, c .before .before .before .before .before .before .before .before .before .before .if1 .left, c .before .before .before .before .before .before .before .before .before .before .before .spare .ensures .0), c .before .before .find-run .ensures, omega (arith, c .before .if3 .left))
-
-same-length-6 : tie.Need-same-length-6
-same-length-6 c = search needs
-
-returns-6 : tie.Need-returns-6
-unfolding createContiguousCall call Clear
-returns-6 c =
-    let N = (fresh-done _ _ _ _ (c .before .before .before .before .before .before .before .before .before .before .before .before .before .before .before .before .before .before .before .new-file .result) (c .before .before .before .before .before .before .before .before .before .before .before .before .before .before .before .before .before .before .before .new-file .ensures) _ (c .before .before .before .before .before .before .before .before .before .before .before .before .before .before .before .before .before .fresh .given .1)) in
-    done _ _ _ _ _ _ (gate-ready _ (c .before .before .before .before .before .before .before .before .before .before .before .before .before .before .before .before .before .before .before .before .before .before .before .before .before .run-args .result) (c .before .before .before .before .before .before .before .before .before .before .before .before .before .before .before .before .before .before .before .before .before .before .before .gate .result) _ (c .before .before .before .before .before .before .before .before .before .before .before .before .before .before .before .before .before .before .before .before .before .before .before .gate .ensures) (c .before .before .before .before .before .before .before .before .before .before .before .before .before .before .before .before .before .before .before .before .before .enum-told .given .1)) (gate-args _ _ (c .before .before .before .before .before .before .before .before .before .before .before .before .before .before .before .before .before .before .before .before .before .before .before .before .before .run-args .result) (c .before .before .before .before .before .before .before .before .before .before .before .before .before .before .before .before .before .before .before .before .before .before .before .before .before .run-args .ensures) (c .before .before .before .before .before .before .before .before .before .before .before .before .before .before .before .before .before .before .before .before .before .before .before .gate .result) _ (c .before .before .before .before .before .before .before .before .before .before .before .before .before .before .before .before .before .before .before .before .before .before .before .gate .ensures) (c .before .before .before .before .before .before .before .before .before .before .before .before .before .before .before .before .before .before .before .before .before .enum-told .given .1)) (N .owner, (N .single, (omega (arith, N .lowest, N .room), (omega (arith, c .before .before .before .before .before .before .before .before .before .before .before .before .before .if1 .left, c .before .before .before .before .before .before .before .before .before .before .before .before .before .before .spare .ensures .0), (omega (arith, c .before .before .before .before .before .before .before .if2 .left, c .before .before .before .before .before .before .before .before .before .before .unreserved .ensures .0, (c .before .before .before .before .before .before .before .before .file-need .ensures .0 ∙ file-need-of _ _ _ (c .before .before .before .before .before .before .before .before .before .before .before .before .entry-number .ensures .0 ∙ ap (fileEntry _) (N .lowest)))), (omega (arith, c .before .before .before .before .if3 .left, (c .before .before .before .before .before .find-run .ensures ∙ run-of _ _ _ _ _ _ (N .lowest))), tt)))))) _ (N .lowest) _ (c .before .before .create-contiguous-step .ensures) (c .before .before .create-contiguous-step .kept .0)
+returns-2 c = let o = c .before .before in short-count (createContiguousCall _ _ _ _ _) _ _ _ _ _ (o .before .short .ensures) (o .create-contiguous-open .ensures)
 
 pub create-contiguous-spec : {M : Type 1} → statement M
-create-contiguous-spec =
-    tie.close
-    (tie.spec
-    run-args-requires
-    gate-requires
-    enum-known-g
-    same-length
-    returns
-    enum-told
-    new-file-requires
-    enum-known-fresh
-    enum-told-2
-    same-length-2
-    returns-2
-    cast-f
-    spare-requires
-    same-length-3
-    returns-3
-    entry-number-requires
-    unreserved-requires
-    file-need-requires
-    same-length-4
-    returns-4
-    find-run-requires
-    same-length-5
-    returns-5
-    create-contiguous-step-requires
-    same-length-6
-    returns-6)
+create-contiguous-spec = tie.close (tie.spec (λ c κs. search needs) (λ c. search needs) (λ c. search needs) returns (λ c. search needs) short-requires create-contiguous-open-requires (λ c. search needs) returns-2)

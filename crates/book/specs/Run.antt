@@ -1,0 +1,96 @@
+-- A run: a list of steps in numbers, the call that each asks for, and the calls made one after the other up to the first that is refused. Assumes nothing.
+use mathlib.Core.Path.{_≡_}
+use mathlib.Core.Bool.{Bool, true, false}
+use mathlib.Core.List.{List}
+use Prim.Native.Nat.{ℕ, suc, _+_, _*_, _/_, _<_, min}
+use lib.Dec.{eqb, leb}
+use lib.ListN.{length, getD, take, drop, set}
+use Rattle.book.specs.Words.{vol}
+use Rattle.book.specs.Rows.{end}
+use Rattle.book.specs.Answers.{Numbers}
+use Rattle.book.specs.Outcome.{Call, call, Outcome}
+use Rattle.book.specs.Calls.{checkCall, findUserCall, findFileCall, addressCall, formatCall, formatDefaultCall, createUserCall, deleteUserCall}
+use Rattle.book.specs.Calls.{giveCall, takeCall, createIndexedCall, createContiguousCall, growCall, shrinkCall, deleteFileCall, writeCall, openCall}
+
+-- a step is ten numbers: 0 the call; 1 the user; 2 the file; 3 the page count, the position or a format's bit page; 4 the time of creation;
+-- 5 and 6 where the name lies in the text, and its length; 7 and 8 the same of the type; 9 where a page's data lies in the words
+abbrev pub stepOf : List ℕ → ℕ → List ℕ
+stepOf steps k = take 10 (drop (k * 10) steps)
+
+-- ---- the call that a step asks for
+
+-- a call with an argument that is never right: refused with 1 or 2
+unfoldable pub wrongCall : List ℕ → Call ℕ
+wrongCall img = call img ⊥ end 0 (vol img)
+
+abbrev pub pickCall : Bool → Call ℕ → Call ℕ → Call ℕ
+pickCall true C D = C
+pickCall false C D = D
+
+-- a call with a part of a list, n long from a on; a part that does not lie in the list is a wrong argument
+unfoldable pub partCall : List ℕ → ℕ → ℕ → List ℕ → (List ℕ → Call ℕ) → Call ℕ
+partCall img a n l C = pickCall (leb (a + n) (length l)) (C (take n (drop a l))) (wrongCall img)
+
+-- with a name, with a name and a type, with a page's data
+unfoldable pub nameCall : List ℕ → List ℕ → List ℕ → (List ℕ → Call ℕ) → Call ℕ
+nameCall img s text C = partCall img (getD s 5 0) (getD s 6 0) text C
+
+unfoldable pub namesCall : List ℕ → List ℕ → List ℕ → (List ℕ → List ℕ → Call ℕ) → Call ℕ
+namesCall img s text C = nameCall img s text (λ name. partCall img (getD s 7 0) (getD s 8 0) text (C name))
+
+unfoldable pub dataCall : List ℕ → List ℕ → List ℕ → (List ℕ → Call ℕ) → Call ℕ
+dataCall img s words C = partCall img (getD s 9 0) 1024 words C
+
+-- the call of a number, in the order of document 01's list of work, with user u, file f, count n and time of creation t;
+-- 6 and 16, whose answers are no three numbers, and any other number are wrong arguments
+unfoldable pub numbered : ℕ → (u f n t : ℕ) → List ℕ → List ℕ → List ℕ → List ℕ → Call ℕ
+numbered c u f n t img s text words =
+    pickCall (eqb c 1) (nameCall img s text (λ name. formatCall img name n))
+    (pickCall (eqb c 2) (checkCall img)
+    (pickCall (eqb c 3) (nameCall img s text (findUserCall img))
+    (pickCall (eqb c 4) (namesCall img s text (findFileCall img u))
+    (pickCall (eqb c 5) (addressCall img u f n)
+    (pickCall (eqb c 7) (nameCall img s text (createUserCall img))
+    (pickCall (eqb c 8) (deleteUserCall img u)
+    (pickCall (eqb c 9) (giveCall img u n)
+    (pickCall (eqb c 10) (takeCall img u n)
+    (pickCall (eqb c 11) (namesCall img s text (λ name type. createIndexedCall img u name type t))
+    (pickCall (eqb c 12) (namesCall img s text (λ name type. createContiguousCall img u name type t n))
+    (pickCall (eqb c 13) (growCall img u f)
+    (pickCall (eqb c 14) (shrinkCall img u f)
+    (pickCall (eqb c 15) (deleteFileCall img u f)
+    (pickCall (eqb c 17) (dataCall img s words (writeCall img u f n))
+    (pickCall (eqb c 18) (openCall img u f)
+    (pickCall (eqb c 19) (nameCall img s text (formatDefaultCall img))
+    (wrongCall img)))))))))))))))))
+
+unfoldable pub stepCall : List ℕ → List ℕ → List ℕ → List ℕ → Call ℕ
+stepCall img s text words = numbered (getD s 0 0) (getD s 1 0) (getD s 2 0) (getD s 3 0) (getD s 4 0) img s text words
+
+-- ---- a reply is three numbers: 0 or the number of the refusal, the broken rule with 3, the value
+
+abbrev pub putThree : List ℕ → ℕ → ℕ → ℕ → ℕ → List ℕ
+putThree out at a b c = set (set (set out at a) (at + 1) b) (at + 2) c
+
+abbrev pub putReply : List ℕ → ℕ → Numbers ℕ → List ℕ
+putReply out k r = putThree out (k * 3) (r .number) (r .rule) (r .value)
+
+-- ---- the run
+
+-- as many steps as there are, and as have room for a reply
+abbrev pub limit : List ℕ → List ℕ → ℕ
+limit steps out = min (length steps / 10) (length out / 3)
+
+-- the first k steps were made and done, each on the image that the one before left, and each has its reply
+pub data Made (steps text words img₀ out₀ : List ℕ) : ℕ → List ℕ → List ℕ → Type 0 where
+  none : Made steps text words img₀ out₀ 0 img₀ out₀
+  more : {k : ℕ} {img img′ out : List ℕ} (r : Numbers ℕ) → Made steps text words img₀ out₀ k img out
+      → Outcome (stepCall img (stepOf steps k) text words) img r img′ → r .number ≡ 0
+      → Made steps text words img₀ out₀ (suc k) img′ (putReply out k r)
+
+-- a run made n steps: all there are, and all were done; or the last of them was refused
+pub data Ran (steps text words img₀ out₀ : List ℕ) : ℕ → List ℕ → List ℕ → Type 0 where
+  all : {n : ℕ} {img out : List ℕ} → n ≡ limit steps out₀ → Made steps text words img₀ out₀ n img out → Ran steps text words img₀ out₀ n img out
+  stopped : {k : ℕ} {img img′ out : List ℕ} (r : Numbers ℕ) → k < limit steps out₀ → Made steps text words img₀ out₀ k img out
+      → Outcome (stepCall img (stepOf steps k) text words) img r img′ → (r .number ≡ 0 → ⊥)
+      → Ran steps text words img₀ out₀ (suc k) img′ (putReply out k r)
