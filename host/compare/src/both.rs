@@ -1,6 +1,7 @@
 //! One image in two copies: the proved library works on the one, the second program on the other, and after every step they are compared.
 
 use crate::calls::{Answer, Call};
+use crate::script::{Played, Script};
 use crate::tally::Tally;
 use crate::text::Step;
 use crate::words::PAGE;
@@ -16,6 +17,12 @@ const LISTED: usize = 32;
 #[derive(Clone, Copy)]
 pub struct Answered {
     pub call: Answer,
+    pub check: Answer,
+}
+
+/// What a run answered: its replies, and the check after it.
+pub struct Ran {
+    pub played: Played,
     pub check: Answer,
 }
 
@@ -79,6 +86,48 @@ impl Both {
         self.same_listing(check)?;
         tally.called(call.which(), &answer, &check);
         Ok(Answered { call: answer, check })
+    }
+
+    /// Plays a script three ways: by a run of each program, and by single calls of the proved library. The number of replies, all replies,
+    /// those that no step has among them, and all words must be the same. Then the check and the listings, as after a call.
+    pub fn run(&mut self, lent: Option<usize>, script: Script, tally: &mut Tally) -> Result<Ran, Box<Disagreement>> {
+        let words = lent.unwrap_or(self.start.len());
+        self.steps.push(Step::Run { lent, script: script.clone() });
+        let mut image = self.proved.clone();
+        let single = script.singly(&mut image[..words]);
+        let proved = script.on_proved(&mut self.proved[..words]);
+        self.same_played("the run and the single calls", &proved, &single)?;
+        if let Some(at) = (0..image.len()).find(|&at| image[at] != self.proved[at]) {
+            self.second = image;
+            let what = format!("the run and the single calls: word {at} of the image differs (told as the second program's)");
+            return Err(self.disagreement(what, Answer::default(), Answer::default()));
+        }
+        let part = &mut self.second[..words];
+        match catch_unwind(AssertUnwindSafe(|| script.on_second(part))) {
+            Ok(second) => self.same_played("the runs", &proved, &second)?,
+            Err(_) => return Err(self.disagreement("the run: the second program panicked".to_string(), NO_ANSWER, NO_ANSWER)),
+        }
+        self.agree("the run", Answer::default(), Answer::default())?;
+        let check = self.one_call("the check after the run", &Call::Check, self.start.len())?;
+        self.same_listing(check)?;
+        tally.ran(&script, &proved);
+        Ok(Ran { played: proved, check })
+    }
+
+    /// Two ways to play a script gave the same replies, or the first that differs is told.
+    fn same_played(&mut self, of: &str, one: &Played, two: &Played) -> Result<(), Box<Disagreement>> {
+        if let Some(n) = (0..one.replies.len()).find(|&n| one.replies[n] != two.replies[n]) {
+            let (one, two) = (one.replies[n], two.replies[n]);
+            return Err(self.disagreement(format!("{of}: reply {n} differs"), one, two));
+        }
+        match one.made == two.made {
+            true => Ok(()),
+            false => Err(self.disagreement(
+                format!("{of}: {} and {} steps are said to be made", one.made, two.made),
+                Answer::default(),
+                Answer::default(),
+            )),
+        }
     }
 
     /// The listings of an image that the listing program takes are the same, byte for byte; refusals have theirs, too.

@@ -5,7 +5,7 @@ use crate::both::Both;
 use crate::calls::Answer;
 use crate::report::told;
 use crate::tally::Tally;
-use crate::text::{answer, step, Step};
+use crate::text::{answer, replies, replies_in_words, step, Step};
 use crate::words::PAGE;
 use std::fs;
 use std::path::{Path, PathBuf};
@@ -44,9 +44,10 @@ fn one_case(folder: &Path, tally: &mut Tally) -> Result<String, String> {
     }
     for line in lines {
         let (asked, wanted) = line.split_once(':').ok_or_else(|| format!("expect: `{line}` has no colon"))?;
-        match asked.strip_prefix("word ") {
-            Some(place) => expect_word(&both, place, wanted)?,
-            None => expect(&mut both, asked, &answer(wanted)?, tally)?,
+        match asked.split_whitespace().next() {
+            Some("word") => expect_word(&both, asked, wanted)?,
+            Some("run") => expect_run(&mut both, asked, wanted, tally)?,
+            _ => expect(&mut both, asked, &answer(wanted)?, tally)?,
         }
     }
     Ok(name.trim().to_string())
@@ -68,6 +69,7 @@ fn make(text: &str) -> Result<Both, String> {
             match step(&line.replace('#', &n.to_string())).map_err(|error| format!("image: `{line}`: {error}"))? {
                 Step::Word { at, value } if at < both.image().len() => both.put(&[(at, value)]),
                 Step::Word { .. } => return Err(format!("image: `{line}` is not in it")),
+                Step::Run { .. } => return Err(format!("image: `{line}`: a run is only expected")),
                 made => done(&mut both, made, &mut Tally::default()).map_err(|error| format!("image: `{line}`: {error}"))?,
             }
         }
@@ -122,10 +124,22 @@ fn expect(both: &mut Both, asked: &str, wanted: &Answer, tally: &mut Tally) -> R
     Ok(())
 }
 
+/// A line `run ..: REPLY ; REPLY ..` of expect: so many steps are made, with these replies.
+fn expect_run(both: &mut Both, asked: &str, wanted: &str, tally: &mut Tally) -> Result<(), String> {
+    let Step::Run { lent, script } = step(asked).map_err(|error| format!("expect: `{asked}`: {error}"))? else {
+        return Err(format!("expect: `{asked}` is no run"));
+    };
+    let ran = both.run(lent, script, tally).map_err(|seen| told(&seen))?;
+    if ran.played.replies[..ran.played.made] != replies(wanted)? {
+        return Err(format!("`{asked}` gives {}, {wanted} is expected", replies_in_words(&ran.played)));
+    }
+    Ok(())
+}
+
 /// A line `word PAGE WORD: VALUE` of expect: the image has this word there.
-fn expect_word(both: &Both, place: &str, wanted: &str) -> Result<(), String> {
-    let wrong = || format!("expect: `word {place}:{wanted}` is not `word PAGE WORD: VALUE`");
-    let numbers: Vec<usize> = place.split_whitespace().chain([wanted.trim()]).flat_map(str::parse).collect();
+fn expect_word(both: &Both, asked: &str, wanted: &str) -> Result<(), String> {
+    let wrong = || format!("expect: `{asked}:{wanted}` is not `word PAGE WORD: VALUE`");
+    let numbers: Vec<usize> = asked.split_whitespace().skip(1).chain([wanted.trim()]).flat_map(str::parse).collect();
     let [page, word, value] = numbers[..] else { return Err(wrong()) };
     let found = both.image().get(page * PAGE + word).ok_or_else(wrong)?;
     if usize::from(*found) != value {

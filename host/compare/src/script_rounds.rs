@@ -1,0 +1,148 @@
+//! Rounds of scripts: lists of calls, played by runs and by single calls.
+
+use crate::both::Both;
+use crate::calls::Call;
+use crate::choose::{Choice, Profile, PROFILES};
+use crate::damage::Damage;
+use crate::meets::run_meets;
+use crate::rounds::{Agreed, Round};
+use crate::scene::Scene;
+use crate::script::{is_step, used, Asked, Script};
+use crate::tally::Met;
+use crate::volumes::*;
+
+/// All calls that a run can make, formats among them, and now and then one that it cannot.
+const SCRIPTED: Profile = [2, 2, 2, 3, 1, 1, 1, 1, 6, 2, 6, 2, 8, 4, 16, 5, 2, 6, 3];
+
+/// Numbers that are no call's; some of them are one's if only their last byte or word is looked at.
+const NO_CALLS: [u32; 9] = [0, 6, 16, 20, 255, 256 + 9, 65_536 + 1, u32::MAX - 1, u32::MAX];
+
+/// How far behind the end a part may end that does not lie in its slice.
+const PAST: [u32; 7] = [1, 2, 5, 1_024, 1 << 31, u32::MAX - 3, u32::MAX];
+
+impl Round<'_> {
+    /// Scripts one after the other on one volume, a wrong length among them now and then.
+    pub fn scripts(&mut self, pages: u32, scripts: u32, steps: u32) -> Agreed {
+        let mut both = Both::new(self.volume_for_scripts(pages));
+        for _ in 0..scripts {
+            let profile = if self.random.one_in(2) { SCRIPTED } else { *self.random.pick(&PROFILES) };
+            let script = self.script(both.image(), &profile, steps, 25);
+            let scene = Scene::read(both.image());
+            let lent = Choice { random: &mut self.random, image: both.image(), scene: &scene }.lent(12);
+            self.play(&mut both, lent, script)?;
+        }
+        Ok(())
+    }
+
+    /// Words by chance, a formatted volume with one user, or one that no calls give.
+    fn volume_for_scripts(&mut self, pages: u32) -> Vec<u16> {
+        match self.random.below(4) {
+            0 => blank(&mut self.random, pages),
+            1 => self.scattered_volume(pages),
+            _ => with_owner(&mut self.random, pages, pages / 4),
+        }
+    }
+
+    /// A script on an image that breaks a rule, for each of the rules.
+    pub fn damaged_scripts(&mut self, pages: u32, times: u32) -> Agreed {
+        let base = self.base(pages);
+        let scene = Scene::read(&base);
+        let mut both = Both::new(base.clone());
+        for rule in (0..times).flat_map(|_| 1..=10) {
+            let Some(words) = Damage::new(&mut self.random, &base, &scene).aimed(rule) else { continue };
+            both.put(&words);
+            let script = self.script(both.image(), &SCRIPTED, 5, 4);
+            self.play(&mut both, None, script)?;
+            both.restart();
+        }
+        Ok(())
+    }
+
+    /// Scripts that go past the edges: the longest run, 256 users, 256 files of one, and a file's 512 pages where the volume has room for them.
+    pub fn edge_scripts(&mut self, pages: u32) -> Agreed {
+        self.no_run(pages)?;
+        let (name, kind) = (|n: u32| nth(1_000 + n), b"X".to_vec());
+        let user = |n: u32| Call::CreateUser { name: name(n) };
+        let mut both = Both::new(with_users(&mut self.random, pages, 253));
+        self.play(&mut both, None, whole((0..6).map(user)))?;
+        let file = |n: u32| Call::CreateIndexed { user: 0, name: name(n), kind: kind.clone(), created: n };
+        let mut both = Both::new(with_files(&mut self.random, pages, 253));
+        self.play(&mut both, None, whole((0..6).map(file)))?;
+        if pages < 600 {
+            return Ok(());
+        }
+        let mut both = Both::new(with_long_file(&mut self.random, pages, 508));
+        let (grow, shrink) = (Call::Grow { user: 0, file: 0 }, Call::Shrink { user: 0, file: 0 });
+        let up_and_down = (0..16).map(|n| if n < 8 { grow.clone() } else { shrink.clone() });
+        self.play(&mut both, None, whole(up_and_down.chain([Call::DeleteFile { user: 0, file: 0 }])))
+    }
+
+    /// A contiguous file of one page, then one that is longer than any run.
+    fn no_run(&mut self, pages: u32) -> Agreed {
+        let mut both = Both::new(with_owner(&mut self.random, pages, 3));
+        let longest = Scene::read(both.image()).longest_run(both.image()) as usize;
+        let file = |(n, count): (u32, usize)| Call::CreateContiguous { user: 0, name: nth(n), kind: Vec::new(), created: n, count };
+        self.play(&mut both, None, whole((0..).zip([1, longest + 1, 1]).map(file)))
+    }
+
+    /// Plays a script, and notes what it met.
+    fn play(&mut self, both: &mut Both, lent: Option<usize>, script: Script) -> Agreed {
+        let unsound = second::check(both.image()).number == 3;
+        let ran = both.run(lent, script.clone(), self.tally)?;
+        run_meets(&script, &ran.played).into_iter().for_each(|what| self.tally.met(what));
+        if unsound && ran.played.made > 1 && ran.played.replies[1].number == 0 {
+            self.tally.met(Met::FormatOnUnsound);
+        }
+        Ok(())
+    }
+
+    /// A script of so many steps, each chosen on the image as those before it leave it. Of the calls that would be refused one in so many is
+    /// taken, and a script may have a step that is none.
+    fn script(&mut self, image: &[u16], profile: &Profile, steps: u32, refused: u32) -> Script {
+        let mut image = image.to_vec();
+        let mut asked = Vec::new();
+        for _ in 0..5 * steps {
+            let scene = Scene::read(&image);
+            let call = Choice { random: &mut self.random, image: &image, scene: &scene }.call(profile);
+            let done = is_step(&call) && call.on_second(&mut image).number == 0;
+            if done || self.random.one_in(refused) {
+                asked.push(Asked::Call(call));
+            }
+            if asked.len() == steps as usize {
+                break;
+            }
+        }
+        if self.random.one_in(3) {
+            let odd = self.odd(&asked);
+            let place = self.random.below(asked.len() as u32 + 1) as usize;
+            asked.insert(place, odd);
+        }
+        Script { room: self.room(asked.len() as u32) as usize, asked }
+    }
+
+    /// A step that is none: a number that is no call's, or a call of the script with a part of it outside.
+    fn odd(&mut self, asked: &[Asked]) -> Asked {
+        let mut calls = asked.iter().filter_map(Asked::call).filter(|call| !used(call).is_empty());
+        let all = calls.clone().count() as u32;
+        if all == 0 || self.random.one_in(4) {
+            return Asked::NoCall(*self.random.pick(&NO_CALLS));
+        }
+        let call = calls.nth(self.random.below(all) as usize).expect("one of them").clone();
+        Asked::Outside { part: *self.random.pick(used(&call)), past: *self.random.pick(&PAST), call }
+    }
+
+    /// Room for replies: mostly some more than there are steps, now and then less.
+    fn room(&mut self, steps: u32) -> u32 {
+        match self.random.below(6) {
+            0 => self.random.below(steps + 1),
+            1 => steps,
+            _ => steps + self.random.between(1, 4),
+        }
+    }
+}
+
+/// A script of calls with room for all its replies.
+fn whole(calls: impl Iterator<Item = Call>) -> Script {
+    let asked: Vec<Asked> = calls.map(Asked::Call).collect();
+    Script { room: asked.len() + 1, asked }
+}
