@@ -7,7 +7,7 @@ use crate::damage::Damage;
 use crate::meets::run_meets;
 use crate::rounds::{Agreed, Round};
 use crate::scene::Scene;
-use crate::script::{is_step, used, Asked, Script};
+use crate::script::{is_step, used, Asked, Part, Script};
 use crate::tally::Met;
 use crate::volumes::*;
 
@@ -65,9 +65,11 @@ impl Round<'_> {
         let user = |n: u32| Call::CreateUser { name: name(n) };
         let mut both = Both::new(with_users(&mut self.random, pages, 253));
         self.play(&mut both, None, whole((0..6).map(user)))?;
+        self.play(&mut both, None, whole([Call::CreateUser { name: nth(0) }].into_iter()))?;
         let file = |n: u32| Call::CreateIndexed { user: 0, name: name(n), kind: kind.clone(), created: n };
         let mut both = Both::new(with_files(&mut self.random, pages, 253));
         self.play(&mut both, None, whole((0..6).map(file)))?;
+        self.play(&mut both, None, whole([Call::DeleteUser { user: 0 }].into_iter()))?;
         if pages < 600 {
             return Ok(());
         }
@@ -112,7 +114,7 @@ impl Round<'_> {
                 break;
             }
         }
-        if self.random.one_in(3) {
+        if self.random.one_in(2) {
             let odd = self.odd(&asked);
             let place = self.random.below(asked.len() as u32 + 1) as usize;
             asked.insert(place, odd);
@@ -122,18 +124,18 @@ impl Round<'_> {
 
     /// A step that is none: a number that is no call's, or a call of the script with a part of it outside.
     fn odd(&mut self, asked: &[Asked]) -> Asked {
-        let mut calls = asked.iter().filter_map(Asked::call).filter(|call| !used(call).is_empty());
-        let all = calls.clone().count() as u32;
-        if all == 0 || self.random.one_in(4) {
+        let part = *self.random.pick(&Part::ALL);
+        let calls: Vec<&Call> = asked.iter().filter_map(Asked::call).filter(|call| used(call).contains(&part)).collect();
+        if calls.is_empty() || self.random.one_in(4) {
             return Asked::NoCall(*self.random.pick(&NO_CALLS));
         }
-        let call = calls.nth(self.random.below(all) as usize).expect("one of them").clone();
-        Asked::Outside { part: *self.random.pick(used(&call)), past: *self.random.pick(&PAST), call }
+        let call = (*self.random.pick(&calls)).clone();
+        Asked::Outside { part, past: *self.random.pick(&PAST), call }
     }
 
     /// Room for replies: mostly some more than there are steps, now and then less.
     fn room(&mut self, steps: u32) -> u32 {
-        match self.random.below(6) {
+        match self.random.below(4) {
             0 => self.random.below(steps + 1),
             1 => steps,
             _ => steps + self.random.between(1, 4),

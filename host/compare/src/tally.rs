@@ -72,21 +72,21 @@ const MINIMUMS: [(Met, &str, u64); 30] = [
     (Met::WidePosition, "positions from 2^32 up", 50),
     (Met::WidePage, "pages from 2^32 up", 50),
     (Met::WideCount, "counts from 2^32 up", 50),
-    (Met::RunWhole, "runs with all their steps done", 50),
+    (Met::RunWhole, "runs with all their steps done", 15),
     (Met::RunRefused, "runs that a refusal stopped before their last step", 50),
-    (Met::RunOutOfRoom, "runs with room for fewer replies than steps, all done", 20),
-    (Met::RunWrongLength, "runs refused for the length", 10),
+    (Met::RunOutOfRoom, "runs with room for fewer replies than steps, all done", 10),
+    (Met::RunWrongLength, "runs refused for the length", 8),
     (Met::RunUnsound, "runs refused on an unsound image", 20),
     (Met::FormatWithin, "formats within a run, between steps that were done", 20),
-    (Met::FormatOnUnsound, "unsound images that a run formatted, and went on", 10),
+    (Met::FormatOnUnsound, "unsound images that a run formatted, and went on", 5),
     (Met::NoCall, "steps whose number is no call's", 10),
-    (Met::NameOutside, "names outside the text lent", 10),
-    (Met::TypeOutside, "types outside the text lent", 10),
+    (Met::NameOutside, "names outside the text lent", 8),
+    (Met::TypeOutside, "types outside the text lent", 8),
     (Met::DataOutside, "page data outside the words lent", 5),
 ];
 
 /// How often at least each number came to a step of a run, and each call that can be one was done as one.
-const EACH_STEP_NUMBER: u64 = 5;
+const EACH_STEP_NUMBER: u64 = 2;
 const EACH_STEP_DONE: u64 = 10;
 
 /// The row of the steps that are no calls, after those of the calls.
