@@ -26,7 +26,11 @@ fn blank(pages: u32) -> Vec<u16> {
 }
 
 fn formatted(image: &mut [u16], name: &str, bit_page: Option<u32>) -> Result<Answer, Failure> {
-    done(proved::format(image, name.as_bytes(), bit_page.map(|page| page as usize)), Call::Format, name)?;
+    done(
+        proved::format(image, name.as_bytes(), bit_page.map(|page| page as usize)),
+        Call::Format,
+        name,
+    )?;
     let pages = image.len() / proved::PAGE;
     let bit_page = bit_page.unwrap_or(pages as u32 / 2);
     let json = json!({ "volume": name, "pages": pages, "bit_page": bit_page });
