@@ -182,6 +182,7 @@ pub fn page_and_word(at: usize) -> (usize, usize) {
 #[cfg(test)]
 mod tests {
     use super::*;
+    use crate::script::Asked;
 
     fn formatted() -> Both {
         let mut both = Both::new(vec![0; 16 * PAGE]);
@@ -210,6 +211,22 @@ mod tests {
         let one = Answer::default();
         let others = [Answer { position: 1, ..one }, Answer { offset: 1, ..one }, Answer { rule: 1, ..one }, Answer { kind: 1, ..one }];
         assert_eq!(others.map(|two| one.first_difference(&two)), [Some("position"), Some("offset"), Some("rule"), Some("kind")]);
+    }
+
+    /// A run that leaves another word, and one that gives another reply, are seen.
+    #[test]
+    fn a_run_that_differs_is_seen() {
+        let script = || Script { room: 2, asked: vec![Asked::Call(Call::CreateUser { name: b"DOCK".to_vec() })] };
+        let mut both = formatted();
+        assert!(both.run(None, script(), &mut Tally::default()).is_ok());
+        let mut both = formatted();
+        both.second[9 * PAGE] ^= 1;
+        let seen = both.run(None, script(), &mut Tally::default()).err().expect("a disagreement");
+        assert_eq!(seen.word, Some((9 * PAGE, 0, 1)));
+        let mut both = formatted();
+        both.second[1023] += 1;
+        let seen = both.run(None, script(), &mut Tally::default()).err().expect("a disagreement");
+        assert_eq!((seen.proved.number, seen.second.number, seen.second.rule), (0, 3, 10));
     }
 
     #[test]

@@ -4,6 +4,7 @@
 use crate::both::Both;
 use crate::calls::Answer;
 use crate::report::told;
+use crate::script::Played;
 use crate::tally::Tally;
 use crate::text::{answer, replies, replies_in_words, step, Step};
 use crate::words::PAGE;
@@ -44,10 +45,17 @@ fn one_case(folder: &Path, tally: &mut Tally) -> Result<String, String> {
     }
     for line in lines {
         let (asked, wanted) = line.split_once(':').ok_or_else(|| format!("expect: `{line}` has no colon"))?;
-        match asked.split_whitespace().next() {
-            Some("word") => expect_word(&both, asked, wanted)?,
-            Some("run") => expect_run(&mut both, asked, wanted, tally)?,
-            _ => expect(&mut both, asked, &answer(wanted)?, tally)?,
+        if let Some(place) = asked.strip_prefix("word ") {
+            expect_word(&both, place, wanted)?;
+            continue;
+        }
+        match step(asked).map_err(|error| format!("expect: `{asked}`: {error}"))? {
+            Step::Run { lent, script } => {
+                lendable(&both, lent)?;
+                let ran = both.run(lent, script, tally).map_err(|seen| told(&seen))?;
+                expect_replies(asked, &ran.played, wanted)?;
+            }
+            call => expect(&mut both, asked, call, &answer(wanted)?, tally)?,
         }
     }
     Ok(name.trim().to_string())
@@ -104,17 +112,23 @@ fn done(both: &mut Both, made: Step, tally: &mut Tally) -> Result<(), String> {
 /// A call of both programs, which must agree.
 fn ask(both: &mut Both, asked: Step, tally: &mut Tally) -> Result<Answer, String> {
     let Step::Call { lent, call } = asked else { return Err("only calls are answered".to_string()) };
-    if lent.is_some_and(|words| words > both.image().len()) {
-        return Err("so many words are not there to lend".to_string());
-    }
+    lendable(both, lent)?;
     let answered = both.lend(lent, call, tally).map_err(|seen| told(&seen))?;
     Ok(answered.call)
 }
 
+/// So many words can be lent.
+fn lendable(both: &Both, lent: Option<usize>) -> Result<(), String> {
+    match lent {
+        Some(words) if words > both.image().len() => Err("so many words are not there to lend".to_string()),
+        _ => Ok(()),
+    }
+}
+
 /// A line of expect: the answer is as wanted, and a refused call has changed nothing.
-fn expect(both: &mut Both, asked: &str, wanted: &Answer, tally: &mut Tally) -> Result<(), String> {
+fn expect(both: &mut Both, asked: &str, call: Step, wanted: &Answer, tally: &mut Tally) -> Result<(), String> {
     let before = both.image().to_vec();
-    let given = ask(both, step(asked).map_err(|error| format!("expect: `{asked}`: {error}"))?, tally)?;
+    let given = ask(both, call, tally)?;
     if given != *wanted {
         return Err(format!("`{asked}` gives {given}, {wanted} is expected"));
     }
@@ -125,21 +139,17 @@ fn expect(both: &mut Both, asked: &str, wanted: &Answer, tally: &mut Tally) -> R
 }
 
 /// A line `run ..: REPLY ; REPLY ..` of expect: so many steps are made, with these replies.
-fn expect_run(both: &mut Both, asked: &str, wanted: &str, tally: &mut Tally) -> Result<(), String> {
-    let Step::Run { lent, script } = step(asked).map_err(|error| format!("expect: `{asked}`: {error}"))? else {
-        return Err(format!("expect: `{asked}` is no run"));
-    };
-    let ran = both.run(lent, script, tally).map_err(|seen| told(&seen))?;
-    if ran.played.replies[..ran.played.made] != replies(wanted)? {
-        return Err(format!("`{asked}` gives {}, {wanted} is expected", replies_in_words(&ran.played)));
+fn expect_replies(asked: &str, played: &Played, wanted: &str) -> Result<(), String> {
+    if played.replies[..played.made] != replies(wanted)? {
+        return Err(format!("`{asked}` gives {}, {wanted} is expected", replies_in_words(played)));
     }
     Ok(())
 }
 
 /// A line `word PAGE WORD: VALUE` of expect: the image has this word there.
-fn expect_word(both: &Both, asked: &str, wanted: &str) -> Result<(), String> {
-    let wrong = || format!("expect: `{asked}:{wanted}` is not `word PAGE WORD: VALUE`");
-    let numbers: Vec<usize> = asked.split_whitespace().skip(1).chain([wanted.trim()]).flat_map(str::parse).collect();
+fn expect_word(both: &Both, place: &str, wanted: &str) -> Result<(), String> {
+    let wrong = || format!("expect: `word {place}:{wanted}` is not `word PAGE WORD: VALUE`");
+    let numbers: Vec<usize> = place.split_whitespace().chain([wanted.trim()]).flat_map(str::parse).collect();
     let [page, word, value] = numbers[..] else { return Err(wrong()) };
     let found = both.image().get(page * PAGE + word).ok_or_else(wrong)?;
     if usize::from(*found) != value {

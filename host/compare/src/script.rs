@@ -132,3 +132,46 @@ fn second_step(step: proved::Step) -> second::Step {
     let proved::Step { call, user, file, count, created, name_at, name_bytes, type_at, type_bytes, data_at } = step;
     second::Step { call, user, file, count, created, name_at, name_bytes, type_at, type_bytes, data_at }
 }
+
+#[cfg(test)]
+mod tests {
+    use super::*;
+
+    fn find(name: &[u8]) -> Call {
+        Call::FindUser { name: name.to_vec() }
+    }
+
+    /// A name is lent once, a type of no bytes lies at the text's end, and what is not used is filled.
+    #[test]
+    fn parts_lie_where_the_steps_say() {
+        let file = Call::FindFile { user: 3, name: b"DOCK".to_vec(), kind: Vec::new() };
+        let lent = Lent::of(&[Asked::Call(find(b"A")), Asked::Call(find(b"DOCK")), Asked::Call(file)]);
+        assert_eq!(lent.text, b"ADOCK");
+        let step = lent.steps[2];
+        assert_eq!((step.name_at, step.name_bytes, step.type_at, step.type_bytes), (1, 4, 5, 0));
+        assert_eq!((step.call, step.user, step.file, step.data_at), (4, 3, u32::MAX, u32::MAX));
+    }
+
+    /// A part outside ends so far behind the end; one that would begin past all numbers begins at the last.
+    #[test]
+    fn parts_outside_end_behind_the_end() {
+        let outside = |past: u32| Asked::Outside { part: Part::Name, past, call: find(b"DOCK") };
+        let lent = Lent::of(&[outside(1), outside(u32::MAX)]);
+        assert_eq!(lent.steps.iter().map(|step| step.name_at).collect::<Vec<u32>>(), [1, u32::MAX]);
+    }
+
+    /// Single calls stop as a run does: after a refusal, or with the room.
+    #[test]
+    fn single_calls_stop_as_a_run_does() {
+        let mut image = vec![0; 8 * PAGE];
+        let format = Asked::Call(Call::Format { name: b"YARD".to_vec(), bit_page: None });
+        let asked = vec![format.clone(), Asked::NoCall(6), format];
+        let numbers = |room: usize, image: &mut [u16]| {
+            let played = Script { room, asked: asked.clone() }.singly(image);
+            (played.made, played.replies.iter().map(|reply| reply.number).collect::<Vec<u32>>())
+        };
+        assert_eq!(numbers(1, &mut image), (1, vec![0]));
+        assert_eq!(numbers(3, &mut image), (2, vec![0, 2, UNTOUCHED.number]));
+        assert_eq!(numbers(3, &mut image[1..]), (1, vec![1, UNTOUCHED.number, UNTOUCHED.number]));
+    }
+}
