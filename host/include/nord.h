@@ -6,11 +6,11 @@
  *
  * What a caller owes
  *
- * Slices that are lent to one call must not overlap: neither the image, nor what a call writes to beside it (`out`, `replies`), may share a
- * byte with anything else that is lent to the same call (`name`, `type`, `data`, `out`, `steps`, `text`, `replies`). What is only read may
- * overlap what is only read. All that is proved of the calls is proved of slices apart, and no call can see that they are not: nord_write_page
- * with data that lie partly in the page which it writes answers 0 and stores other words; nord_create_user with a name that lies in the page
- * which the new user's entry takes answers 0 and leaves an unsound image. Copy such data out of the image first.
+ * Slices that are lent to one call must not overlap: what a call writes to (the image of a call that changes, `out`, `replies`) may share no
+ * byte with anything else that is lent to it (`img`, `name`, `type`, `data`, `steps`, `text`). Only what is read alone may overlap what is read
+ * alone. All that is proved of the calls is proved of slices apart, and no call can see that they are not. So nord_write_page with data that
+ * lie partly in the page which it writes answers 0 and stores other words, and nord_create_user with a name that lies in the page which the
+ * new user's entry takes answers 0 and leaves an unsound image. Copy such data out of the image first.
  *
  * A slice has all the elements that its length says, each at its type's alignment: words (uint16_t) begin at an even address, steps and
  * replies at one that four divides. Nothing is read or written outside a slice. A slice of length 0 is not looked at, so its pointer may be

@@ -96,38 +96,30 @@ impl Both {
         let mut image = self.proved.clone();
         let single = script.singly(&mut image[..words]);
         let proved = script.on_proved(&mut self.proved[..words]);
-        self.same_played("the run and the single calls", &proved, &single)?;
-        if let Some(at) = (0..image.len()).find(|&at| image[at] != self.proved[at]) {
-            self.second = image;
-            let what = format!("the run and the single calls: word {at} of the image differs (told as the second program's)");
-            return Err(self.disagreement(what, Answer::default(), Answer::default()));
-        }
-        let part = &mut self.second[..words];
-        match catch_unwind(AssertUnwindSafe(|| script.on_second(part))) {
-            Ok(second) => self.same_played("the runs", &proved, &second)?,
+        let mut before = std::mem::replace(&mut self.second, image);
+        self.same_run("the run (told as proved) and the single calls (told as second)", &proved, &single)?;
+        let second = catch_unwind(AssertUnwindSafe(|| script.on_second(&mut before[..words])));
+        self.second = before;
+        match second {
+            Ok(second) => self.same_run("the runs", &proved, &second)?,
             Err(_) => return Err(self.disagreement("the run: the second program panicked".to_string(), NO_ANSWER, NO_ANSWER)),
         }
-        self.agree("the run", Answer::default(), Answer::default())?;
         let check = self.one_call("the check after the run", &Call::Check, self.start.len())?;
         self.same_listing(check)?;
         tally.ran(&script, &proved);
         Ok(Ran { played: proved, check })
     }
 
-    /// Two ways to play a script gave the same replies, or the first that differs is told.
-    fn same_played(&mut self, of: &str, one: &Played, two: &Played) -> Result<(), Box<Disagreement>> {
+    /// Two ways to play a script gave the same replies and left the same words, or the first difference is told.
+    fn same_run(&mut self, of: &str, one: &Played, two: &Played) -> Result<(), Box<Disagreement>> {
         if let Some(n) = (0..one.replies.len()).find(|&n| one.replies[n] != two.replies[n]) {
-            let (one, two) = (one.replies[n], two.replies[n]);
-            return Err(self.disagreement(format!("{of}: reply {n} differs"), one, two));
+            return Err(self.disagreement(format!("{of}: reply {n} differs"), one.replies[n], two.replies[n]));
         }
-        match one.made == two.made {
-            true => Ok(()),
-            false => Err(self.disagreement(
-                format!("{of}: {} and {} steps are said to be made", one.made, two.made),
-                Answer::default(),
-                Answer::default(),
-            )),
+        let none = Answer::default();
+        if one.made != two.made {
+            return Err(self.disagreement(format!("{of}: {} and {} steps are said to be made", one.made, two.made), none, none));
         }
+        self.agree(of, none, none)
     }
 
     /// The listings of an image that the listing program takes are the same, byte for byte; refusals have theirs, too.

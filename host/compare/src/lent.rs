@@ -1,4 +1,5 @@
-//! The slices that a script is lent in: its steps as numbers, with the places of their names, types and data in one text and one row of words.
+//! The slices that a script is lent in: its steps as numbers, with the places of their names, types and data in one text and one row of
+//! words.
 
 use crate::calls::Call;
 use crate::script::{used, Asked, Part};
@@ -19,7 +20,7 @@ impl Lent {
     /// Each name, type and page of data once, and the steps with their places.
     pub fn of(script: &[Asked]) -> Lent {
         let (mut text, mut data) = (Vec::new(), Vec::new());
-        for call in script.iter().filter_map(Asked::call) {
+        for call in script.iter().map(Asked::call) {
             let (name, kind, page) = parts(call);
             put(&mut text, name);
             put(&mut text, kind);
@@ -32,7 +33,7 @@ impl Lent {
 
 fn step(asked: &Asked, text: &[u8], data: &[u16]) -> proved::Step {
     match asked {
-        Asked::NoCall(call) => proved::Step { call: *call, ..unused() },
+        Asked::NoCall { number, call } => proved::Step { call: *number, ..step_of(call, text, data) },
         Asked::Call(call) => step_of(call, text, data),
         Asked::Outside { part, past, call } => {
             let mut step = step_of(call, text, data);
@@ -113,6 +114,11 @@ fn step_of(call: &Call, text: &[u8], data: &[u16]) -> proved::Step {
         step.data_at = at(place(data, &page));
     }
     step
+}
+
+/// The number of a call.
+pub fn number_of(call: &Call) -> u32 {
+    numbers_of(call).call
 }
 
 /// The call's number and the numbers that it uses.

@@ -72,7 +72,7 @@ pub fn run_meets(script: &Script, played: &Played) -> Vec<Met> {
         (0, _) if made == asked.len() => Some(Met::RunWhole),
         (0, _) => Some(Met::RunOutOfRoom),
         (1, _) => Some(Met::RunWrongLength),
-        (2, Asked::NoCall(_)) => Some(Met::NoCall),
+        (2, Asked::NoCall { .. }) => Some(Met::NoCall),
         (2, Asked::Outside { part: Part::Name, .. }) => Some(Met::NameOutside),
         (2, Asked::Outside { part: Part::Type, .. }) => Some(Met::TypeOutside),
         (2, Asked::Outside { part: Part::Data, .. }) => Some(Met::DataOutside),

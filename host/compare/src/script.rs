@@ -28,8 +28,11 @@ impl Part {
 #[derive(Clone, Debug, PartialEq)]
 pub enum Asked {
     Call(Call),
-    /// A step whose number is no call's.
-    NoCall(u32),
+    /// The step of a call with another number, which is no call's.
+    NoCall {
+        number: u32,
+        call: Call,
+    },
     /// A call with one part so placed that it ends so far behind the end of what is lent.
     Outside {
         part: Part,
@@ -89,10 +92,9 @@ impl Script {
 }
 
 impl Asked {
-    pub fn call(&self) -> Option<&Call> {
+    pub fn call(&self) -> &Call {
         match self {
-            Asked::Call(call) | Asked::Outside { call, .. } => Some(call),
-            Asked::NoCall(_) => None,
+            Asked::Call(call) | Asked::NoCall { call, .. } | Asked::Outside { call, .. } => call,
         }
     }
 
@@ -165,7 +167,7 @@ mod tests {
     fn single_calls_stop_as_a_run_does() {
         let mut image = vec![0; 8 * PAGE];
         let format = Asked::Call(Call::Format { name: b"YARD".to_vec(), bit_page: None });
-        let asked = vec![format.clone(), Asked::NoCall(6), format];
+        let asked = vec![format.clone(), Asked::NoCall { number: 6, call: Call::Check }, format];
         let numbers = |room: usize, image: &mut [u16]| {
             let played = Script { room, asked: asked.clone() }.singly(image);
             (played.made, played.replies.iter().map(|reply| reply.number).collect::<Vec<u32>>())

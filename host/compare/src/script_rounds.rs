@@ -4,6 +4,7 @@ use crate::both::Both;
 use crate::calls::Call;
 use crate::choose::{Choice, Profile, PROFILES};
 use crate::damage::Damage;
+use crate::lent::number_of;
 use crate::meets::run_meets;
 use crate::rounds::{Agreed, Round};
 use crate::scene::Scene;
@@ -14,8 +15,9 @@ use crate::volumes::*;
 /// All calls that a run can make, formats among them, and now and then one that it cannot.
 const SCRIPTED: Profile = [2, 2, 2, 3, 1, 1, 1, 1, 6, 2, 6, 2, 8, 4, 16, 5, 2, 6, 3];
 
-/// Numbers that are no call's; some of them are one's if only their last byte or word is looked at.
-const NO_CALLS: [u32; 9] = [0, 6, 16, 20, 255, 256 + 9, 65_536 + 1, u32::MAX - 1, u32::MAX];
+/// Numbers that are no call's, and what is added to a call's for one: it is the call's if only its last byte or word is looked at.
+const NO_CALLS: [u32; 6] = [0, 6, 16, 20, u32::MAX - 1, u32::MAX];
+const ADDED: [u32; 4] = [32, 256, 65_536, 1 << 31];
 
 /// How far behind the end a part may end that does not lie in its slice.
 const PAST: [u32; 7] = [1, 2, 5, 1_024, 1 << 31, u32::MAX - 3, u32::MAX];
@@ -58,7 +60,8 @@ impl Round<'_> {
         Ok(())
     }
 
-    /// Scripts that go past the edges: the longest run, 256 users, 256 files of one, and a file's 512 pages where the volume has room for them.
+    /// Scripts that go past the edges: the longest run, 256 users, 256 files of one, and a file's 512 pages where the volume has room for
+    /// them.
     pub fn edge_scripts(&mut self, pages: u32) -> Agreed {
         self.no_run(pages)?;
         let (name, kind) = (|n: u32| nth(1_000 + n), b"X".to_vec());
@@ -115,22 +118,25 @@ impl Round<'_> {
             }
         }
         if self.random.one_in(2) {
-            let odd = self.odd(&asked);
-            let place = self.random.below(asked.len() as u32 + 1) as usize;
-            asked.insert(place, odd);
+            self.odd(&mut asked);
         }
         Script { room: self.room(asked.len() as u32) as usize, asked }
     }
 
-    /// A step that is none: a number that is no call's, or a call of the script with a part of it outside.
-    fn odd(&mut self, asked: &[Asked]) -> Asked {
+    /// Puts a step that is none before a call of the script: the same with a number that is no call's, or with a part outside.
+    fn odd(&mut self, asked: &mut Vec<Asked>) {
         let part = *self.random.pick(&Part::ALL);
-        let calls: Vec<&Call> = asked.iter().filter_map(Asked::call).filter(|call| used(call).contains(&part)).collect();
-        if calls.is_empty() || self.random.one_in(4) {
-            return Asked::NoCall(*self.random.pick(&NO_CALLS));
-        }
-        let call = (*self.random.pick(&calls)).clone();
-        Asked::Outside { part, past: *self.random.pick(&PAST), call }
+        let users: Vec<usize> = (0..asked.len()).filter(|&n| used(asked[n].call()).contains(&part)).collect();
+        let (place, odd) = if users.is_empty() || self.random.one_in(4) {
+            let place = self.random.below(asked.len().max(1) as u32) as usize;
+            let call = asked.get(place).map_or(Call::Check, |asked| asked.call().clone());
+            let number = if self.random.one_in(2) { *self.random.pick(&NO_CALLS) } else { number_of(&call) + *self.random.pick(&ADDED) };
+            (place, Asked::NoCall { number, call })
+        } else {
+            let place = *self.random.pick(&users);
+            (place, Asked::Outside { part, past: *self.random.pick(&PAST), call: asked[place].call().clone() })
+        };
+        asked.insert(place, odd);
     }
 
     /// Room for replies: mostly some more than there are steps, now and then less.

@@ -52,10 +52,13 @@ fn script(words: &mut Words) -> Result<Script, String> {
     Ok(Script { room, asked })
 }
 
-/// A step of a script: a call, one by a number that is none's, or one with a part that ends so far outside.
+/// A step of a script: a call, one with a number that is none's, or one with a part that ends so far outside.
 fn asked(mut words: Words) -> Result<Asked, String> {
     let read = match words.next()?.as_str() {
-        "no-call" => Asked::NoCall(words.number()?),
+        "no-call" => {
+            let (number, name) = (words.number()?, words.next()?);
+            Asked::NoCall { number, call: call(&name, &mut words)? }
+        }
         "outside" => {
             let (part, past, name) = (words.next()?, words.number()?, words.next()?);
             let part = Part::ALL.into_iter().find(|other| other.name() == part).ok_or_else(|| format!("{part} is no part"))?;
@@ -245,7 +248,7 @@ impl fmt::Display for Asked {
     fn fmt(&self, out: &mut fmt::Formatter) -> fmt::Result {
         match self {
             Asked::Call(call) => write!(out, "{call}"),
-            Asked::NoCall(number) => write!(out, "no-call {number}"),
+            Asked::NoCall { number, call } => write!(out, "no-call {number} {call}"),
             Asked::Outside { part, past, call } => write!(out, "outside {} {past} {call}", part.name()),
         }
     }
@@ -324,7 +327,7 @@ mod tests {
             "open 0 0",
             "give 4294967297 1",
             "run 3",
-            "run 3 user A\\x3B ; give 0 5 ; no-call 16 ; outside name 1 find-user A ; write 0 0 0 5 1024",
+            "run 3 user A\\x3B ; give 0 5 ; no-call 16 grow 0 0 ; outside name 1 find-user A ; write 0 0 0 5 1024",
             "lend 7168 run 0 format YARD ; format YARD 7",
         ];
         for line in lines {
