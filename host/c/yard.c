@@ -1,5 +1,5 @@
 /* Calls every function of nord.h with known results: the yard examples of document 01 that a program runs, by single calls and by one run,
- * and beside them each number and each kind of holder once. One line for each case; the exit status is 1 where one is wrong. */
+ * and beside them each number, each rule and each kind of holder once. One line for each case; the exit status is 1 where one is wrong. */
 #include <nord.h>
 
 #include <stdio.h>
@@ -246,6 +246,51 @@ static void great_volume(void)
     free(img);
 }
 
+/* Document 01's volume of 16 pages: user index 1, user page 2, object index 3, object page 4, data page 5, index block 6, bit page 8. */
+static uint16_t *yard16(void)
+{
+    size_t words = 16 * PAGE;
+    uint16_t *img = blank(16);
+    nord_format_default(img, words, TEXT("YARD"));
+    nord_create_user(img, words, TEXT("DOCK"));
+    nord_give(img, words, 0, 5);
+    nord_create_indexed(img, words, 0, TEXT("READS"), TEXT("DATA"), 0);
+    nord_grow(img, words, 0, 0);
+    return img;
+}
+
+/* A word of that volume that breaks a rule, for each of them. */
+static void rules(void)
+{
+    static const struct {
+        const char *what;
+        size_t at;
+        uint16_t value;
+        uint32_t rule;
+    } broken[] = {
+        {"no volume name", 1008, 0, NORD_RULE_VOLUME},
+        {"an object pointer with both flags", 1016, 0xC000, NORD_RULE_POINTERS},
+        {"slot 8 of the user index", 1 * PAGE + 17, 5, NORD_RULE_USER_INDEX},
+        {"user 0 says 1", 2 * PAGE + 18, 1, NORD_RULE_USERS},
+        {"an object page past the end", 3 * PAGE + 1, 16, NORD_RULE_OBJECT_BLOCKS},
+        {"an owner who is not there", 4 * PAGE + 16, 1, NORD_RULE_OBJECTS},
+        {"bytes of no whole page", 4 * PAGE + 29, 1, NORD_RULE_SHAPES},
+        {"the object page as a data page", 6 * PAGE + 1, 4, NORD_RULE_HOLDERS},
+        {"no bit set", 8 * PAGE, 0, NORD_RULE_BITS},
+        {"a page too many unreserved", 1023, 6, NORD_RULE_COUNTS},
+    };
+    size_t words = 16 * PAGE, n;
+    uint16_t *img = yard16();
+    for (n = 0; n < sizeof broken / sizeof broken[0]; n++) {
+        uint16_t kept = img[broken[n].at];
+        img[broken[n].at] = broken[n].value;
+        is(broken[n].what, nord_check(img, words), NORD_UNSOUND, broken[n].rule, 0);
+        img[broken[n].at] = kept;
+    }
+    done("all put right again", nord_check(img, words), 8);
+    free(img);
+}
+
 /* The listing of document 01's example, into buffers that are too short, of the right length and longer; and of a refused image. */
 static void listing(void)
 {
@@ -253,13 +298,8 @@ static void listing(void)
                                "USER 0 DOCK GIVEN 5 USED 2\n"
                                "FILE 0 READS:DATA PAGES 1 INDEXED\n";
     size_t words = 16 * PAGE, length = strlen(text);
-    uint16_t *img = blank(16);
+    uint16_t *img = yard16();
     uint8_t out[200];
-    nord_format_default(img, words, TEXT("YARD"));
-    nord_create_user(img, words, TEXT("DOCK"));
-    nord_give(img, words, 0, 5);
-    nord_create_indexed(img, words, 0, TEXT("READS"), TEXT("DATA"), 0);
-    nord_grow(img, words, 0, 0);
     told("the listing's length, asked with no room", nord_list(img, words, out, 0) == length);
     memset(out, '#', sizeof out);
     told("the listing with room for 10 bytes", nord_list(img, words, out, 10) == length && memcmp(out, text, 10) == 0 && out[10] == '#');
@@ -411,6 +451,7 @@ int main(void)
     refusals(img, words);
     way_back(img, words);
     great_volume();
+    rules();
     listing();
     runs();
     nulls();
