@@ -1,12 +1,15 @@
-/* Calls every function of nord.h with known results: the yard examples of document 01 that a program runs, and beside them each number and
- * each kind of holder once. One line for each case; the exit status is 1 where one is wrong. */
+/* Calls every function of nord.h with known results: the yard examples of document 01 that a program runs, by single calls and by one run,
+ * and beside them each number, each rule and each kind of holder once. One line for each case; the exit status is 1 where one is wrong. */
 #include <nord.h>
 
 #include <stdio.h>
 #include <stdlib.h>
 #include <string.h>
 
-#define PAGE 1024
+#define PAGE NORD_PAGE
+
+/* The first number that 32 bits do not hold. */
+#define WIDE ((size_t)UINT32_MAX + 1)
 
 static int cases, wrong;
 
@@ -32,13 +35,20 @@ static void is(const char *what, nord_reply got, uint32_t number, uint32_t rule,
 
 static void done(const char *what, nord_reply got, uint32_t value)
 {
-    is(what, got, 0, 0, value);
+    is(what, got, NORD_DONE, 0, value);
+}
+
+/* A refusal, which has no other number. */
+static void refused(const char *what, nord_reply got, uint32_t number)
+{
+    is(what, got, number, 0, 0);
 }
 
 /* A holder, all six numbers. */
 static void holds(const char *what, nord_holder got, uint32_t kind, uint32_t user, uint32_t file, uint32_t position)
 {
-    int right = got.number == 0 && got.rule == 0 && got.kind == kind && got.user == user && got.file == file && got.position == position;
+    int right = got.number == NORD_DONE && got.rule == 0 && got.kind == kind;
+    right = right && got.user == user && got.file == file && got.position == position;
     told(what, right);
     if (!right)
         printf("       number %u kind %u user %u file %u position %u\n", (unsigned)got.number, (unsigned)got.kind, (unsigned)got.user,
@@ -83,10 +93,10 @@ static uint16_t *blank(size_t pages)
 static void lengths(void)
 {
     uint16_t *img = blank(16385);
-    is("7 pages get 1", nord_format_default(img, 7 * PAGE, TEXT("YARD")), 1, 0, 0);
-    is("16,385 pages get 1", nord_format_default(img, 16385 * (size_t)PAGE, TEXT("YARD")), 1, 0, 0);
-    is("8 pages and a word get 1", nord_check(img, 8 * PAGE + 1), 1, 0, 0);
-    is("no words get 1", nord_check(img, 0), 1, 0, 0);
+    refused("7 pages get 1", nord_format_default(img, 7 * PAGE, TEXT("YARD")), NORD_SIZE);
+    refused("16,385 pages get 1", nord_format_default(img, 16385 * (size_t)PAGE, TEXT("YARD")), NORD_SIZE);
+    refused("8 pages and a word get 1", nord_check(img, 8 * PAGE + 1), NORD_SIZE);
+    refused("no words get 1", nord_check(img, 0), NORD_SIZE);
     told("refused formats changed nothing", img[1008] == 0 && img[1021] == 0 && img[1023] == 0);
     done("8 pages pass shape", nord_format_default(img, 8 * PAGE, TEXT("YARD")), 0);
     done("8 pages: check visits 2", nord_check(img, 8 * PAGE), 2);
@@ -100,20 +110,20 @@ static void first_steps(uint16_t *img, size_t words)
 {
     done("154 pages by default", nord_format_default(img, words, TEXT("YARD")), 0);
     told("bit page 77, unreserved 152", two(img, 1020) == 77 && unreserved(img) == 152);
-    holds("page 1 is free", nord_who_holds(img, words, 1), 0, 0, 0, 0);
+    holds("page 1 is free", nord_who_holds(img, words, 1), NORD_FREE, 0, 0, 0);
     done("first user is 0", nord_create_user(img, words, TEXT("DOCK")), 0);
     told("unreserved 149", unreserved(img) == 149);
-    holds("page 0: master", nord_who_holds(img, words, 0), 1, 0, 0, 0);
-    holds("page 77: bit file", nord_who_holds(img, words, 77), 2, 0, 0, 0);
-    holds("page 1: user index", nord_who_holds(img, words, 1), 3, 0, 0, 0);
-    holds("page 2: user page", nord_who_holds(img, words, 2), 4, 0, 0, 0);
-    holds("page 3: object index", nord_who_holds(img, words, 3), 6, 0, 0, 0);
+    holds("page 0: master", nord_who_holds(img, words, 0), NORD_MASTER, 0, 0, 0);
+    holds("page 77: bit file", nord_who_holds(img, words, 77), NORD_BIT_FILE, 0, 0, 0);
+    holds("page 1: user index", nord_who_holds(img, words, 1), NORD_USER_INDEX, 0, 0, 0);
+    holds("page 2: user page", nord_who_holds(img, words, 2), NORD_USER_PAGE, 0, 0, 0);
+    holds("page 3: object index", nord_who_holds(img, words, 3), NORD_OBJECT_INDEX, 0, 0, 0);
     done("give 100", nord_give(img, words, 0, 100), 0);
     told("unreserved 49", unreserved(img) == 49);
     done("indexed file is 0", nord_create_indexed(img, words, 0, TEXT("READS"), TEXT("DATA"), 0x12345), 0);
     told("unreserved 48", unreserved(img) == 48);
     told("created is kept", two(img, 4 * PAGE + 20) == 0x12345);
-    holds("page 4: object page", nord_who_holds(img, words, 4), 7, 0, 0, 0);
+    holds("page 4: object page", nord_who_holds(img, words, 4), NORD_OBJECT_PAGE, 0, 0, 0);
 }
 
 /* The same volume, with pages in its files. */
@@ -122,18 +132,18 @@ static void pages_of_files(uint16_t *img, size_t words)
     char what[64];
     uint32_t n;
     done("grow: data page 5", nord_grow(img, words, 0, 0), 5);
-    holds("page 5: data", nord_who_holds(img, words, 5), 10, 0, 0, 0);
-    holds("page 6: index block", nord_who_holds(img, words, 6), 9, 0, 0, 0);
+    holds("page 5: data", nord_who_holds(img, words, 5), NORD_FILE_DATA, 0, 0, 0);
+    holds("page 6: index block", nord_who_holds(img, words, 6), NORD_FILE_INDEX, 0, 0, 0);
     done("contiguous 10 is file 1", nord_create_contiguous(img, words, 0, TEXT("RUN"), TEXT(""), 7, 10), 1);
     for (n = 0; n < 10; n++) {
         sprintf(what, "contiguous 10: position %u on page %u", (unsigned)n, (unsigned)(144 + n));
         done(what, nord_address(img, words, 0, 1, n), 144 + n);
     }
-    holds("page 153: data 9 of file 1", nord_who_holds(img, words, 153), 10, 0, 1, 9);
+    holds("page 153: data 9 of file 1", nord_who_holds(img, words, 153), NORD_FILE_DATA, 0, 1, 9);
     done("check visits 18", nord_check(img, words), 18);
     done("find DOCK", nord_find_user(img, words, TEXT("DOCK")), 0);
     done("find RUN", nord_find_file(img, words, 0, TEXT("RUN"), TEXT("")), 1);
-    is("no READS of no type: 4", nord_find_file(img, words, 0, TEXT("READS"), TEXT("")), 4, 0, 0);
+    refused("no READS of no type: 4", nord_find_file(img, words, 0, TEXT("READS"), TEXT("")), NORD_MISSING);
 }
 
 /* Writing, reading and opens. */
@@ -145,7 +155,7 @@ static void words_of_pages(uint16_t *img, size_t words)
     for (n = 0; n < PAGE; n++)
         data[n] = (uint16_t)(3 * n + 1);
     done("write position 9 of file 1", nord_write_page(img, words, 0, 1, 9, data, PAGE), 0);
-    is("a page of 1,023 words: 2", nord_write_page(img, words, 0, 1, 9, data, PAGE - 1), 2, 0, 0);
+    refused("a page of 1,023 words: 2", nord_write_page(img, words, 0, 1, 9, data, PAGE - 1), NORD_ARGUMENT);
     part = nord_read_page(img, words, 0, 1, 9);
     told("read: page 153, 1,024 words", part.offset == 153 * PAGE && part.length == PAGE);
     told("read: what was written", memcmp(img + part.offset, data, sizeof data) == 0);
@@ -163,20 +173,25 @@ static void refusals(uint16_t *img, size_t words)
 {
     uint16_t *before = blank(words / PAGE);
     memcpy(before, img, words * sizeof *img);
-    is("user 256: 2", nord_give(img, words, 256, 1), 2, 0, 0);
-    is("user 2^32: 2", nord_address(img, words, (size_t)UINT32_MAX + 1, 0, 0), 2, 0, 0);
-    is("file 2^32: 2", nord_grow(img, words, 0, (size_t)UINT32_MAX + 1), 2, 0, 0);
-    is("position 2^32: 4", nord_address(img, words, 0, 0, (size_t)UINT32_MAX + 1), 4, 0, 0);
-    told("page 154: 2", nord_who_holds(img, words, words / PAGE).number == 2);
-    is("bit page 154: 2", nord_format(img, words, TEXT("YARD"), 154), 2, 0, 0);
-    is("a name of 17 bytes: 2", nord_create_user(img, words, TEXT("SEVENTEEN-LETTERS")), 2, 0, 0);
-    is("user 1: 4", nord_give(img, words, 1, 1), 4, 0, 0);
-    is("DOCK again: 5", nord_create_user(img, words, TEXT("DOCK")), 5, 0, 0);
-    is("grow of a contiguous file: 6", nord_grow(img, words, 0, 1), 6, 0, 0);
-    is("delete of a user with files: 7", nord_delete_user(img, words, 0), 7, 0, 0);
-    is("take 89 of 88: 9", nord_take(img, words, 0, 89), 9, 0, 0);
-    is("give 49 of 48: 10", nord_give(img, words, 0, 49), 10, 0, 0);
-    is("no run of 78 pages: 11", nord_create_contiguous(img, words, 0, TEXT("LONG"), TEXT(""), 0, 78), 11, 0, 0);
+    refused("user 256: 2", nord_give(img, words, 256, 1), NORD_ARGUMENT);
+    refused("user 2^32: 2", nord_address(img, words, WIDE, 0, 0), NORD_ARGUMENT);
+    refused("file 2^32: 2", nord_grow(img, words, 0, WIDE), NORD_ARGUMENT);
+    refused("position 2^32: 4", nord_address(img, words, 0, 0, WIDE), NORD_MISSING);
+    refused("give 2^32 + 1 pages: 2", nord_give(img, words, 0, WIDE + 1), NORD_ARGUMENT);
+    refused("take 2^32 + 1 pages: 2", nord_take(img, words, 0, WIDE + 1), NORD_ARGUMENT);
+    refused("a run of 2^32 + 1 pages: 2", nord_create_contiguous(img, words, 0, TEXT("LONG"), TEXT(""), 0, WIDE + 1), NORD_ARGUMENT);
+    refused("bit page 2^32 + 1: 2", nord_format(img, words, TEXT("YARD"), WIDE + 1), NORD_ARGUMENT);
+    told("page 2^32: 2", nord_who_holds(img, words, WIDE).number == NORD_ARGUMENT);
+    told("page 154: 2", nord_who_holds(img, words, words / PAGE).number == NORD_ARGUMENT);
+    refused("bit page 154: 2", nord_format(img, words, TEXT("YARD"), 154), NORD_ARGUMENT);
+    refused("a name of 17 bytes: 2", nord_create_user(img, words, TEXT("SEVENTEEN-LETTERS")), NORD_ARGUMENT);
+    refused("user 1: 4", nord_give(img, words, 1, 1), NORD_MISSING);
+    refused("DOCK again: 5", nord_create_user(img, words, TEXT("DOCK")), NORD_TAKEN);
+    refused("grow of a contiguous file: 6", nord_grow(img, words, 0, 1), NORD_KIND);
+    refused("delete of a user with files: 7", nord_delete_user(img, words, 0), NORD_HAS_FILES);
+    refused("take 89 of 88: 9", nord_take(img, words, 0, 89), NORD_ALLOWANCE);
+    refused("give 49 of 48: 10", nord_give(img, words, 0, 49), NORD_UNRESERVED);
+    refused("no run of 78 pages: 11", nord_create_contiguous(img, words, 0, TEXT("LONG"), TEXT(""), 0, 78), NORD_NO_RUN);
     told("refused calls changed nothing", memcmp(before, img, words * sizeof *img) == 0);
     free(before);
 }
@@ -184,19 +199,21 @@ static void refusals(uint16_t *img, size_t words)
 /* Everything back again. */
 static void way_back(uint16_t *img, size_t words)
 {
+    nord_holder holder;
     done("shrink", nord_shrink(img, words, 0, 0), 0);
-    is("shrink of an empty file: 6", nord_shrink(img, words, 0, 0), 6, 0, 0);
+    refused("shrink of an empty file: 6", nord_shrink(img, words, 0, 0), NORD_KIND);
     done("delete RUN", nord_delete_file(img, words, 0, 1), 0);
-    holds("page 153 is free", nord_who_holds(img, words, 153), 0, 0, 0, 0);
+    holds("page 153 is free", nord_who_holds(img, words, 153), NORD_FREE, 0, 0, 0);
     done("delete READS", nord_delete_file(img, words, 0, 0), 0);
     done("take 100", nord_take(img, words, 0, 100), 0);
     done("delete DOCK", nord_delete_user(img, words, 0), 0);
     told("unreserved 148", unreserved(img) == 148);
     done("check visits 6", nord_check(img, words), 6);
     img[1023]++;
-    is("a page too many unreserved: rule 10", nord_check(img, words), 3, 10, 0);
+    is("a page too many unreserved: rule 10", nord_check(img, words), NORD_UNSOUND, NORD_RULE_COUNTS, 0);
+    holder = nord_who_holds(img, words, 0);
     told("who holds page 0, then: 3, rule 10",
-         nord_who_holds(img, words, 0).number == 3 && nord_who_holds(img, words, 0).rule == 10 && nord_who_holds(img, words, 0).kind == 0);
+         holder.number == NORD_UNSOUND && holder.rule == NORD_RULE_COUNTS && holder.kind == NORD_FREE && holder.position == 0);
 }
 
 /* The holders that small volumes lack: object subindex and a file's subindex block; and all 256 users. */
@@ -212,20 +229,65 @@ static void great_volume(void)
         right += nord_create_user(img, words, TEXT(name)).value == n;
     }
     told("256 users, 0 to 255", right == 256);
-    is("one more: 8", nord_create_user(img, words, TEXT("MORE")), 8, 0, 0);
+    refused("one more: 8", nord_create_user(img, words, TEXT("MORE")), NORD_FULL);
     done("give 520 to user 255", nord_give(img, words, 255, 520), 0);
     done("a file of user 255", nord_create_indexed(img, words, 255, TEXT("LONG"), TEXT("DATA"), 0), 0);
     for (n = right = 0; n < 513; n++)
-        right += nord_grow(img, words, 255, 0).number == 0;
+        right += nord_grow(img, words, 255, 0).number == NORD_DONE;
     told("grown 513 times", right == 513);
     told("516 pages used", used_by_255(img) == 516);
-    holds("object subindex", nord_who_holds(img, words, pointed(img, 1016)), 5, 0, 0, 0);
+    holds("object subindex", nord_who_holds(img, words, pointed(img, 1016)), NORD_OBJECT_SUBINDEX, 0, 0, 0);
     n = nord_address(img, words, 255, 0, 512).value;
-    holds("position 512", nord_who_holds(img, words, n), 10, 255, 0, 512);
-    holds("index block 1 after it", nord_who_holds(img, words, n + 1), 9, 255, 0, 1);
-    holds("subindex block after that", nord_who_holds(img, words, n + 2), 8, 255, 0, 0);
-    holds("object page 2,040", nord_who_holds(img, words, nord_address(img, words, 255, 0, 0).value - 1), 7, 0, 0, 2040);
-    holds("object index block 3", nord_who_holds(img, words, nord_address(img, words, 255, 0, 0).value - 2), 6, 0, 0, 3);
+    holds("position 512", nord_who_holds(img, words, n), NORD_FILE_DATA, 255, 0, 512);
+    holds("index block 1 after it", nord_who_holds(img, words, n + 1), NORD_FILE_INDEX, 255, 0, 1);
+    holds("subindex block after that", nord_who_holds(img, words, n + 2), NORD_FILE_SUBINDEX, 255, 0, 0);
+    holds("object page 2,040", nord_who_holds(img, words, nord_address(img, words, 255, 0, 0).value - 1), NORD_OBJECT_PAGE, 0, 0, 2040);
+    holds("object index block 3", nord_who_holds(img, words, nord_address(img, words, 255, 0, 0).value - 2), NORD_OBJECT_INDEX, 0, 0, 3);
+    free(img);
+}
+
+/* Document 01's volume of 16 pages: user index 1, user page 2, object index 3, object page 4, data page 5, index block 6, bit page 8. */
+static uint16_t *yard16(void)
+{
+    size_t words = 16 * PAGE;
+    uint16_t *img = blank(16);
+    nord_format_default(img, words, TEXT("YARD"));
+    nord_create_user(img, words, TEXT("DOCK"));
+    nord_give(img, words, 0, 5);
+    nord_create_indexed(img, words, 0, TEXT("READS"), TEXT("DATA"), 0);
+    nord_grow(img, words, 0, 0);
+    return img;
+}
+
+/* A word of that volume that breaks a rule, for each of them. */
+static void rules(void)
+{
+    static const struct {
+        const char *what;
+        size_t at;
+        uint16_t value;
+        uint32_t rule;
+    } broken[] = {
+        {"no volume name", 1008, 0, NORD_RULE_VOLUME},
+        {"an object pointer with both flags", 1016, 0xC000, NORD_RULE_POINTERS},
+        {"slot 8 of the user index", 1 * PAGE + 17, 5, NORD_RULE_USER_INDEX},
+        {"user 0 says 1", 2 * PAGE + 18, 1, NORD_RULE_USERS},
+        {"an object page past the end", 3 * PAGE + 1, 16, NORD_RULE_OBJECT_BLOCKS},
+        {"an owner who is not there", 4 * PAGE + 16, 1, NORD_RULE_OBJECTS},
+        {"bytes of no whole page", 4 * PAGE + 29, 1, NORD_RULE_SHAPES},
+        {"the object page as a data page", 6 * PAGE + 1, 4, NORD_RULE_HOLDERS},
+        {"no bit set", 8 * PAGE, 0, NORD_RULE_BITS},
+        {"a page too many unreserved", 1023, 6, NORD_RULE_COUNTS},
+    };
+    size_t words = 16 * PAGE, n;
+    uint16_t *img = yard16();
+    for (n = 0; n < sizeof broken / sizeof broken[0]; n++) {
+        uint16_t kept = img[broken[n].at];
+        img[broken[n].at] = broken[n].value;
+        is(broken[n].what, nord_check(img, words), NORD_UNSOUND, broken[n].rule, 0);
+        img[broken[n].at] = kept;
+    }
+    done("all put right again", nord_check(img, words), 8);
     free(img);
 }
 
@@ -236,13 +298,8 @@ static void listing(void)
                                "USER 0 DOCK GIVEN 5 USED 2\n"
                                "FILE 0 READS:DATA PAGES 1 INDEXED\n";
     size_t words = 16 * PAGE, length = strlen(text);
-    uint16_t *img = blank(16);
+    uint16_t *img = yard16();
     uint8_t out[200];
-    nord_format_default(img, words, TEXT("YARD"));
-    nord_create_user(img, words, TEXT("DOCK"));
-    nord_give(img, words, 0, 5);
-    nord_create_indexed(img, words, 0, TEXT("READS"), TEXT("DATA"), 0);
-    nord_grow(img, words, 0, 0);
     told("the listing's length, asked with no room", nord_list(img, words, out, 0) == length);
     memset(out, '#', sizeof out);
     told("the listing with room for 10 bytes", nord_list(img, words, out, 10) == length && memcmp(out, text, 10) == 0 && out[10] == '#');
@@ -250,6 +307,136 @@ static void listing(void)
     img[1023] = 6;
     told("REFUSED 3 RULE 10", nord_list(img, words, out, sizeof out) == 18 && memcmp(out, "REFUSED 3 RULE 10\n", 18) == 0);
     told("REFUSED 1", nord_list(img, 1023, out, sizeof out) == 10 && memcmp(out, "REFUSED 1\n", 10) == 0);
+    free(img);
+}
+
+/* The yard's steps as a list, up to one that is refused and one after it; names and types are parts of the text. */
+static const uint8_t script_text[] = "YARDDOCKREADSDATARUN";
+
+static const nord_step script[] = {
+    {.call = NORD_CALL_FORMAT_DEFAULT, .name_at = 0, .name_bytes = 4},
+    {.call = NORD_CALL_CREATE_USER, .name_at = 4, .name_bytes = 4},
+    {.call = NORD_CALL_GIVE, .user = 0, .count = 100},
+    {.call = NORD_CALL_CREATE_INDEXED, .name_at = 8, .name_bytes = 5, .type_at = 13, .type_bytes = 4, .created = 0x12345},
+    {.call = NORD_CALL_GROW, .file = 0},
+    {.call = NORD_CALL_CREATE_CONTIGUOUS, .name_at = 17, .name_bytes = 3, .created = 7, .count = 10},
+    {.call = NORD_CALL_ADDRESS, .file = 1, .count = 9},
+    {.call = NORD_CALL_WRITE_PAGE, .file = 1, .count = 9},
+    {.call = NORD_CALL_NOTE_OPEN, .file = 0},
+    {.call = NORD_CALL_FIND_FILE, .name_at = 17, .name_bytes = 3},
+    {.call = NORD_CALL_GROW, .file = 1},
+    {.call = NORD_CALL_DELETE_FILE, .file = 0},
+};
+
+#define STEPS (sizeof script / sizeof script[0])
+
+/* What the steps before the refused one give. */
+static const uint32_t values[STEPS - 2] = {0, 0, 0, 0, 5, 1, 153, 0, 0, 1};
+
+/* The same calls one by one. */
+static void singly(uint16_t *img, size_t words, const uint16_t *data)
+{
+    nord_format_default(img, words, TEXT("YARD"));
+    nord_create_user(img, words, TEXT("DOCK"));
+    nord_give(img, words, 0, 100);
+    nord_create_indexed(img, words, 0, TEXT("READS"), TEXT("DATA"), 0x12345);
+    nord_grow(img, words, 0, 0);
+    nord_create_contiguous(img, words, 0, TEXT("RUN"), TEXT(""), 7, 10);
+    nord_write_page(img, words, 0, 1, 9, data, PAGE);
+    nord_note_open(img, words, 0, 0);
+}
+
+/* A run of some steps over the script's text, without page data. */
+static size_t run(uint16_t *img, size_t words, const nord_step *steps, size_t step_numbers, nord_reply *replies, size_t reply_numbers)
+{
+    return nord_run(img, words, steps, step_numbers, script_text, sizeof script_text - 1, NULL, 0, replies, reply_numbers);
+}
+
+/* The whole script, and what it leaves. */
+static void by_one_run(uint16_t *img, uint16_t *single, size_t words)
+{
+    uint16_t data[PAGE];
+    nord_reply replies[STEPS];
+    size_t n, made;
+    for (n = 0; n < PAGE; n++)
+        data[n] = (uint16_t)(5 * n + 3);
+    memset(replies, 0x55, sizeof replies);
+    made = nord_run(img, words, script, NORD_STEPS(STEPS), script_text, sizeof script_text - 1, data, PAGE, replies, NORD_REPLIES(STEPS));
+    told("a run stops after its first refusal", made == STEPS - 1);
+    for (n = 0; n < STEPS - 2; n++)
+        done("a step of the run", replies[n], values[n]);
+    refused("the refused step: 6", replies[STEPS - 2], NORD_KIND);
+    told("the reply after it stays", replies[STEPS - 1].number == 0x55555555 && replies[STEPS - 1].value == 0x55555555);
+    singly(single, words, data);
+    told("the image is the single calls'", memcmp(img, single, words * sizeof *img) == 0);
+}
+
+/* Runs that are cut short: by their steps, by their room, by a length of 0. */
+static void short_runs(uint16_t *img, size_t words)
+{
+    nord_reply replies[STEPS];
+    memset(replies, 0x55, sizeof replies);
+    told("two steps and a part of one: 2", run(img, words, script, NORD_STEPS(3) - 1, replies, NORD_REPLIES(STEPS)) == 2);
+    told("room for one reply and a part of one: 1", run(img, words, script, NORD_STEPS(STEPS), replies, NORD_REPLIES(2) - 1) == 1);
+    told("no other reply is written", replies[2].number == 0x55555555);
+    told("no steps: 0", run(img, words, NULL, 0, replies, NORD_REPLIES(STEPS)) == 0);
+    told("no room: 0", run(img, words, script, NORD_STEPS(STEPS), NULL, 0) == 0);
+    told("nothing at all: 0", nord_run(NULL, 0, NULL, 0, NULL, 0, NULL, 0, NULL, 0) == 0);
+}
+
+/* A run of one step, which is refused. */
+static nord_reply refused_step(uint16_t *img, size_t words, nord_step step)
+{
+    nord_reply reply = {0, 0, 0};
+    told("one reply", run(img, words, &step, NORD_STEPS(1), &reply, NORD_REPLIES(1)) == 1);
+    return reply;
+}
+
+/* Steps that are no calls, or that use a part outside what is lent. */
+static void wrong_steps(uint16_t *img, size_t words)
+{
+    nord_step no_call = {.call = 6}, no_name = {.call = NORD_CALL_FIND_USER, .name_at = sizeof script_text - 4, .name_bytes = 4};
+    nord_step no_type = {.call = NORD_CALL_FIND_FILE, .name_at = 17, .name_bytes = 3, .type_at = UINT32_MAX, .type_bytes = 4};
+    nord_step no_data = {.call = NORD_CALL_WRITE_PAGE, .file = 1};
+    refused("who holds is no step: 2", refused_step(img, words, no_call), NORD_ARGUMENT);
+    refused("on 7 pages: 1", refused_step(img, 7 * PAGE, no_call), NORD_SIZE);
+    refused("a name that ends after the text: 2", refused_step(img, words, no_name), NORD_ARGUMENT);
+    refused("a type that begins after the text: 2", refused_step(img, words, no_type), NORD_ARGUMENT);
+    refused("no page data: 2", refused_step(img, words, no_data), NORD_ARGUMENT);
+    img[1023]++;
+    is("a step on an unsound image: 3", refused_step(img, words, script[4]), NORD_UNSOUND, NORD_RULE_COUNTS, 0);
+    img[1023]--;
+}
+
+static void runs(void)
+{
+    size_t words = 154 * PAGE;
+    uint16_t *img = blank(154), *single = blank(154);
+    by_one_run(img, single, words);
+    wrong_steps(img, words);
+    told("wrong steps changed nothing", memcmp(img, single, words * sizeof *img) == 0);
+    short_runs(img, words);
+    free(single);
+    free(img);
+}
+
+/* Null is as good as any pointer where the length is 0. */
+static void nulls(void)
+{
+    static const char text[] = "VOLUME YARD PAGES 16 RESERVED 6 UNRESERVED 10\n"
+                               "USER 0 DOCK GIVEN 0 USED 0\n"
+                               "FILE 0 READS: PAGES 0 EMPTY\n";
+    size_t words = 16 * PAGE;
+    uint16_t *img = blank(16);
+    nord_format_default(img, words, TEXT("YARD"));
+    nord_create_user(img, words, TEXT("DOCK"));
+    refused("no image: 1", nord_check(NULL, 0), NORD_SIZE);
+    refused("no image to change: 1", nord_give(NULL, 0, 0, 1), NORD_SIZE);
+    refused("no name: 2", nord_create_user(img, words, NULL, 0), NORD_ARGUMENT);
+    done("no type", nord_create_indexed(img, words, 0, TEXT("READS"), NULL, 0, 0), 0);
+    done("find a file of no type", nord_find_file(img, words, 0, TEXT("READS"), NULL, 0), 0);
+    refused("no data: 2", nord_write_page(img, words, 0, 0, 0, NULL, 0), NORD_ARGUMENT);
+    told("no room for a listing", nord_list(img, words, NULL, 0) == strlen(text));
     free(img);
 }
 
@@ -264,7 +451,10 @@ int main(void)
     refusals(img, words);
     way_back(img, words);
     great_volume();
+    rules();
     listing();
+    runs();
+    nulls();
     free(img);
     printf("yard: %d cases, %d wrong\n", cases, wrong);
     return wrong != 0;

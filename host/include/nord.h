@@ -1,23 +1,28 @@
-/* NORD File System disk images: the eighteen calls of the proved library, over numbers and slices.
+/* NORD File System disk images: the calls of the proved library, over numbers and slices.
  *
  * An image is `words` 16-bit words, 1,024 to a page; the caller lends it for the time of a call. Every call first sees that the image is of
  * a whole number of 8 to 16,384 pages (else number 1), that its arguments are right (else 2) and, format aside, that the image is sound
  * (else 3, with the lowest broken rule). A refused call changes no word of the image.
  *
- * number   0 done
- *          1 the length is no whole number of pages, or there are fewer than 8 or more than 16,384
- *          2 an argument is wrong
- *          3 the image is unsound: `rule` is the lowest broken rule, 1 to 10
- *          4 the named user, file or position does not exist
- *          5 the name is taken
- *          6 wrong kind: grow or shrink of a contiguous file, shrink of an empty one
- *          7 the user has a file
- *          8 all 256 entries are used
- *          9 given less used is below the pages needed, or below the pages to be taken back
- *         10 unreserved is below the system pages needed, or the pages to be given
- *         11 no run for a contiguous file
- * rule     with 3 the lowest broken rule, else 0
- * value    with 0: check the pages visited; find and create the index; address and grow the data page's number; else 0
+ * What a caller owes
+ *
+ * Slices that are lent to one call must not overlap: what a call writes to (the image of a call that changes, `out`, `replies`) may share no
+ * byte with anything else that is lent to it (`img`, `name`, `type`, `data`, `steps`, `text`). Only what is read alone may overlap what is read
+ * alone. All that is proved of the calls is proved of slices apart, and no call can see that they are not. So nord_write_page with data that
+ * lie partly in the page which it writes answers 0 and stores other words, and nord_create_user with a name that lies in the page which the
+ * new user's entry takes answers 0 and leaves an unsound image. Copy such data out of the image first.
+ *
+ * A slice has all the elements that its length says, each at its type's alignment: words (uint16_t) begin at an even address, steps and
+ * replies at one that four divides. Nothing is read or written outside a slice. A slice of length 0 is not looked at, so its pointer may be
+ * anything, null too: nord_list(img, words, NULL, 0) asks for a length, and a type of no bytes may be NULL, 0.
+ *
+ * Words in memory are this machine's own numbers. An image file has the high byte of each word first, so on a machine that has the low byte
+ * first (x86-64 and Arm do) the bytes of each word change places between the file and the slice.
+ *
+ * No other thread writes to what is lent while a call runs. The library keeps nothing between calls, has no data of its own and takes no
+ * memory but some stack, so calls on different images may run at the same time.
+ *
+ * Users, files, positions, pages and counts are size_t and judged in their full width: 2^32 + 1 pages is a wrong count, and not 1.
  *
  * Names are 1 to 16 bytes of A-Z, 0-9 and hyphen, types 0 to 4 such bytes, without fill.
  */
@@ -31,15 +36,64 @@
 extern "C" {
 #endif
 
+/* The words of a page. */
+#define NORD_PAGE 1024
+
+/* The number that a call answers: the lowest that applies. */
+enum {
+    NORD_DONE = 0,
+    NORD_SIZE = 1,        /* the length is no whole number of pages, or there are fewer than 8 or more than 16,384 */
+    NORD_ARGUMENT = 2,    /* an argument is wrong */
+    NORD_UNSOUND = 3,     /* the image is unsound: `rule` is the lowest broken rule */
+    NORD_MISSING = 4,     /* the named user, file or position does not exist */
+    NORD_TAKEN = 5,       /* the name is taken */
+    NORD_KIND = 6,        /* wrong kind: grow or shrink of a contiguous file, shrink of an empty one */
+    NORD_HAS_FILES = 7,   /* delete of a user who has a file */
+    NORD_FULL = 8,        /* all 256 entries are used */
+    NORD_ALLOWANCE = 9,   /* given less used is below the pages needed, or below the pages to be taken back */
+    NORD_UNRESERVED = 10, /* unreserved is below the system pages needed, or the pages to be given */
+    NORD_NO_RUN = 11      /* no run for a contiguous file */
+};
+
+/* The rules of a sound image, by what they speak of. */
+enum {
+    NORD_RULE_VOLUME = 1,        /* the volume's name and the bit pointer */
+    NORD_RULE_POINTERS = 2,      /* the user pointer and the object pointer */
+    NORD_RULE_USER_INDEX = 3,    /* the slots of the user index */
+    NORD_RULE_USERS = 4,         /* the used users */
+    NORD_RULE_OBJECT_BLOCKS = 5, /* the blocks of the object file */
+    NORD_RULE_OBJECTS = 6,       /* the used objects: owners, numbers, names */
+    NORD_RULE_SHAPES = 7,        /* each file's shape, bytes and pages */
+    NORD_RULE_HOLDERS = 8,       /* no page has two holders */
+    NORD_RULE_BITS = 9,          /* a bit is set exactly when its page has a holder */
+    NORD_RULE_COUNTS = 10        /* used, given and unreserved pages */
+};
+
+/* Who holds a page: nobody, the system, or (from 8 on) a file. */
+enum {
+    NORD_FREE = 0,
+    NORD_MASTER = 1,
+    NORD_BIT_FILE = 2,
+    NORD_USER_INDEX = 3,
+    NORD_USER_PAGE = 4,
+    NORD_OBJECT_SUBINDEX = 5,
+    NORD_OBJECT_INDEX = 6,
+    NORD_OBJECT_PAGE = 7,
+    NORD_FILE_SUBINDEX = 8,
+    NORD_FILE_INDEX = 9,
+    NORD_FILE_DATA = 10
+};
+
+/* number: above. rule: with NORD_UNSOUND the lowest broken rule, else 0. value: with NORD_DONE, of check the pages visited, of find and
+ * create the index, of address and grow the data page's number; else 0. */
 typedef struct {
     uint32_t number;
     uint32_t rule;
     uint32_t value;
 } nord_reply;
 
-/* Who holds a page. kind: 0 free, 1 master, 2 bit file, 3 user index, 4 user page, 5 object subindex, 6 object index, 7 object page,
- * 8 a file's subindex block, 9 its index block, 10 its data page. user and file are 0 for system pages; position counts data pages, index
- * blocks, bit, user and object pages within their file from 0, and is 0 else. */
+/* Who holds a page. kind: above. user and file are 0 for system pages; position counts data pages, index blocks, bit, user and object pages
+ * within their file from 0, and is 0 else. */
 typedef struct {
     uint32_t number;
     uint32_t rule;
@@ -73,15 +127,63 @@ nord_reply nord_format(uint16_t *img, size_t words, const uint8_t *name, size_t 
 nord_reply nord_format_default(uint16_t *img, size_t words, const uint8_t *name, size_t name_bytes);
 nord_reply nord_create_user(uint16_t *img, size_t words, const uint8_t *name, size_t name_bytes);
 nord_reply nord_delete_user(uint16_t *img, size_t words, size_t user);
-nord_reply nord_give(uint16_t *img, size_t words, size_t user, uint32_t count);
-nord_reply nord_take(uint16_t *img, size_t words, size_t user, uint32_t count);
+nord_reply nord_give(uint16_t *img, size_t words, size_t user, size_t count);
+nord_reply nord_take(uint16_t *img, size_t words, size_t user, size_t count);
 nord_reply nord_create_indexed(uint16_t *img, size_t words, size_t user, const uint8_t *name, size_t name_bytes, const uint8_t *type, size_t type_bytes, uint32_t created);
-nord_reply nord_create_contiguous(uint16_t *img, size_t words, size_t user, const uint8_t *name, size_t name_bytes, const uint8_t *type, size_t type_bytes, uint32_t created, uint32_t count);
+nord_reply nord_create_contiguous(uint16_t *img, size_t words, size_t user, const uint8_t *name, size_t name_bytes, const uint8_t *type, size_t type_bytes, uint32_t created, size_t count);
 nord_reply nord_grow(uint16_t *img, size_t words, size_t user, size_t file);
 nord_reply nord_shrink(uint16_t *img, size_t words, size_t user, size_t file);
 nord_reply nord_delete_file(uint16_t *img, size_t words, size_t user, size_t file);
 nord_reply nord_write_page(uint16_t *img, size_t words, size_t user, size_t file, size_t position, const uint16_t *data, size_t data_words);
 nord_reply nord_note_open(uint16_t *img, size_t words, size_t user, size_t file);
+
+/* The calls of a step, with what each uses of it. Who holds a page (6) and reading a page (16) answer more than a reply has: they are no
+ * steps. */
+enum {
+    NORD_CALL_FORMAT = 1,             /* name, count: the bit page */
+    NORD_CALL_CHECK = 2,              /* nothing */
+    NORD_CALL_FIND_USER = 3,          /* name */
+    NORD_CALL_FIND_FILE = 4,          /* user, name, type */
+    NORD_CALL_ADDRESS = 5,            /* user, file, count: the position */
+    NORD_CALL_CREATE_USER = 7,        /* name */
+    NORD_CALL_DELETE_USER = 8,        /* user */
+    NORD_CALL_GIVE = 9,               /* user, count */
+    NORD_CALL_TAKE = 10,              /* user, count */
+    NORD_CALL_CREATE_INDEXED = 11,    /* user, name, type, created */
+    NORD_CALL_CREATE_CONTIGUOUS = 12, /* user, name, type, created, count */
+    NORD_CALL_GROW = 13,              /* user, file */
+    NORD_CALL_SHRINK = 14,            /* user, file */
+    NORD_CALL_DELETE_FILE = 15,       /* user, file */
+    NORD_CALL_WRITE_PAGE = 17,        /* user, file, count: the position, data */
+    NORD_CALL_NOTE_OPEN = 18,         /* user, file */
+    NORD_CALL_FORMAT_DEFAULT = 19     /* name */
+};
+
+/* A step: a call with its arguments. The name is the bytes name_at .. name_at + name_bytes of `text`, the type likewise, and a page's data
+ * are the 1,024 words of `data` from data_at on. What a call does not use may be anything. */
+typedef struct {
+    uint32_t call;
+    uint32_t user;
+    uint32_t file;
+    uint32_t count;
+    uint32_t created;
+    uint32_t name_at;
+    uint32_t name_bytes;
+    uint32_t type_at;
+    uint32_t type_bytes;
+    uint32_t data_at;
+} nord_step;
+
+/* The lengths that nord_run is told: the numbers of so many steps, and of so many replies. */
+#define NORD_STEPS(n) ((size_t)(n) * 10)
+#define NORD_REPLIES(n) ((size_t)(n) * 3)
+
+/* Makes a list of calls with one check of the image for all of them. The steps are made in order, as many as there are (whole ones) and as
+ * have room for a reply; the result is the number of replies. Each step made has its reply, in its place; the first that is refused is the
+ * last that is made, and all other replies stay as they were. Replies and image are those of the single calls made one after the other. A
+ * step with any other call's number, or that uses a part which does not lie in `text` or `data`, is a call with a wrong argument. */
+size_t nord_run(uint16_t *img, size_t words, const nord_step *steps, size_t step_numbers, const uint8_t *text, size_t text_bytes,
+                const uint16_t *data, size_t data_words, nord_reply *replies, size_t reply_numbers);
 
 #ifdef __cplusplus
 }

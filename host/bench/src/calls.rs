@@ -85,6 +85,11 @@ pub struct Question {
 pub const NEW_NAME: &[u8] = b"NEW";
 
 impl Question {
+    /// The user, the file, the position, the page and the file that grows, as calls take them.
+    fn numbers(&self) -> [usize; 5] {
+        [self.user, self.file, self.position, self.page, self.growing].map(|number| number as usize)
+    }
+
     /// As one line of text, for a child process.
     pub fn to_text(&self) -> String {
         let mut text = String::new();
@@ -123,15 +128,16 @@ pub fn ask(program: Program, call: Call, image: &mut [u16], q: &Question) -> Ans
 }
 
 fn ask_proved(call: Call, image: &mut [u16], q: &Question) -> Answer {
+    let [user, file, position, page, growing] = q.numbers();
     let reply = match call {
         Call::Check => proved::check(image),
-        Call::Address => proved::address(image, q.user, q.file, q.position),
+        Call::Address => proved::address(image, user, file, position),
         Call::FindUser => proved::find_user(image, q.user_name.as_bytes()),
-        Call::FindFile => proved::find_file(image, q.user, q.file_name.as_bytes(), q.kind.as_bytes()),
-        Call::Grow => proved::grow(image, q.user, q.growing),
-        Call::CreateFile => proved::create_indexed(image, q.user, NEW_NAME, q.kind.as_bytes(), 1),
+        Call::FindFile => proved::find_file(image, user, q.file_name.as_bytes(), q.kind.as_bytes()),
+        Call::Grow => proved::grow(image, user, growing),
+        Call::CreateFile => proved::create_indexed(image, user, NEW_NAME, q.kind.as_bytes(), 1),
         Call::WhoHolds => {
-            let holder = proved::who_holds(image, q.page);
+            let holder = proved::who_holds(image, page);
             return [holder.number, holder.rule, holder.kind, holder.user, holder.file, holder.position];
         }
     };
@@ -139,15 +145,16 @@ fn ask_proved(call: Call, image: &mut [u16], q: &Question) -> Answer {
 }
 
 fn ask_second(call: Call, image: &mut [u16], q: &Question) -> Answer {
+    let [user, file, position, page, growing] = q.numbers();
     let reply = match call {
         Call::Check => second::check(image),
-        Call::Address => second::address(image, q.user, q.file, q.position),
+        Call::Address => second::address(image, user, file, position),
         Call::FindUser => second::find_user(image, q.user_name.as_bytes()),
-        Call::FindFile => second::find_file(image, q.user, q.file_name.as_bytes(), q.kind.as_bytes()),
-        Call::Grow => second::grow(image, q.user, q.growing),
-        Call::CreateFile => second::create_indexed(image, q.user, NEW_NAME, q.kind.as_bytes(), 1),
+        Call::FindFile => second::find_file(image, user, q.file_name.as_bytes(), q.kind.as_bytes()),
+        Call::Grow => second::grow(image, user, growing),
+        Call::CreateFile => second::create_indexed(image, user, NEW_NAME, q.kind.as_bytes(), 1),
         Call::WhoHolds => {
-            let holder = second::who_holds(image, q.page);
+            let holder = second::who_holds(image, page);
             return [
                 holder.reply.number,
                 holder.reply.rule,

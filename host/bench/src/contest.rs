@@ -9,7 +9,7 @@ use std::hint::black_box;
 use std::time::{Duration, Instant};
 
 /// A page as it was, by the place of its first word.
-type Kept = (usize, Vec<u16>);
+pub type Kept = (usize, Vec<u16>);
 
 /// The pages that a call changes, as they are before it. Both programs have to answer the same and to leave the same words.
 fn pages_changed(image: &[u16], call: Call, q: &Question) -> Vec<Kept> {
@@ -18,12 +18,20 @@ fn pages_changed(image: &[u16], call: Call, q: &Question) -> Vec<Kept> {
     assert_eq!(answers.0, answers.1, "{}: the answers differ", call.name());
     assert_eq!(answers.0[0], 0, "{}: a measured call is done", call.name());
     assert!(first == other, "{}: the words differ", call.name());
-    let places = (0..image.len()).step_by(PAGE_WORDS);
-    let page = |words: &[u16], at: usize| words[at..at + PAGE_WORDS].to_vec();
-    places
-        .filter(|&at| page(image, at) != page(&first, at))
-        .map(|at| (at, page(image, at)))
-        .collect()
+    changed(image, &first)
+}
+
+/// The pages that differ, as they are in the first of two images.
+pub fn changed(image: &[u16], after: &[u16]) -> Vec<Kept> {
+    let pages = image.chunks_exact(PAGE_WORDS).zip(after.chunks_exact(PAGE_WORDS)).enumerate();
+    let differ = pages.filter(|(_, (before, after))| before != after);
+    differ.map(|(n, (before, _))| (n * PAGE_WORDS, before.to_vec())).collect()
+}
+
+/// Puts pages back as they were.
+pub fn put_back(image: &mut [u16], kept: &[Kept]) {
+    kept.iter()
+        .for_each(|(at, page)| image[*at..*at + PAGE_WORDS].copy_from_slice(page));
 }
 
 /// A side that asks one call. Each run of a call that changes words is timed by itself, and the words are put back after it.
@@ -40,8 +48,7 @@ fn asking<'a>(image: &'a RefCell<Vec<u16>>, program: Program, call: Call, q: &'a
             let start = Instant::now();
             black_box(ask(program, call, black_box(words), q));
             spent += start.elapsed();
-            kept.iter()
-                .for_each(|(at, page)| words[*at..*at + PAGE_WORDS].copy_from_slice(page));
+            put_back(words, kept);
         }
         spent
     })

@@ -53,20 +53,20 @@ impl Volume {
     }
 }
 
-fn user_name(number: u32) -> Vec<u8> {
+pub fn user_name(number: u32) -> Vec<u8> {
     format!("USER{number}").into_bytes()
 }
 
-fn file_name(number: u32) -> Vec<u8> {
+pub fn file_name(number: u32) -> Vec<u8> {
     format!("FILE{number}").into_bytes()
 }
 
-const KIND: &[u8] = b"DATA";
+pub const KIND: &[u8] = b"DATA";
 
 /// What is asked of the last file of the last user.
 fn question(words: &[u16], user: u32, file: u32, position: u32, growing: u32) -> Question {
     let text = |bytes| String::from_utf8(bytes).unwrap();
-    let reply = second::address(words, user, file, position);
+    let reply = second::address(words, user as usize, file as usize, position as usize);
     assert_eq!(reply.number, 0);
     Question {
         user,
@@ -225,7 +225,7 @@ mod tests {
         let mut words = vec![0; pages as usize * PAGE_WORDS];
         assert_eq!(second::format(&mut words, volume, None).number, 0);
         assert_eq!(second::create_user(&mut words, &user_name(0)).number, 0);
-        assert_eq!(second::give(&mut words, 0, given).number, 0);
+        assert_eq!(second::give(&mut words, 0, given as usize).number, 0);
         assert_eq!(second::create_indexed(&mut words, 0, &file_name(0), KIND, 0).number, 0);
         (0..size).for_each(|_| assert_eq!(second::grow(&mut words, 0, 0).number, 0));
         words

@@ -11,6 +11,7 @@ fn a_quick_run_prints_every_table() {
         "The machine and the tools",
         "The volumes",
         "Calls",
+        "Runs",
         "Check beside e2fsck",
         "Growth of the check",
     ];

@@ -1,6 +1,7 @@
 //! One image in two copies: the proved library works on the one, the second program on the other, and after every step they are compared.
 
 use crate::calls::{Answer, Call};
+use crate::script::{Played, Script};
 use crate::tally::Tally;
 use crate::text::Step;
 use crate::words::PAGE;
@@ -16,6 +17,12 @@ const LISTED: usize = 32;
 #[derive(Clone, Copy)]
 pub struct Answered {
     pub call: Answer,
+    pub check: Answer,
+}
+
+/// What a run answered: its replies, and the check after it.
+pub struct Ran {
+    pub played: Played,
     pub check: Answer,
 }
 
@@ -81,6 +88,40 @@ impl Both {
         Ok(Answered { call: answer, check })
     }
 
+    /// Plays a script three ways: by a run of each program, and by single calls of the proved library. The number of replies, all replies,
+    /// those that no step has among them, and all words must be the same. Then the check and the listings, as after a call.
+    pub fn run(&mut self, lent: Option<usize>, script: Script, tally: &mut Tally) -> Result<Ran, Box<Disagreement>> {
+        let words = lent.unwrap_or(self.start.len());
+        self.steps.push(Step::Run { lent, script: script.clone() });
+        let mut image = self.proved.clone();
+        let single = script.singly(&mut image[..words]);
+        let proved = script.on_proved(&mut self.proved[..words]);
+        let mut before = std::mem::replace(&mut self.second, image);
+        self.same_run("the run (told as proved) and the single calls (told as second)", &proved, &single)?;
+        let second = catch_unwind(AssertUnwindSafe(|| script.on_second(&mut before[..words])));
+        self.second = before;
+        match second {
+            Ok(second) => self.same_run("the runs", &proved, &second)?,
+            Err(_) => return Err(self.disagreement("the run: the second program panicked".to_string(), NO_ANSWER, NO_ANSWER)),
+        }
+        let check = self.one_call("the check after the run", &Call::Check, self.start.len())?;
+        self.same_listing(check)?;
+        tally.ran(&script, &proved);
+        Ok(Ran { played: proved, check })
+    }
+
+    /// Two ways to play a script gave the same replies and left the same words, or the first difference is told.
+    fn same_run(&mut self, of: &str, one: &Played, two: &Played) -> Result<(), Box<Disagreement>> {
+        if let Some(n) = (0..one.replies.len()).find(|&n| one.replies[n] != two.replies[n]) {
+            return Err(self.disagreement(format!("{of}: reply {n} differs"), one.replies[n], two.replies[n]));
+        }
+        let none = Answer::default();
+        if one.made != two.made {
+            return Err(self.disagreement(format!("{of}: {} and {} steps are said to be made", one.made, two.made), none, none));
+        }
+        self.agree(of, none, none)
+    }
+
     /// The listings of an image that the listing program takes are the same, byte for byte; refusals have theirs, too.
     fn same_listing(&mut self, check: Answer) -> Result<(), Box<Disagreement>> {
         if self.start.len() > LISTED * PAGE {
@@ -133,6 +174,7 @@ pub fn page_and_word(at: usize) -> (usize, usize) {
 #[cfg(test)]
 mod tests {
     use super::*;
+    use crate::script::Asked;
 
     fn formatted() -> Both {
         let mut both = Both::new(vec![0; 16 * PAGE]);
@@ -161,6 +203,22 @@ mod tests {
         let one = Answer::default();
         let others = [Answer { position: 1, ..one }, Answer { offset: 1, ..one }, Answer { rule: 1, ..one }, Answer { kind: 1, ..one }];
         assert_eq!(others.map(|two| one.first_difference(&two)), [Some("position"), Some("offset"), Some("rule"), Some("kind")]);
+    }
+
+    /// A run that leaves another word, and one that gives another reply, are seen.
+    #[test]
+    fn a_run_that_differs_is_seen() {
+        let script = || Script { room: 2, asked: vec![Asked::Call(Call::CreateUser { name: b"DOCK".to_vec() })] };
+        let mut both = formatted();
+        assert!(both.run(None, script(), &mut Tally::default()).is_ok());
+        let mut both = formatted();
+        both.second[9 * PAGE] ^= 1;
+        let seen = both.run(None, script(), &mut Tally::default()).err().expect("a disagreement");
+        assert_eq!(seen.word, Some((9 * PAGE, 0, 1)));
+        let mut both = formatted();
+        both.second[1023] += 1;
+        let seen = both.run(None, script(), &mut Tally::default()).err().expect("a disagreement");
+        assert_eq!((seen.proved.number, seen.second.number, seen.second.rule), (0, 3, 10));
     }
 
     #[test]

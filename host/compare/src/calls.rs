@@ -1,26 +1,26 @@
 //! The calls with their arguments, and how each is made of the proved library and of the second program.
 
-/// One call. `Format` without a bit page is the header's nord_format_default.
+/// One call. `Format` without a bit page is the header's nord_format_default. Numbers are as wide as the header has them.
 #[derive(Clone, Debug, PartialEq)]
 pub enum Call {
     Check,
     FindUser { name: Vec<u8> },
-    FindFile { user: u32, name: Vec<u8>, kind: Vec<u8> },
-    Address { user: u32, file: u32, position: u32 },
-    WhoHolds { page: u32 },
-    ReadPage { user: u32, file: u32, position: u32 },
-    Format { name: Vec<u8>, bit_page: Option<u32> },
+    FindFile { user: usize, name: Vec<u8>, kind: Vec<u8> },
+    Address { user: usize, file: usize, position: usize },
+    WhoHolds { page: usize },
+    ReadPage { user: usize, file: usize, position: usize },
+    Format { name: Vec<u8>, bit_page: Option<usize> },
     CreateUser { name: Vec<u8> },
-    DeleteUser { user: u32 },
-    Give { user: u32, count: u32 },
-    Take { user: u32, count: u32 },
-    CreateIndexed { user: u32, name: Vec<u8>, kind: Vec<u8>, created: u32 },
-    CreateContiguous { user: u32, name: Vec<u8>, kind: Vec<u8>, created: u32, count: u32 },
-    Grow { user: u32, file: u32 },
-    Shrink { user: u32, file: u32 },
-    DeleteFile { user: u32, file: u32 },
-    WritePage { user: u32, file: u32, position: u32, data: Data },
-    NoteOpen { user: u32, file: u32 },
+    DeleteUser { user: usize },
+    Give { user: usize, count: usize },
+    Take { user: usize, count: usize },
+    CreateIndexed { user: usize, name: Vec<u8>, kind: Vec<u8>, created: u32 },
+    CreateContiguous { user: usize, name: Vec<u8>, kind: Vec<u8>, created: u32, count: usize },
+    Grow { user: usize, file: usize },
+    Shrink { user: usize, file: usize },
+    DeleteFile { user: usize, file: usize },
+    WritePage { user: usize, file: usize, position: usize, data: Data },
+    NoteOpen { user: usize, file: usize },
 }
 
 /// The names of the calls, in the order of `Call::which`.
@@ -54,7 +54,7 @@ pub struct Data {
 }
 
 impl Data {
-    fn words(self) -> Vec<u16> {
+    pub fn words(self) -> Vec<u16> {
         (0..self.length).map(|n| self.first.wrapping_add((n as u16).wrapping_mul(77))).collect()
     }
 }

@@ -4,8 +4,9 @@
 use crate::both::Both;
 use crate::calls::Answer;
 use crate::report::told;
+use crate::script::Played;
 use crate::tally::Tally;
-use crate::text::{answer, step, Step};
+use crate::text::{answer, replies, replies_in_words, step, Step};
 use crate::words::PAGE;
 use std::fs;
 use std::path::{Path, PathBuf};
@@ -44,9 +45,17 @@ fn one_case(folder: &Path, tally: &mut Tally) -> Result<String, String> {
     }
     for line in lines {
         let (asked, wanted) = line.split_once(':').ok_or_else(|| format!("expect: `{line}` has no colon"))?;
-        match asked.strip_prefix("word ") {
-            Some(place) => expect_word(&both, place, wanted)?,
-            None => expect(&mut both, asked, &answer(wanted)?, tally)?,
+        if let Some(place) = asked.strip_prefix("word ") {
+            expect_word(&both, place, wanted)?;
+            continue;
+        }
+        match step(asked).map_err(|error| format!("expect: `{asked}`: {error}"))? {
+            Step::Run { lent, script } => {
+                lendable(&both, lent)?;
+                let ran = both.run(lent, script, tally).map_err(|seen| told(&seen))?;
+                expect_replies(asked, &ran.played, wanted)?;
+            }
+            call => expect(&mut both, asked, call, &answer(wanted)?, tally)?,
         }
     }
     Ok(name.trim().to_string())
@@ -68,6 +77,7 @@ fn make(text: &str) -> Result<Both, String> {
             match step(&line.replace('#', &n.to_string())).map_err(|error| format!("image: `{line}`: {error}"))? {
                 Step::Word { at, value } if at < both.image().len() => both.put(&[(at, value)]),
                 Step::Word { .. } => return Err(format!("image: `{line}` is not in it")),
+                Step::Run { .. } => return Err(format!("image: `{line}`: a run is only expected")),
                 made => done(&mut both, made, &mut Tally::default()).map_err(|error| format!("image: `{line}`: {error}"))?,
             }
         }
@@ -102,22 +112,36 @@ fn done(both: &mut Both, made: Step, tally: &mut Tally) -> Result<(), String> {
 /// A call of both programs, which must agree.
 fn ask(both: &mut Both, asked: Step, tally: &mut Tally) -> Result<Answer, String> {
     let Step::Call { lent, call } = asked else { return Err("only calls are answered".to_string()) };
-    if lent.is_some_and(|words| words > both.image().len()) {
-        return Err("so many words are not there to lend".to_string());
-    }
+    lendable(both, lent)?;
     let answered = both.lend(lent, call, tally).map_err(|seen| told(&seen))?;
     Ok(answered.call)
 }
 
+/// So many words can be lent.
+fn lendable(both: &Both, lent: Option<usize>) -> Result<(), String> {
+    match lent {
+        Some(words) if words > both.image().len() => Err("so many words are not there to lend".to_string()),
+        _ => Ok(()),
+    }
+}
+
 /// A line of expect: the answer is as wanted, and a refused call has changed nothing.
-fn expect(both: &mut Both, asked: &str, wanted: &Answer, tally: &mut Tally) -> Result<(), String> {
+fn expect(both: &mut Both, asked: &str, call: Step, wanted: &Answer, tally: &mut Tally) -> Result<(), String> {
     let before = both.image().to_vec();
-    let given = ask(both, step(asked).map_err(|error| format!("expect: `{asked}`: {error}"))?, tally)?;
+    let given = ask(both, call, tally)?;
     if given != *wanted {
         return Err(format!("`{asked}` gives {given}, {wanted} is expected"));
     }
     if given.number != 0 && both.image() != before {
         return Err(format!("`{asked}` was refused and changed the image"));
+    }
+    Ok(())
+}
+
+/// A line `run ..: REPLY ; REPLY ..` of expect: so many steps are made, with these replies.
+fn expect_replies(asked: &str, played: &Played, wanted: &str) -> Result<(), String> {
+    if played.replies[..played.made] != replies(wanted)? {
+        return Err(format!("`{asked}` gives {}, {wanted} is expected", replies_in_words(played)));
     }
     Ok(())
 }

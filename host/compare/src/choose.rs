@@ -20,6 +20,9 @@ pub const ANY: Profile = [1, 1, 1, 1, 1, 1, 1, 1, 1, 1, 1, 1, 1, 1, 1, 1, 1, 1, 
 
 pub const PROFILES: [Profile; 7] = [MIXED, GROWING, SHRINKING, RUNS, USERS, FILES, ASKING];
 
+/// The first number that 32 bits do not hold. One so much larger than a right number is wrong, and cut to 32 bits it would be right.
+pub const WIDE: usize = 1 << 32;
+
 /// Chooses calls on the image that is seen.
 pub struct Choice<'a> {
     pub random: &'a mut Random,
@@ -75,50 +78,64 @@ impl Choice<'_> {
         (!files.is_empty()).then(|| self.random.pick(files))
     }
 
+    /// A number that is too large: just so, by far, or by as much as 32 bits do not hold.
+    fn too_large(&mut self, bound: usize, right: usize) -> usize {
+        *self.random.pick(&[bound, bound + 1, 65_536.max(bound), u32::MAX as usize, WIDE, WIDE + right, 3 * WIDE + right, usize::MAX])
+    }
+
+    fn below(&mut self, bound: u32) -> usize {
+        self.random.below(bound) as usize
+    }
+
     /// An index, mostly of a user who is there.
-    fn user(&mut self) -> u32 {
+    fn user(&mut self) -> usize {
+        let there = self.some_user().map_or(0, |user| user.index) as usize;
         match self.random.below(24) {
-            0 => *self.random.pick(&[256, 257, 65_536, u32::MAX]),
-            1 => self.random.below(256),
-            _ => self.some_user().map_or(0, |user| user.index),
+            0 => self.too_large(256, there),
+            1 => self.below(256),
+            _ => there,
         }
     }
 
     /// The user who may use the most pages more, or any.
-    fn rich_user(&mut self) -> u32 {
+    fn rich_user(&mut self) -> usize {
         if self.random.one_in(3) {
             return self.user();
         }
-        self.scene.users.iter().max_by_key(|user| user.left()).map_or(0, |user| user.index)
+        self.scene.users.iter().max_by_key(|user| user.left()).map_or(0, |user| user.index as usize)
     }
 
     /// A user and a file, mostly there.
-    fn user_and_file(&mut self) -> (u32, u32) {
+    fn user_and_file(&mut self) -> (usize, usize) {
+        let there = self.some_file().map_or((0, 0), |file| (file.user as usize, file.file as usize));
         match self.random.below(16) {
-            0 => (self.user(), *self.random.pick(&[256, 300, 65_536, u32::MAX])),
-            1 => (self.user(), self.random.below(256)),
-            _ => self.some_file().map_or((0, 0), |file| (file.user, file.file)),
+            0 => (there.0, self.too_large(256, there.1)),
+            1 => (self.user(), self.below(256)),
+            2 => (self.user(), there.1),
+            _ => there,
         }
     }
 
-    fn page(&mut self) -> u32 {
-        let pages = self.scene.pages;
+    fn page(&mut self) -> usize {
+        let pages = self.scene.pages as usize;
+        let any = self.below(self.scene.pages);
         match self.random.below(16) {
-            0 => *self.random.pick(&[pages, pages + 1, 16_384, 65_536, u32::MAX]),
+            0 => self.too_large(pages, any),
             1 => *self.random.pick(&[0, 1, pages - 1, pages / 2]),
-            2 => self.scene.bit_page,
-            3 | 4 => self.some_file().map_or(1, |file| file.page()),
-            _ => self.random.below(pages),
+            2 => self.scene.bit_page as usize,
+            3 | 4 => self.some_file().map_or(1, |file| file.page() as usize),
+            _ => any,
         }
     }
 
-    fn position(&mut self, user: u32, file: u32) -> u32 {
+    fn position(&mut self, user: usize, file: usize) -> usize {
         let pages = self.scene.file(user, file).map_or(0, |file| file.pages);
+        let there = self.below(pages.max(1));
         match self.random.below(10) {
-            0 => pages,
-            1 => *self.random.pick(&[0, 511, 512, 1_023, 1_024, 65_536, u32::MAX]),
-            2 | 3 => pages.wrapping_sub(1),
-            _ => self.random.below(pages.max(1)),
+            0 => self.too_large(pages as usize, there),
+            1 => *self.random.pick(&[0, 511, 512, 1_023, 1_024, 65_536, pages as usize]),
+            2 | 3 => pages.wrapping_sub(1) as usize,
+            _ => there,
         }
     }
 
@@ -164,7 +181,7 @@ impl Choice<'_> {
     }
 
     fn find_file(&mut self) -> Call {
-        let known = self.some_file().map(|file| (file.user, file.name.clone(), file.kind.clone()));
+        let known = self.some_file().map(|file| (file.user as usize, file.name.clone(), file.kind.clone()));
         match (self.random.below(6), known) {
             (0, _) | (_, None) => Call::FindFile { user: self.user(), name: self.new_name(), kind: self.kind() },
             (1, Some((user, name, _))) => Call::FindFile { user, name, kind: self.kind() },
@@ -188,13 +205,16 @@ impl Choice<'_> {
     }
 
     /// A page count near a bound that matters.
-    fn count_near(&mut self, bound: u32) -> u32 {
+    fn count_near(&mut self, bound: u32) -> usize {
+        let few = self.random.between(1, (bound / 2).clamp(1, 16_384)) as usize;
+        let bound = bound as usize;
         match self.random.below(12) {
-            0 => *self.random.pick(&[0, 16_384, 16_385, 65_536, u32::MAX]),
+            0 if self.random.one_in(3) => *self.random.pick(&[0, 16_384]),
+            0 => self.too_large(16_385, few),
             1 | 2 => bound,
-            3 => bound.saturating_add(1),
+            3 => bound + 1,
             4 => bound.saturating_sub(1),
-            _ => self.random.between(1, (bound / 2).clamp(1, 16_384)),
+            _ => few,
         }
     }
 
@@ -204,13 +224,13 @@ impl Choice<'_> {
 
     fn take(&mut self) -> Call {
         let user = self.user();
-        let left = self.scene.users.iter().find(|seen| seen.index == user).map_or(1, User::left);
+        let left = self.scene.left(user).unwrap_or(1);
         Call::Take { user, count: self.count_near(left) }
     }
 
     /// The name and type of a file to be made, seldom of one that is there.
-    fn name_for_file(&mut self, user: u32) -> (Vec<u8>, Vec<u8>) {
-        let taken = self.scene.files.iter().find(|file| file.user == user);
+    fn name_for_file(&mut self, user: usize) -> (Vec<u8>, Vec<u8>) {
+        let taken = self.scene.files.iter().find(|file| file.user as usize == user);
         match taken {
             Some(file) if self.random.one_in(10) => (file.name.clone(), file.kind.clone()),
             Some(file) if self.random.one_in(10) => (file.name.clone(), self.kind()),
@@ -228,7 +248,7 @@ impl Choice<'_> {
         let user = self.rich_user();
         let (name, kind) = self.name_for_file(user);
         let longest = self.scene.longest_run(self.image);
-        let left = self.scene.users.iter().find(|seen| seen.index == user).map_or(1, User::left);
+        let left = self.scene.left(user).unwrap_or(1);
         let bound = if self.random.one_in(3) { left } else { longest };
         Call::CreateContiguous { user, name, kind, created: self.random.next() as u32, count: self.count_near(bound) }
     }

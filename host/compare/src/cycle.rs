@@ -25,6 +25,12 @@ pub enum Kind {
     Damaged { times: u32 },
     /// Images made to cost a check much.
     Hostile,
+    /// Scripts by chance, of so many steps each.
+    Scripts { scripts: u32, steps: u32 },
+    /// Scripts past the edges of users, files and index blocks.
+    EdgeScripts,
+    /// A script for each rule, broken so often.
+    DamagedScripts { times: u32 },
 }
 
 /// How a round gets its volume's size: one of its own, or by chance between two.
@@ -72,6 +78,13 @@ pub const CYCLE: &[(u32, Kind, Size)] = &[
     (4, Kind::Damaged { times: 4 }, Size::Of(2_048)),
     (1, Kind::Damaged { times: 1 }, Size::Of(16_384)),
     (1, Kind::Hostile, Size::Of(16_384)),
+    (60, Kind::Scripts { scripts: 6, steps: 30 }, Size::Between(8, 80)),
+    (10, Kind::Scripts { scripts: 6, steps: 40 }, Size::Of(154)),
+    (2, Kind::Scripts { scripts: 4, steps: 40 }, Size::Of(1_100)),
+    (1, Kind::Scripts { scripts: 2, steps: 20 }, Size::Of(16_384)),
+    (4, Kind::EdgeScripts, Size::Between(70, 160)),
+    (2, Kind::EdgeScripts, Size::Of(1_100)),
+    (20, Kind::DamagedScripts { times: 2 }, Size::Between(8, 160)),
 ];
 
 /// One round: its kind and size by its number in the cycle.

@@ -54,6 +54,10 @@ fn before_last(seen: &Disagreement) -> Vec<u16> {
                 let words = lent.unwrap_or(image.len());
                 call.on_proved(&mut image[..words]);
             }
+            text::Step::Run { lent, script } => {
+                let words = lent.unwrap_or(image.len());
+                script.on_proved(&mut image[..words]);
+            }
         }
     }
     image
@@ -66,16 +70,32 @@ pub fn replay(folder: &str) -> Result<bool, String> {
     let mut both = Both::new(from_bytes(&read("start")?));
     let steps = String::from_utf8_lossy(&read("steps")?).into_owned();
     for line in steps.lines() {
-        match text::step(line)? {
-            text::Step::Word { at, value } => both.put(&[(at, value)]),
-            text::Step::Call { lent, call } => match both.lend(lent, call, &mut Tally::default()) {
-                Ok(answered) => println!("{line}: {}, then check {}", answered.call, answered.check),
-                Err(seen) => {
-                    println!("{}", told(&seen));
-                    return Ok(false);
-                }
-            },
+        match again(&mut both, text::step(line)?) {
+            Ok(answers) => println!("{line}: {answers}"),
+            Err(seen) => {
+                println!("{}", told(&seen));
+                return Ok(false);
+            }
         }
     }
     Ok(true)
+}
+
+/// A step once more; gives its answers in words.
+fn again(both: &mut Both, step: text::Step) -> Result<String, Box<Disagreement>> {
+    let tally = &mut Tally::default();
+    Ok(match step {
+        text::Step::Word { at, value } => {
+            both.put(&[(at, value)]);
+            "set".to_string()
+        }
+        text::Step::Call { lent, call } => {
+            let answered = both.lend(lent, call, tally)?;
+            format!("{}, then check {}", answered.call, answered.check)
+        }
+        text::Step::Run { lent, script } => {
+            let ran = both.run(lent, script, tally)?;
+            format!("{}, then check {}", text::replies_in_words(&ran.played), ran.check)
+        }
+    })
 }

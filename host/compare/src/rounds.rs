@@ -40,6 +40,9 @@ impl Round<'_> {
             Kind::Scattered { calls } => self.scattered(pages, calls),
             Kind::Damaged { times } => self.damaged(pages, times),
             Kind::Hostile => self.hostile(),
+            Kind::Scripts { scripts, steps } => self.scripts(pages, scripts, steps),
+            Kind::EdgeScripts => self.edge_scripts(pages),
+            Kind::DamagedScripts { times } => self.damaged_scripts(pages, times),
         }
     }
 
@@ -78,7 +81,7 @@ impl Round<'_> {
     fn sequence(&mut self, pages: u32, calls: u32) -> Agreed {
         let mut both = Both::new(blank(&mut self.random, pages));
         both.call(Call::Check, self.tally)?;
-        let bit_page = if self.random.one_in(3) { None } else { Some(self.random.between(1, pages - 1)) };
+        let bit_page = if self.random.one_in(3) { None } else { Some(self.random.between(1, pages - 1) as usize) };
         both.call(Call::Format { name: b"YARD".to_vec(), bit_page }, self.tally)?;
         for part in 0..calls / 10 {
             let profile = if part == 0 { MIXED } else { *self.random.pick(&PROFILES) };
@@ -102,7 +105,7 @@ impl Round<'_> {
         let mut both = Both::new(with_owner(&mut self.random, pages, 3));
         for n in 0..12 {
             self.calls(&mut both, &RUNS, 6)?;
-            let longest = Scene::read(both.image()).longest_run(both.image());
+            let longest = Scene::read(both.image()).longest_run(both.image()) as usize;
             for count in [longest + 1, longest] {
                 let name = format!("RUN-{n}-{count}").into_bytes();
                 self.plain(&mut both, Call::CreateContiguous { user: 0, name, kind: Vec::new(), created: n, count })?;
@@ -135,7 +138,7 @@ impl Round<'_> {
             self.plain(&mut both, Call::CreateUser { name: nth(1_000 + n) })?;
             self.calls(&mut both, &FILES, 3)?;
         }
-        for user in [from, 64, 65, 255, 254] {
+        for user in [from as usize, 64, 65, 255, 254] {
             self.plain(&mut both, Call::DeleteUser { user })?;
             self.calls(&mut both, &USERS, 8)?;
         }
@@ -150,7 +153,7 @@ impl Round<'_> {
         let (name, kind) = (b"RUN".to_vec(), Vec::new());
         self.plain(&mut both, Call::CreateContiguous { user: 0, name, kind, created: 1, count: 1 })?;
         for _ in 0..4 {
-            let file = self.random.below(256);
+            let file = self.random.below(256) as usize;
             self.plain(&mut both, Call::DeleteFile { user: 0, file })?;
             self.calls(&mut both, &FILES, 12)?;
         }
@@ -159,7 +162,7 @@ impl Round<'_> {
 
     fn all_files(&mut self) -> Agreed {
         let mut both = Both::new(all_files());
-        let (user, file) = (self.random.below(256), self.random.below(256));
+        let (user, file) = (self.random.below(256) as usize, self.random.below(256) as usize);
         let new = Call::CreateIndexed { user, name: b"NEW".to_vec(), kind: Vec::new(), created: 1 };
         let first = self.plain(&mut both, new.clone())?;
         assert_eq!(first.call.number, 8, "the maker of 65,536 files did not make them all");
@@ -205,14 +208,14 @@ impl Round<'_> {
         Ok(())
     }
 
-    fn scattered_volume(&mut self, pages: u32) -> Vec<u16> {
+    pub fn scattered_volume(&mut self, pages: u32) -> Vec<u16> {
         let users = self.random.between(1, 40);
         let files = self.random.between(1, 40);
         scattered(&mut self.random, pages, users, files)
     }
 
     /// A volume for damage: scattered, or as calls of the second program leave it.
-    fn base(&mut self, pages: u32) -> Vec<u16> {
+    pub fn base(&mut self, pages: u32) -> Vec<u16> {
         if pages > 8 && self.random.one_in(2) || pages > 2_048 {
             return self.scattered_volume(pages);
         }

@@ -39,9 +39,9 @@ pub fn run(plan: &Plan) -> bool {
     }
     clear_progress();
     println!("{}", tally.summary());
-    let all = tally.compared();
-    let seconds = begun.elapsed().as_secs_f64();
-    println!("{all} calls compared in {} rounds and {seconds:.1} s, seed {}", round - plan.first, plan.seed);
+    let (calls, (runs, steps)) = (tally.compared(), tally.runs_and_steps());
+    let (rounds, seconds) = (round - plan.first, begun.elapsed().as_secs_f64());
+    println!("{calls} calls, and {steps} steps of {runs} runs, compared in {rounds} rounds and {seconds:.1} s, seed {}", plan.seed);
     enough(plan, &tally)
 }
 

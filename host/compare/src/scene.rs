@@ -125,8 +125,13 @@ impl Scene {
         longest
     }
 
-    pub fn file(&self, user: u32, file: u32) -> Option<&File> {
-        self.files.iter().find(|seen| seen.user == user && seen.file == file)
+    pub fn file(&self, user: usize, file: usize) -> Option<&File> {
+        self.files.iter().find(|seen| seen.user as usize == user && seen.file as usize == file)
+    }
+
+    /// Pages that a user may still use, if he is there.
+    pub fn left(&self, user: usize) -> Option<u32> {
+        self.users.iter().find(|seen| seen.index as usize == user).map(User::left)
     }
 }
 

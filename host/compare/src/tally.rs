@@ -2,6 +2,7 @@
 //! shown nothing about it, so there are minimums, and a run below one of them fails.
 
 use crate::calls::{Answer, NAMES};
+use crate::script::{is_step, Asked, Played, Script};
 use std::collections::BTreeMap;
 use std::fmt::Write;
 
@@ -33,9 +34,25 @@ pub enum Met {
     PartRead,
     NoPartRead,
     OpensCameRound,
+    WideUser,
+    WideFile,
+    WidePosition,
+    WidePage,
+    WideCount,
+    RunWhole,
+    RunRefused,
+    RunOutOfRoom,
+    RunWrongLength,
+    RunUnsound,
+    FormatWithin,
+    FormatOnUnsound,
+    NoCall,
+    NameOutside,
+    TypeOutside,
+    DataOutside,
 }
 
-const MINIMUMS: [(Met, &str, u64); 14] = [
+const MINIMUMS: [(Met, &str, u64); 30] = [
     (Met::FilePast512, "files grown past 512 pages", 2),
     (Met::FilePast1024, "files grown past 1,024 pages", 2),
     (Met::BackTo512, "files shrunk back to 512 pages", 2),
@@ -50,12 +67,38 @@ const MINIMUMS: [(Met, &str, u64); 14] = [
     (Met::PartRead, "pages read", 20),
     (Met::NoPartRead, "empty parts read", 20),
     (Met::OpensCameRound, "opens from 65,535 to 0", 5),
+    (Met::WideUser, "users from 2^32 up", 25),
+    (Met::WideFile, "files from 2^32 up", 25),
+    (Met::WidePosition, "positions from 2^32 up", 25),
+    (Met::WidePage, "pages from 2^32 up", 25),
+    (Met::WideCount, "counts from 2^32 up", 25),
+    (Met::RunWhole, "runs with all their steps done", 15),
+    (Met::RunRefused, "runs that a refusal stopped before their last step", 50),
+    (Met::RunOutOfRoom, "runs with room for fewer replies than steps, all done", 10),
+    (Met::RunWrongLength, "runs refused for the length", 8),
+    (Met::RunUnsound, "runs refused on an unsound image", 20),
+    (Met::FormatWithin, "formats within a run, between steps that were done", 20),
+    (Met::FormatOnUnsound, "unsound images that a run formatted, and went on", 5),
+    (Met::NoCall, "steps whose number is no call's", 10),
+    (Met::NameOutside, "names outside the text lent", 5),
+    (Met::TypeOutside, "types outside the text lent", 5),
+    (Met::DataOutside, "page data outside the words lent", 3),
 ];
+
+/// How often at least each number came to a step of a run, and each call that can be one was done as one.
+const EACH_STEP_NUMBER: u64 = 2;
+const EACH_STEP_DONE: u64 = 10;
+
+/// The row of the steps that are no calls, after those of the calls.
+const NO_CALL: usize = NAMES.len();
 
 #[derive(Default)]
 pub struct Tally {
     /// For each call, how often it was answered with each number.
-    calls: [[u64; 12]; 19],
+    calls: [[u64; 12]; NAMES.len()],
+    /// The same of the steps of runs; the last row is of steps that are no calls.
+    steps: [[u64; 12]; NAMES.len() + 1],
+    runs: u64,
     /// The lowest rule of the check after each call; 0 is a sound image.
     rules: [u64; 11],
     /// Damage aimed at a rule that this rule was the lowest to see.
@@ -75,6 +118,18 @@ impl Tally {
         }
     }
 
+    /// A run: each of its steps that was made, with the number of its reply.
+    pub fn ran(&mut self, script: &Script, played: &Played) {
+        self.runs += 1;
+        for (asked, reply) in script.asked.iter().zip(&played.replies).take(played.made) {
+            let which = match asked {
+                Asked::Call(call) if is_step(call) => call.which(),
+                _ => NO_CALL,
+            };
+            self.steps[which][reply.number as usize] += 1;
+        }
+    }
+
     pub fn hit(&mut self, rule: u32) {
         self.aimed[rule as usize] += 1;
     }
@@ -91,8 +146,9 @@ impl Tally {
         self.calls.iter().flatten().sum()
     }
 
-    fn by_number(&self, number: usize) -> u64 {
-        self.calls.iter().map(|call| call[number]).sum()
+    /// The runs, and the steps that they made.
+    pub fn runs_and_steps(&self) -> (u64, u64) {
+        (self.runs, self.steps.iter().flatten().sum())
     }
 
     /// What was met too seldom, one line each.
@@ -103,11 +159,15 @@ impl Tally {
                 short.push(format!("{what}: {met}, at least {least} are wanted"));
             }
         };
-        (0..12).for_each(|n| demand(format!("number {n}"), self.by_number(n), EACH_NUMBER));
+        (0..12).for_each(|n| demand(format!("number {n}"), by_number(&self.calls, n), EACH_NUMBER));
+        (0..12).for_each(|n| demand(format!("number {n} to a step"), by_number(&self.steps, n), EACH_STEP_NUMBER));
         (1..11).for_each(|rule| demand(format!("rule {rule}"), self.rules[rule], EACH_RULE));
         (1..11).for_each(|rule| demand(format!("damage aimed at rule {rule}"), self.aimed[rule], EACH_AIMED));
         for (name, call) in NAMES.iter().zip(&self.calls) {
             demand(format!("{name} done"), call[0], EACH_CALL_DONE);
+        }
+        for (name, step) in NAMES.iter().zip(&self.steps).filter(|(name, _)| can_be_a_step(name)) {
+            demand(format!("{name} done as a step"), step[0], EACH_STEP_DONE);
         }
         for pages in SIZES {
             demand(format!("volumes of {pages} pages"), self.sizes.get(&pages).copied().unwrap_or(0), 1);
@@ -120,14 +180,10 @@ impl Tally {
 
     /// The closing summary.
     pub fn summary(&self) -> String {
-        let mut out = String::new();
-        let _ = writeln!(out, "{:18}{}   all", "call \\ number", (0..12).map(|n| format!("{n:8}")).collect::<String>());
-        for (name, call) in NAMES.iter().zip(&self.calls) {
-            let _ = writeln!(out, "{name:18}{}{:8}", row(call), call.iter().sum::<u64>());
-        }
-        let all: Vec<u64> = (0..12).map(|n| self.by_number(n)).collect();
-        let _ = writeln!(out, "{:18}{}{:8}", "all", row(&all), self.compared());
-        let _ = writeln!(out, "(read_page answers no number: its parts, full and empty, are counted under 0 and below)");
+        let mut out = table("call \\ number", &NAMES, &self.calls);
+        let _ = writeln!(out, "(read_page answers no number: its parts, full and empty, are counted under 0 and below)\n");
+        let names: Vec<&str> = NAMES.into_iter().chain(["no call"]).collect();
+        out += &table("step \\ number", &names, &self.steps);
         let _ = writeln!(out, "\n{:18}   sound{}", "check after a call", (1..11).map(|n| format!("  rule{n:2}")).collect::<String>());
         let _ = writeln!(out, "{:18}{}", "lowest rule", row(&self.rules));
         let _ = writeln!(out, "{:18}{}", "aimed and hit", row(&self.aimed));
@@ -140,7 +196,7 @@ impl Tally {
 
     /// How often each number was answered, and each rule was the lowest broken one: a line for a run of cases.
     pub fn numbers_and_rules(&self) -> String {
-        let numbers: Vec<String> = (0..12).map(|n| format!("{n}: {}", self.by_number(n))).collect();
+        let numbers: Vec<String> = (0..12).map(|n| format!("{n}: {}", by_number(&self.calls, n))).collect();
         let rules: Vec<String> = (1..11).map(|rule| format!("{rule}: {}", self.rules[rule])).collect();
         format!("by number {}; by lowest rule {}", numbers.join(", "), rules.join(", "))
     }
@@ -155,6 +211,26 @@ impl Tally {
     }
 }
 
+/// Whether a run can make the call of this name.
+fn can_be_a_step(name: &str) -> bool {
+    !["who_holds", "read_page"].contains(&name) && (name != "check" || second::CHECK_IS_A_STEP)
+}
+
+fn by_number(rows: &[[u64; 12]], number: usize) -> u64 {
+    rows.iter().map(|row| row[number]).sum()
+}
+
+/// A row for each name, and one for all.
+fn table(title: &str, names: &[&str], rows: &[[u64; 12]]) -> String {
+    let mut out = format!("{title:18}{}   all\n", (0..12).map(|n| format!("{n:8}")).collect::<String>());
+    for (name, counts) in names.iter().zip(rows).filter(|(_, counts)| counts.iter().any(|&count| count > 0)) {
+        let _ = writeln!(out, "{name:18}{}{:8}", row(counts), counts.iter().sum::<u64>());
+    }
+    let all: Vec<u64> = (0..12).map(|n| by_number(rows, n)).collect();
+    let _ = writeln!(out, "{:18}{}{:8}", "all", row(&all), all.iter().sum::<u64>());
+    out
+}
+
 fn row(counts: &[u64]) -> String {
     counts.iter().map(|&count| if count == 0 { format!("{:>8}", "-") } else { format!("{count:8}") }).collect()
 }
@@ -166,7 +242,8 @@ mod tests {
     /// A run that met nothing is told so for each number, each rule twice, each call, each size and each edge.
     #[test]
     fn nothing_is_too_little() {
-        let wanted = 12 + 10 + 10 + NAMES.len() + SIZES.len() + MINIMUMS.len();
+        let steps = NAMES.into_iter().filter(|name| can_be_a_step(name)).count();
+        let wanted = 2 * 12 + 10 + 10 + NAMES.len() + steps + SIZES.len() + MINIMUMS.len();
         assert_eq!(Tally::default().too_little().len(), wanted);
     }
 }

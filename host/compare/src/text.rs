@@ -2,22 +2,20 @@
 //! the forms.
 
 use crate::calls::{Answer, Call, Data};
+use crate::script::{Asked, Part, Played, Script};
 use crate::words::PAGE;
 use std::fmt;
+use std::str::FromStr;
 
 /// One thing done to an image.
 #[derive(Clone, Debug, PartialEq)]
 pub enum Step {
     /// A call; where `lent` is there, only so many words of the image are lent to it.
     Call { lent: Option<usize>, call: Call },
+    /// A list of calls by one run.
+    Run { lent: Option<usize>, script: Script },
     /// A word of the image is set.
     Word { at: usize, value: u16 },
-}
-
-impl Step {
-    pub fn call(call: Call) -> Step {
-        Step::Call { lent: None, call }
-    }
 }
 
 /// Reads a step, or says what is wrong with its line.
@@ -26,17 +24,47 @@ pub fn step(line: &str) -> Result<Step, String> {
     let first = words.next()?;
     let read = match first.as_str() {
         "word" => {
-            let (page, word) = (words.number()?, words.number()?);
-            let value = words.number()?;
-            let value = u16::try_from(value).map_err(|_| format!("{value} is no word"))?;
-            Step::Word { at: page as usize * PAGE + word as usize, value }
+            let (page, word): (usize, usize) = (words.number()?, words.number()?);
+            Step::Word { at: page * PAGE + word, value: words.number()? }
         }
         "lend" => {
-            let lent = Some(words.number()? as usize);
+            let lent = Some(words.number()?);
             let name = words.next()?;
-            Step::Call { lent, call: call(&name, &mut words)? }
+            call_or_run(&name, lent, &mut words)?
         }
-        name => Step::call(call(name, &mut words)?),
+        name => call_or_run(name, None, &mut words)?,
+    };
+    words.end()?;
+    Ok(read)
+}
+
+fn call_or_run(name: &str, lent: Option<usize>, words: &mut Words) -> Result<Step, String> {
+    Ok(match name {
+        "run" => Step::Run { lent, script: script(words)? },
+        name => Step::Call { lent, call: call(name, words)? },
+    })
+}
+
+/// The room for replies, and the steps with `;` between them.
+fn script(words: &mut Words) -> Result<Script, String> {
+    let room = words.number()?;
+    let asked = words.parts().into_iter().map(asked).collect::<Result<Vec<Asked>, String>>()?;
+    Ok(Script { room, asked })
+}
+
+/// A step of a script: a call, one with a number that is none's, or one with a part that ends so far outside.
+fn asked(mut words: Words) -> Result<Asked, String> {
+    let read = match words.next()?.as_str() {
+        "no-call" => {
+            let (number, name) = (words.number()?, words.next()?);
+            Asked::NoCall { number, call: call(&name, &mut words)? }
+        }
+        "outside" => {
+            let (part, past, name) = (words.next()?, words.number()?, words.next()?);
+            let part = Part::ALL.into_iter().find(|other| other.name() == part).ok_or_else(|| format!("{part} is no part"))?;
+            Asked::Outside { part, past, call: call(&name, &mut words)? }
+        }
+        name => Asked::Call(call(name, &mut words)?),
     };
     words.end()?;
     Ok(read)
@@ -68,7 +96,7 @@ fn call(name: &str, words: &mut Words) -> Result<Call, String> {
         "delete-file" => Call::DeleteFile { user: words.number()?, file: words.number()? },
         "write" => {
             let (user, file, position) = (words.number()?, words.number()?, words.number()?);
-            let data = Data { first: words.number()? as u16, length: words.optional()?.unwrap_or(PAGE as u32) as usize };
+            let data = Data { first: words.number()?, length: words.optional()?.unwrap_or(PAGE) };
             Call::WritePage { user, file, position, data }
         }
         "open" => Call::NoteOpen { user: words.number()?, file: words.number()? },
@@ -82,20 +110,37 @@ pub fn answer(line: &str) -> Result<Answer, String> {
     let mut answer = Answer { number: words.number()?, ..Answer::default() };
     while let Some(name) = words.peek() {
         words.next()?;
-        let number = words.number()?;
         match name.as_str() {
-            "rule" => answer.rule = number,
-            "value" => answer.value = number,
-            "kind" => answer.kind = number,
-            "user" => answer.user = number,
-            "file" => answer.file = number,
-            "position" => answer.position = number,
-            "offset" => answer.offset = number as usize,
-            "length" => answer.length = number as usize,
+            "rule" => answer.rule = words.number()?,
+            "value" => answer.value = words.number()?,
+            "kind" => answer.kind = words.number()?,
+            "user" => answer.user = words.number()?,
+            "file" => answer.file = words.number()?,
+            "position" => answer.position = words.number()?,
+            "offset" => answer.offset = words.number()?,
+            "length" => answer.length = words.number()?,
             other => return Err(format!("{other} is no number of an answer")),
         }
     }
     Ok(answer)
+}
+
+/// The replies of a run: its answers with `;` between them, `none` where no step was made.
+pub fn replies(line: &str) -> Result<Vec<Answer>, String> {
+    match line.trim() {
+        "none" => Ok(Vec::new()),
+        line => line.split(';').map(answer).collect(),
+    }
+}
+
+/// The replies that a run has written, as `replies` reads them.
+pub fn replies_in_words(played: &Played) -> String {
+    let written: Vec<String> = played.replies.iter().take(played.made).map(Answer::to_string).collect();
+    if written.is_empty() {
+        "none".to_string()
+    } else {
+        written.join(" ; ")
+    }
 }
 
 /// The words of a line, in the order they are read.
@@ -120,16 +165,24 @@ impl Words {
         self.left.pop().ok_or_else(|| "something is missing at the end".to_string())
     }
 
+    /// What is left, in parts with `;` between them; nothing is no part.
+    fn parts(&mut self) -> Vec<Words> {
+        let left: Vec<String> = std::mem::take(&mut self.left).into_iter().rev().collect();
+        let parts = left.split(|word| word == ";").filter(|_| !left.is_empty());
+        parts.map(|part| Words { left: part.iter().rev().cloned().collect() }).collect()
+    }
+
     fn end(&self) -> Result<(), String> {
         self.peek().map_or(Ok(()), |rest| Err(format!("{rest} is too much")))
     }
 
-    fn number(&mut self) -> Result<u32, String> {
+    /// A number as wide as it is wanted.
+    fn number<N: FromStr>(&mut self) -> Result<N, String> {
         let word = self.next()?;
         word.parse().map_err(|_| format!("{word} is no number"))
     }
 
-    fn optional(&mut self) -> Result<Option<u32>, String> {
+    fn optional<N: FromStr>(&mut self) -> Result<Option<N>, String> {
         self.peek().map_or(Ok(None), |_| self.number().map(Some))
     }
 
@@ -159,7 +212,7 @@ impl fmt::Display for Shown<'_> {
             return out.write_str("\"\"");
         }
         for &byte in self.0 {
-            if byte.is_ascii_graphic() && byte != b'\\' && byte != b'"' {
+            if byte.is_ascii_graphic() && !b"\\\";".contains(&byte) {
                 write!(out, "{}", char::from(byte))?;
             } else {
                 write!(out, "\\x{byte:02X}")?;
@@ -175,6 +228,28 @@ impl fmt::Display for Step {
             Step::Word { at, value } => write!(out, "word {} {} {value}", at / PAGE, at % PAGE),
             Step::Call { lent: Some(words), call } => write!(out, "lend {words} {call}"),
             Step::Call { lent: None, call } => write!(out, "{call}"),
+            Step::Run { lent: Some(words), script } => write!(out, "lend {words} {script}"),
+            Step::Run { lent: None, script } => write!(out, "{script}"),
+        }
+    }
+}
+
+impl fmt::Display for Script {
+    fn fmt(&self, out: &mut fmt::Formatter) -> fmt::Result {
+        write!(out, "run {}", self.room)?;
+        for (n, asked) in self.asked.iter().enumerate() {
+            write!(out, "{}{asked}", if n == 0 { " " } else { " ; " })?;
+        }
+        Ok(())
+    }
+}
+
+impl fmt::Display for Asked {
+    fn fmt(&self, out: &mut fmt::Formatter) -> fmt::Result {
+        match self {
+            Asked::Call(call) => write!(out, "{call}"),
+            Asked::NoCall { number, call } => write!(out, "no-call {number} {call}"),
+            Asked::Outside { part, past, call } => write!(out, "outside {} {past} {call}", part.name()),
         }
     }
 }
@@ -224,7 +299,7 @@ impl fmt::Display for Answer {
 
 #[cfg(test)]
 mod tests {
-    use super::{answer, step};
+    use super::{answer, replies, replies_in_words, step, Played};
 
     /// What is kept of a disagreement is read again as it was.
     #[test]
@@ -250,12 +325,26 @@ mod tests {
             "delete-file 0 0",
             "write 0 0 0 5 1023",
             "open 0 0",
+            "give 4294967297 1",
+            "run 3",
+            "run 3 user A\\x3B ; give 0 5 ; no-call 16 grow 0 0 ; outside name 1 find-user A ; write 0 0 0 5 1024",
+            "lend 7168 run 0 format YARD ; format YARD 7",
         ];
         for line in lines {
             assert_eq!(step(line).map(|step| step.to_string()), Ok(line.to_string()));
         }
-        for wrong in ["", "grow 0", "grow 0 0 0", "word 0 0 65536", "user A\\xG0", "user A\\x4", "nothing"] {
+        for wrong in
+            ["", "grow 0", "grow 0 0 0", "word 0 0 65536", "user A\\xG0", "user A\\x4", "nothing", "run", "run 1 ;", "run 1 outside"]
+        {
             assert!(step(wrong).is_err(), "{wrong}");
+        }
+    }
+
+    #[test]
+    fn replies_are_read_as_they_are_written() {
+        for line in ["none", "0", "0 ; 0 value 5 ; 3 rule 10"] {
+            let replies = replies(line).expect("replies");
+            assert_eq!(replies_in_words(&Played { made: replies.len(), replies }), line);
         }
     }
 

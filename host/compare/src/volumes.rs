@@ -20,15 +20,15 @@ pub fn nth(n: u32) -> Vec<u8> {
 }
 
 /// A setting-up call must be done: the makers ask only for what there is room for.
-fn must(reply: second::Reply) -> u32 {
+fn must(reply: second::Reply) -> usize {
     assert_eq!(reply.number, 0, "a volume could not be made");
-    reply.value
+    reply.value as usize
 }
 
 /// A formatted volume of chance words.
 pub fn formatted(random: &mut Random, pages: u32) -> Vec<u16> {
     let mut image = blank(random, pages);
-    let bit_page = if random.one_in(3) { None } else { Some(random.between(1, pages - 1)) };
+    let bit_page = if random.one_in(3) { None } else { Some(random.between(1, pages - 1) as usize) };
     must(second::format(&mut image, b"YARD", bit_page));
     image
 }
@@ -38,7 +38,7 @@ pub fn with_owner(random: &mut Random, pages: u32, keep: u32) -> Vec<u16> {
     let mut image = formatted(random, pages);
     must(second::create_user(&mut image, b"DOCK"));
     let rest = pair(&image, UNRESERVED);
-    must(second::give(&mut image, 0, rest - keep.min(rest - 1)));
+    must(second::give(&mut image, 0, (rest - keep.min(rest - 1)) as usize));
     image
 }
 

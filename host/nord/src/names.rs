@@ -76,11 +76,12 @@ impl fmt::Display for FileName {
 
 impl UserName {
     /// The user's index. An index is taken as it is: the call that it is meant for judges it.
-    pub fn index(&self, image: &[u16]) -> Result<u32, Refusal> {
+    pub fn index(&self, image: &[u16]) -> Result<usize, Refusal> {
         match self {
-            UserName::Index(index) => Ok(*index),
+            UserName::Index(index) => Ok(*index as usize),
             UserName::Name(name) => {
-                done(proved::find_user(image, name.as_bytes()), Call::FindUser, self).map_err(|refusal| hint(refusal, name))
+                let found = done(proved::find_user(image, name.as_bytes()), Call::FindUser, self);
+                found.map(|user| user as usize).map_err(|refusal| hint(refusal, name))
             }
         }
     }
@@ -88,13 +89,14 @@ impl UserName {
 
 impl FileName {
     /// The indexes of the user and the file.
-    pub fn indexes(&self, image: &[u16]) -> Result<(u32, u32), Refusal> {
+    pub fn indexes(&self, image: &[u16]) -> Result<(usize, usize), Refusal> {
         let user = self.user.index(image)?;
         match &self.file {
-            Within::Index(index) => Ok((user, *index)),
+            Within::Index(index) => Ok((user, *index as usize)),
             Within::Name(name, kind) => {
                 let found = proved::find_file(image, user, name.as_bytes(), kind.as_bytes());
-                Ok((user, done(found, Call::FindFile, self).map_err(|refusal| hint(refusal, name))?))
+                let file = done(found, Call::FindFile, self).map_err(|refusal| hint(refusal, name))?;
+                Ok((user, file as usize))
             }
         }
     }

@@ -6,9 +6,9 @@ use made::*;
 use nord::volume::{holders, read, FileKind, Holder};
 
 /// One page's holder by the walk is the one by the library.
-fn same_holder(image: &[u16], held: &[Holder], page: u32) {
+fn same_holder(image: &[u16], held: &[Holder], page: usize) {
     let library = proved::who_holds(image, page);
-    let walk = held[page as usize];
+    let walk = held[page];
     assert_eq!((library.number, library.rule), (0, 0));
     let walked = (walk.kind as u32, walk.user, walk.file, walk.position);
     assert_eq!(walked, (library.kind, library.user, library.file, library.position), "page {page}");
@@ -18,9 +18,7 @@ fn same_holders(image: &[u16], step: usize) {
     assert_eq!(proved::check(image).number, 0);
     let held = holders(image);
     assert_eq!(held.len() * proved::PAGE, image.len());
-    (0..held.len())
-        .step_by(step)
-        .for_each(|page| same_holder(image, &held, page as u32));
+    (0..held.len()).step_by(step).for_each(|page| same_holder(image, &held, page));
 }
 
 #[test]

@@ -21,6 +21,49 @@ pub struct Holder {
     pub position: u32,
 }
 
+/// A step of a run: a call by its number (`call`) with its arguments. `count` is a page count, a position, or format's bit page; the name is
+/// the bytes `name_at .. name_at + name_bytes` of the text lent with the steps, the type likewise, and a page's data are the 1,024 words from
+/// `data_at` on of the words lent with them. What a call does not use is not looked at.
+#[repr(C)]
+#[derive(Clone, Copy, Debug, Default, PartialEq, Eq)]
+pub struct Step {
+    pub call: u32,
+    pub user: u32,
+    pub file: u32,
+    pub count: u32,
+    pub created: u32,
+    pub name_at: u32,
+    pub name_bytes: u32,
+    pub type_at: u32,
+    pub type_bytes: u32,
+    pub data_at: u32,
+}
+
+/// The calls of a step, by number. Who holds a page (6) and reading a page (16) answer more than a reply has: they are no steps.
+pub mod call {
+    pub const FORMAT: u32 = 1;
+    pub const CHECK: u32 = 2;
+    pub const FIND_USER: u32 = 3;
+    pub const FIND_FILE: u32 = 4;
+    pub const ADDRESS: u32 = 5;
+    pub const CREATE_USER: u32 = 7;
+    pub const DELETE_USER: u32 = 8;
+    pub const GIVE: u32 = 9;
+    pub const TAKE: u32 = 10;
+    pub const CREATE_INDEXED: u32 = 11;
+    pub const CREATE_CONTIGUOUS: u32 = 12;
+    pub const GROW: u32 = 13;
+    pub const SHRINK: u32 = 14;
+    pub const DELETE_FILE: u32 = 15;
+    pub const WRITE_PAGE: u32 = 17;
+    pub const NOTE_OPEN: u32 = 18;
+    pub const FORMAT_DEFAULT: u32 = 19;
+}
+
+/// The numbers of a step and of a reply, which the lengths of their lists are told in.
+pub(crate) const STEP_NUMBERS: usize = size_of::<Step>() / size_of::<u32>();
+pub(crate) const REPLY_NUMBERS: usize = size_of::<Reply>() / size_of::<u32>();
+
 /// A part of the image, in words.
 #[repr(C)]
 #[derive(Clone, Copy)]
@@ -49,8 +92,8 @@ extern "C" {
     pub(crate) fn nord_format_default(image: *mut u16, words: usize, name: *const u8, name_bytes: usize) -> Reply;
     pub(crate) fn nord_create_user(image: *mut u16, words: usize, name: *const u8, name_bytes: usize) -> Reply;
     pub(crate) fn nord_delete_user(image: *mut u16, words: usize, user: usize) -> Reply;
-    pub(crate) fn nord_give(image: *mut u16, words: usize, user: usize, count: u32) -> Reply;
-    pub(crate) fn nord_take(image: *mut u16, words: usize, user: usize, count: u32) -> Reply;
+    pub(crate) fn nord_give(image: *mut u16, words: usize, user: usize, count: usize) -> Reply;
+    pub(crate) fn nord_take(image: *mut u16, words: usize, user: usize, count: usize) -> Reply;
     pub(crate) fn nord_create_indexed(
         image: *mut u16,
         words: usize,
@@ -70,7 +113,7 @@ extern "C" {
         kind: *const u8,
         kind_bytes: usize,
         created: u32,
-        count: u32,
+        count: usize,
     ) -> Reply;
     pub(crate) fn nord_grow(image: *mut u16, words: usize, user: usize, file: usize) -> Reply;
     pub(crate) fn nord_shrink(image: *mut u16, words: usize, user: usize, file: usize) -> Reply;
@@ -85,4 +128,16 @@ extern "C" {
         data_words: usize,
     ) -> Reply;
     pub(crate) fn nord_note_open(image: *mut u16, words: usize, user: usize, file: usize) -> Reply;
+    pub(crate) fn nord_run(
+        image: *mut u16,
+        words: usize,
+        steps: *const Step,
+        step_numbers: usize,
+        text: *const u8,
+        text_bytes: usize,
+        data: *const u16,
+        data_words: usize,
+        replies: *mut Reply,
+        reply_numbers: usize,
+    ) -> usize;
 }

@@ -1,11 +1,16 @@
 //! The proved library's calls as safe functions of Rust. host/include/nord.h says what each number means.
 //!
 //! What makes them safe is the library's own contracts: none asks anything of its caller, a slice is lent for the time of the call, and
-//! nothing outside it is read or written.
+//! nothing outside it is read or written. What the contracts take for granted, that the slices lent to one call do not overlap, the borrow
+//! checker sees to: an image is lent as `&mut`, and while it is so, nothing else can be a part of it. A slice without elements has a pointer
+//! that is neither null nor odd, as all slices of Rust have. Words are plain numbers; an image file has the high byte first.
+//!
+//! Indexes, positions, pages and counts are as wide as the header has them, so a number that 32 bits do not hold is refused and not cut.
 
 mod boundary;
 
-pub use boundary::{Holder, Reply};
+pub use boundary::{call, Holder, Reply, Step};
+use boundary::{REPLY_NUMBERS, STEP_NUMBERS};
 
 /// The words of a page.
 pub const PAGE: usize = 1024;
@@ -18,12 +23,12 @@ pub fn find_user(image: &[u16], name: &[u8]) -> Reply {
     unsafe { boundary::nord_find_user(image.as_ptr(), image.len(), name.as_ptr(), name.len()) }
 }
 
-pub fn find_file(image: &[u16], user: u32, name: &[u8], kind: &[u8]) -> Reply {
+pub fn find_file(image: &[u16], user: usize, name: &[u8], kind: &[u8]) -> Reply {
     unsafe {
         boundary::nord_find_file(
             image.as_ptr(),
             image.len(),
-            user as usize,
+            user,
             name.as_ptr(),
             name.len(),
             kind.as_ptr(),
@@ -32,17 +37,17 @@ pub fn find_file(image: &[u16], user: u32, name: &[u8], kind: &[u8]) -> Reply {
     }
 }
 
-pub fn address(image: &[u16], user: u32, file: u32, position: u32) -> Reply {
-    unsafe { boundary::nord_address(image.as_ptr(), image.len(), user as usize, file as usize, position as usize) }
+pub fn address(image: &[u16], user: usize, file: usize, position: usize) -> Reply {
+    unsafe { boundary::nord_address(image.as_ptr(), image.len(), user, file, position) }
 }
 
-pub fn who_holds(image: &[u16], page: u32) -> Holder {
-    unsafe { boundary::nord_who_holds(image.as_ptr(), image.len(), page as usize) }
+pub fn who_holds(image: &[u16], page: usize) -> Holder {
+    unsafe { boundary::nord_who_holds(image.as_ptr(), image.len(), page) }
 }
 
 /// The 1,024 words of a file's page, or an empty part where `address` would refuse.
-pub fn read_page(image: &[u16], user: u32, file: u32, position: u32) -> &[u16] {
-    let part = unsafe { boundary::nord_read_page(image.as_ptr(), image.len(), user as usize, file as usize, position as usize) };
+pub fn read_page(image: &[u16], user: usize, file: usize, position: usize) -> &[u16] {
+    let part = unsafe { boundary::nord_read_page(image.as_ptr(), image.len(), user, file, position) };
     &image[part.offset..part.offset + part.length]
 }
 
@@ -64,10 +69,10 @@ fn list_into(image: &[u16], out: &mut [u8]) -> usize {
 }
 
 /// Formats with the bit page given, or with page P/2.
-pub fn format(image: &mut [u16], name: &[u8], bit_page: Option<u32>) -> Reply {
+pub fn format(image: &mut [u16], name: &[u8], bit_page: Option<usize>) -> Reply {
     let (words, length) = (image.as_mut_ptr(), image.len());
     match bit_page {
-        Some(page) => unsafe { boundary::nord_format(words, length, name.as_ptr(), name.len(), page as usize) },
+        Some(page) => unsafe { boundary::nord_format(words, length, name.as_ptr(), name.len(), page) },
         None => unsafe { boundary::nord_format_default(words, length, name.as_ptr(), name.len()) },
     }
 }
@@ -76,41 +81,30 @@ pub fn create_user(image: &mut [u16], name: &[u8]) -> Reply {
     unsafe { boundary::nord_create_user(image.as_mut_ptr(), image.len(), name.as_ptr(), name.len()) }
 }
 
-pub fn delete_user(image: &mut [u16], user: u32) -> Reply {
-    unsafe { boundary::nord_delete_user(image.as_mut_ptr(), image.len(), user as usize) }
+pub fn delete_user(image: &mut [u16], user: usize) -> Reply {
+    unsafe { boundary::nord_delete_user(image.as_mut_ptr(), image.len(), user) }
 }
 
-pub fn give(image: &mut [u16], user: u32, count: u32) -> Reply {
-    unsafe { boundary::nord_give(image.as_mut_ptr(), image.len(), user as usize, count) }
+pub fn give(image: &mut [u16], user: usize, count: usize) -> Reply {
+    unsafe { boundary::nord_give(image.as_mut_ptr(), image.len(), user, count) }
 }
 
-pub fn take(image: &mut [u16], user: u32, count: u32) -> Reply {
-    unsafe { boundary::nord_take(image.as_mut_ptr(), image.len(), user as usize, count) }
+pub fn take(image: &mut [u16], user: usize, count: usize) -> Reply {
+    unsafe { boundary::nord_take(image.as_mut_ptr(), image.len(), user, count) }
 }
 
-pub fn create_indexed(image: &mut [u16], user: u32, name: &[u8], kind: &[u8], created: u32) -> Reply {
+pub fn create_indexed(image: &mut [u16], user: usize, name: &[u8], kind: &[u8], created: u32) -> Reply {
     let (words, length) = (image.as_mut_ptr(), image.len());
-    unsafe {
-        boundary::nord_create_indexed(
-            words,
-            length,
-            user as usize,
-            name.as_ptr(),
-            name.len(),
-            kind.as_ptr(),
-            kind.len(),
-            created,
-        )
-    }
+    unsafe { boundary::nord_create_indexed(words, length, user, name.as_ptr(), name.len(), kind.as_ptr(), kind.len(), created) }
 }
 
-pub fn create_contiguous(image: &mut [u16], user: u32, name: &[u8], kind: &[u8], created: u32, count: u32) -> Reply {
+pub fn create_contiguous(image: &mut [u16], user: usize, name: &[u8], kind: &[u8], created: u32, count: usize) -> Reply {
     let (words, length) = (image.as_mut_ptr(), image.len());
     unsafe {
         boundary::nord_create_contiguous(
             words,
             length,
-            user as usize,
+            user,
             name.as_ptr(),
             name.len(),
             kind.as_ptr(),
@@ -121,33 +115,46 @@ pub fn create_contiguous(image: &mut [u16], user: u32, name: &[u8], kind: &[u8],
     }
 }
 
-pub fn grow(image: &mut [u16], user: u32, file: u32) -> Reply {
-    unsafe { boundary::nord_grow(image.as_mut_ptr(), image.len(), user as usize, file as usize) }
+pub fn grow(image: &mut [u16], user: usize, file: usize) -> Reply {
+    unsafe { boundary::nord_grow(image.as_mut_ptr(), image.len(), user, file) }
 }
 
-pub fn shrink(image: &mut [u16], user: u32, file: u32) -> Reply {
-    unsafe { boundary::nord_shrink(image.as_mut_ptr(), image.len(), user as usize, file as usize) }
+pub fn shrink(image: &mut [u16], user: usize, file: usize) -> Reply {
+    unsafe { boundary::nord_shrink(image.as_mut_ptr(), image.len(), user, file) }
 }
 
-pub fn delete_file(image: &mut [u16], user: u32, file: u32) -> Reply {
-    unsafe { boundary::nord_delete_file(image.as_mut_ptr(), image.len(), user as usize, file as usize) }
+pub fn delete_file(image: &mut [u16], user: usize, file: usize) -> Reply {
+    unsafe { boundary::nord_delete_file(image.as_mut_ptr(), image.len(), user, file) }
 }
 
-pub fn write_page(image: &mut [u16], user: u32, file: u32, position: u32, data: &[u16]) -> Reply {
+pub fn write_page(image: &mut [u16], user: usize, file: usize, position: usize, data: &[u16]) -> Reply {
+    let (words, length) = (image.as_mut_ptr(), image.len());
+    unsafe { boundary::nord_write_page(words, length, user, file, position, data.as_ptr(), data.len()) }
+}
+
+pub fn note_open(image: &mut [u16], user: usize, file: usize) -> Reply {
+    unsafe { boundary::nord_note_open(image.as_mut_ptr(), image.len(), user, file) }
+}
+
+/// Makes the steps in order, with one check of the image for all of them: a reply for each, up to the first refusal or to the end of `steps`
+/// or `replies`. Gives the number of replies; the others stay as they were. Replies and image are those of the single calls one after the
+/// other. A step whose call is none, or that uses a part which does not lie in `text` or `data`, is a call whose arguments are wrong.
+///
+/// `image` and `replies` are lent as `&mut`, so neither overlaps the other or any of the rest; `steps`, `text` and `data` are only read.
+pub fn run(image: &mut [u16], steps: &[Step], text: &[u8], data: &[u16], replies: &mut [Reply]) -> usize {
     let (words, length) = (image.as_mut_ptr(), image.len());
     unsafe {
-        boundary::nord_write_page(
+        boundary::nord_run(
             words,
             length,
-            user as usize,
-            file as usize,
-            position as usize,
+            steps.as_ptr(),
+            STEP_NUMBERS * steps.len(),
+            text.as_ptr(),
+            text.len(),
             data.as_ptr(),
             data.len(),
+            replies.as_mut_ptr(),
+            REPLY_NUMBERS * replies.len(),
         )
     }
-}
-
-pub fn note_open(image: &mut [u16], user: u32, file: u32) -> Reply {
-    unsafe { boundary::nord_note_open(image.as_mut_ptr(), image.len(), user as usize, file as usize) }
 }

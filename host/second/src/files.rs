@@ -1,7 +1,7 @@
 //! Calls that change files, but for their length: create, delete, write a
 //! page, note an open.
 
-use crate::arguments::{is_count, is_index};
+use crate::arguments;
 use crate::bits::{highest_run, lowest_free, reserve};
 use crate::check::demand_sound;
 use crate::entry::{entry_words, object, object_number, user, EntryPlace, ENTRIES, ENTRY_WORDS, NAME, TYPE, USED_WORD};
@@ -18,16 +18,17 @@ use crate::volume::{
 
 /// What a caller says of a new file; a count makes it contiguous.
 struct NewFile<'a> {
-    user: u32,
+    user: usize,
     name: &'a [u8],
     kind: &'a [u8],
     created: u32,
-    count: Option<u32>,
+    count: Option<usize>,
 }
 
 /// What a new file will need, all tests passed.
 struct Plan {
-    /// Where its user's entry starts.
+    /// Its user, and where his entry starts.
+    user: u32,
     owner: usize,
     file: u32,
     system_pages: u32,
@@ -36,7 +37,7 @@ struct Plan {
 }
 
 /// Creates an empty indexed file.
-pub fn create_indexed(image: &mut [u16], user: u32, name: &[u8], kind: &[u8], created: u32) -> Reply {
+pub fn create_indexed(image: &mut [u16], user: usize, name: &[u8], kind: &[u8], created: u32) -> Reply {
     create(
         image,
         &NewFile {
@@ -51,7 +52,7 @@ pub fn create_indexed(image: &mut [u16], user: u32, name: &[u8], kind: &[u8], cr
 }
 
 /// Creates a contiguous file of so many pages.
-pub fn create_contiguous(image: &mut [u16], user: u32, name: &[u8], kind: &[u8], created: u32, count: u32) -> Reply {
+pub fn create_contiguous(image: &mut [u16], user: usize, name: &[u8], kind: &[u8], created: u32, count: usize) -> Reply {
     create(
         image,
         &NewFile {
@@ -69,7 +70,7 @@ fn create(image: &mut [u16], new: &NewFile) -> Outcome {
     let plan = plan_file(image, new)?;
     let rest = unreserved(image) - plan.system_pages;
     put_pair(image, UNRESERVED, rest);
-    let start = make_object_place(image, new.user, plan.file);
+    let start = make_object_place(image, plan.user, plan.file);
     let (first, count) = plan.run;
     for page in first..first + count {
         take_this(image, page);
@@ -83,23 +84,23 @@ fn create(image: &mut [u16], new: &NewFile) -> Outcome {
 /// The tests of a create, in the order of their numbers.
 fn plan_file(image: &[u16], new: &NewFile) -> Result<Plan, Refusal> {
     let pages = page_count(image)?;
-    let counted = new.count.is_none_or(is_count);
-    let named = is_name(new.name) && is_type(new.kind);
-    demand(is_index(new.user) && named && counted, BAD_ARGUMENT)?;
+    let (user, count) = (arguments::index(new.user)?, new.count.map(arguments::count).transpose()?);
+    demand(is_name(new.name) && is_type(new.kind), BAD_ARGUMENT)?;
     demand_sound(image, pages)?;
-    let owner = user_entry(image, new.user).ok_or(ABSENT)?;
-    demand(file_named(image, new.user, new.name, new.kind).is_none(), NAME_TAKEN)?;
-    let mut unused = (0..ENTRIES).filter(|&file| file_entry(image, new.user, file).is_none());
+    let owner = user_entry(image, user).ok_or(ABSENT)?;
+    demand(file_named(image, user, new.name, new.kind).is_none(), NAME_TAKEN)?;
+    let mut unused = (0..ENTRIES).filter(|&file| file_entry(image, user, file).is_none());
     let file = unused.next().ok_or(ENTRIES_FULL)?;
     let (given, used) = (pair(image, owner + user::GIVEN), pair(image, owner + user::USED));
-    demand(given - used >= new.count.unwrap_or(0), GIVEN_SHORT)?;
-    let system_pages = system_pages_needed(image, new.user, file);
+    demand(given - used >= count.unwrap_or(0), GIVEN_SHORT)?;
+    let system_pages = system_pages_needed(image, user, file);
     demand(unreserved(image) >= system_pages, UNRESERVED_SHORT)?;
-    let run = match new.count {
+    let run = match count {
         None => (0, 0),
         Some(count) => (run_left(image, pages, system_pages, count).ok_or(NO_RUN)?, count),
     };
     Ok(Plan {
+        user,
         owner,
         file,
         system_pages,
@@ -156,8 +157,8 @@ fn write_entry(entry: &mut [u16], new: &NewFile, plan: &Plan) {
     entry[0] = USED_WORD;
     entry[NAME..][..NAME_WORDS].copy_from_slice(&pack::<NAME_WORDS>(new.name));
     entry[TYPE..][..TYPE_WORDS].copy_from_slice(&pack::<TYPE_WORDS>(new.kind));
-    entry[object::USER] = new.user as u16;
-    entry[object::OWN_NUMBER] = object_number(new.user, plan.file) as u16;
+    entry[object::USER] = plan.user as u16;
+    entry[object::OWN_NUMBER] = object_number(plan.user, plan.file) as u16;
     put_pair(entry, object::CREATED, new.created);
     put_pair(entry, object::PAGES, count);
     put_pair(entry, object::BYTES, 2048 * count);
@@ -165,12 +166,12 @@ fn write_entry(entry: &mut [u16], new: &NewFile, plan: &Plan) {
 }
 
 /// Deletes a file: its pages are freed, its entry is cleared.
-pub fn delete_file(image: &mut [u16], user: u32, file: u32) -> Reply {
+pub fn delete_file(image: &mut [u16], user: usize, file: usize) -> Reply {
     try_delete_file(image, user, file).into()
 }
 
-fn try_delete_file(image: &mut [u16], user: u32, file: u32) -> Outcome {
-    let start = named_file(image, user, file)?;
+fn try_delete_file(image: &mut [u16], user: usize, file: usize) -> Outcome {
+    let (user, start) = named_file(image, user, file)?;
     let owner = user_entry(image, user).ok_or(ABSENT)?;
     let held = file_pages(image, entry_words(image, start));
     let used = pair(image, owner + user::USED) - held.len() as u32;
@@ -183,11 +184,11 @@ fn try_delete_file(image: &mut [u16], user: u32, file: u32) -> Outcome {
 }
 
 /// Replaces the 1,024 words of one file page.
-pub fn write_page(image: &mut [u16], user: u32, file: u32, position: u32, data: &[u16]) -> Reply {
+pub fn write_page(image: &mut [u16], user: usize, file: usize, position: usize, data: &[u16]) -> Reply {
     try_write_page(image, user, file, position, data).into()
 }
 
-fn try_write_page(image: &mut [u16], user: u32, file: u32, position: u32, data: &[u16]) -> Outcome {
+fn try_write_page(image: &mut [u16], user: usize, file: usize, position: usize, data: &[u16]) -> Outcome {
     page_count(image)?;
     demand(data.len() == PAGE_WORDS, BAD_ARGUMENT)?;
     let page = try_address(image, user, file, position)?;
@@ -196,12 +197,12 @@ fn try_write_page(image: &mut [u16], user: u32, file: u32, position: u32, data: 
 }
 
 /// Notes an open: total opens grows by one, and after 65,535 comes 0.
-pub fn note_open(image: &mut [u16], user: u32, file: u32) -> Reply {
+pub fn note_open(image: &mut [u16], user: usize, file: usize) -> Reply {
     try_note_open(image, user, file).into()
 }
 
-fn try_note_open(image: &mut [u16], user: u32, file: u32) -> Outcome {
-    let start = named_file(image, user, file)?;
+fn try_note_open(image: &mut [u16], user: usize, file: usize) -> Outcome {
+    let (_, start) = named_file(image, user, file)?;
     let opens = &mut image[start + object::TOTAL_OPENS];
     *opens = opens.wrapping_add(1);
     Ok(0)

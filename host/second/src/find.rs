@@ -1,6 +1,6 @@
 //! Finding: users and files by name, a file's page by position.
 
-use crate::arguments::is_index;
+use crate::arguments::index;
 use crate::check::demand_sound;
 use crate::entry::{entry_words, name_words, type_words};
 use crate::image::{page_count, page_words};
@@ -28,13 +28,14 @@ pub(crate) fn user_named(image: &[u16], name: &[u8]) -> Option<u32> {
 }
 
 /// The index of the user's file with this name and type.
-pub fn find_file(image: &[u16], user: u32, name: &[u8], kind: &[u8]) -> Reply {
+pub fn find_file(image: &[u16], user: usize, name: &[u8], kind: &[u8]) -> Reply {
     try_find_file(image, user, name, kind).into()
 }
 
-fn try_find_file(image: &[u16], user: u32, name: &[u8], kind: &[u8]) -> Outcome {
+fn try_find_file(image: &[u16], user: usize, name: &[u8], kind: &[u8]) -> Outcome {
     let pages = page_count(image)?;
-    demand(is_index(user) && is_name(name) && is_type(kind), BAD_ARGUMENT)?;
+    let user = index(user)?;
+    demand(is_name(name) && is_type(kind), BAD_ARGUMENT)?;
     demand_sound(image, pages)?;
     file_named(image, user, name, kind).ok_or(ABSENT)
 }
@@ -47,34 +48,35 @@ pub(crate) fn file_named(image: &[u16], user: u32, name: &[u8], kind: &[u8]) -> 
     found.map(|(file, _)| file)
 }
 
-/// The entry of a used user, after the tests every call on a user makes.
-pub(crate) fn named_user(image: &[u16], user: u32) -> Result<usize, Refusal> {
+/// A used user's index and entry, after the tests every call on a user makes.
+pub(crate) fn named_user(image: &[u16], user: usize) -> Result<(u32, usize), Refusal> {
     let pages = page_count(image)?;
-    demand(is_index(user), BAD_ARGUMENT)?;
+    let user = index(user)?;
     demand_sound(image, pages)?;
-    user_entry(image, user).ok_or(ABSENT)
+    Ok((user, user_entry(image, user).ok_or(ABSENT)?))
 }
 
-/// The entry of a used file, after the tests every call on a file makes.
-pub(crate) fn named_file(image: &[u16], user: u32, file: u32) -> Result<usize, Refusal> {
+/// A used file's user and entry, after the tests every call on a file makes.
+pub(crate) fn named_file(image: &[u16], user: usize, file: usize) -> Result<(u32, usize), Refusal> {
     let pages = page_count(image)?;
-    demand(is_index(user) && is_index(file), BAD_ARGUMENT)?;
+    let (user, file) = (index(user)?, index(file)?);
     demand_sound(image, pages)?;
-    file_entry(image, user, file).ok_or(ABSENT)
+    Ok((user, file_entry(image, user, file).ok_or(ABSENT)?))
 }
 
 /// The page number of a file's page.
-pub fn address(image: &[u16], user: u32, file: u32, position: u32) -> Reply {
+pub fn address(image: &[u16], user: usize, file: usize, position: usize) -> Reply {
     try_address(image, user, file, position).into()
 }
 
-pub(crate) fn try_address(image: &[u16], user: u32, file: u32, position: u32) -> Outcome {
-    let start = named_file(image, user, file)?;
+pub(crate) fn try_address(image: &[u16], user: usize, file: usize, position: usize) -> Outcome {
+    let (_, start) = named_file(image, user, file)?;
+    let position = u32::try_from(position).map_err(|_| ABSENT)?;
     data_page(image, entry_words(image, start), position).ok_or(ABSENT)
 }
 
 /// The words of a file's page; none where `address` would refuse.
-pub fn read_page(image: &[u16], user: u32, file: u32, position: u32) -> &[u16] {
+pub fn read_page(image: &[u16], user: usize, file: usize, position: usize) -> &[u16] {
     match try_address(image, user, file, position) {
         Ok(page) => page_words(image, page),
         Err(_) => &[],

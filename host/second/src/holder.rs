@@ -1,24 +1,25 @@
 //! Who holds a page.
 
+use crate::arguments;
 use crate::bits::is_reserved;
 use crate::check::demand_sound;
 use crate::entry::{ENTRIES, ENTRIES_TO_A_PAGE};
 use crate::image::{page_count, pair, BIT_POINTER};
 use crate::pointer::{Pointer, SLOTS};
-use crate::reply::{demand, kind, HolderReply, Refusal, Reply, BAD_ARGUMENT};
+use crate::reply::{kind, HolderReply, Refusal, Reply};
 use crate::volume::{bits, file_pages, files, object_index, object_page, object_pointer, user_page, user_pointer, users, Role};
 
 /// The holder of a page, or that it is free.
-pub fn who_holds(image: &[u16], page: u32) -> HolderReply {
+pub fn who_holds(image: &[u16], page: usize) -> HolderReply {
     try_who_holds(image, page).unwrap_or_else(|refusal| HolderReply {
         reply: Reply::from(refusal),
         ..HolderReply::default()
     })
 }
 
-fn try_who_holds(image: &[u16], page: u32) -> Result<HolderReply, Refusal> {
+fn try_who_holds(image: &[u16], page: usize) -> Result<HolderReply, Refusal> {
     let pages = page_count(image)?;
-    demand(page < pages, BAD_ARGUMENT)?;
+    let page = arguments::page(page, pages)?;
     demand_sound(image, pages)?;
     if !is_reserved(bits(image), page) {
         return Ok(holder(kind::FREE, 0));

@@ -18,8 +18,8 @@ struct Changing {
 
 impl Changing {
     /// The file, if it is there and not contiguous.
-    fn find(image: &[u16], user: u32, file: u32) -> Result<Changing, Refusal> {
-        let entry = named_file(image, user, file)?;
+    fn find(image: &[u16], user: usize, file: usize) -> Result<Changing, Refusal> {
+        let (user, entry) = named_file(image, user, file)?;
         let owner = user_entry(image, user).ok_or(ABSENT)?;
         let pointer = file_pointer(entry_words(image, entry));
         demand(!matches!(pointer, Pointer::Plain(_)), WRONG_KIND)?;
@@ -45,11 +45,11 @@ impl Changing {
 }
 
 /// Adds a page to an indexed file; gives the data page's number.
-pub fn grow(image: &mut [u16], user: u32, file: u32) -> Reply {
+pub fn grow(image: &mut [u16], user: usize, file: usize) -> Reply {
     try_grow(image, user, file).into()
 }
 
-fn try_grow(image: &mut [u16], user: u32, file: u32) -> Outcome {
+fn try_grow(image: &mut [u16], user: usize, file: usize) -> Outcome {
     let changing = Changing::find(image, user, file)?;
     let needed = pages_to_grow(changing.pages);
     let (given, used) = (pair(image, changing.owner + user::GIVEN), changing.used(image));
@@ -85,11 +85,11 @@ fn add_block(image: &mut [u16], pointer: Pointer, n: u32, block: u32) -> Pointer
 }
 
 /// Takes the last page off an indexed file.
-pub fn shrink(image: &mut [u16], user: u32, file: u32) -> Reply {
+pub fn shrink(image: &mut [u16], user: usize, file: usize) -> Reply {
     try_shrink(image, user, file).into()
 }
 
-fn try_shrink(image: &mut [u16], user: u32, file: u32) -> Outcome {
+fn try_shrink(image: &mut [u16], user: usize, file: usize) -> Outcome {
     let changing = Changing::find(image, user, file)?;
     demand(changing.pages > 0, WRONG_KIND)?;
     let left = changing.pages - 1;

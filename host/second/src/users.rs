@@ -1,6 +1,6 @@
 //! Calls that change users: create, delete, give, take.
 
-use crate::arguments::is_count;
+use crate::arguments;
 use crate::check::demand_sound;
 use crate::entry::{user, EntryPlace, ENTRIES, ENTRY_WORDS, NAME, USED_WORD};
 use crate::find::{named_user, user_named};
@@ -90,12 +90,12 @@ fn make_subindex(image: &mut [u16]) {
 }
 
 /// Deletes a user without files; his given pages become unreserved.
-pub fn delete_user(image: &mut [u16], user: u32) -> Reply {
+pub fn delete_user(image: &mut [u16], user: usize) -> Reply {
     try_delete_user(image, user).into()
 }
 
-fn try_delete_user(image: &mut [u16], user: u32) -> Outcome {
-    let start = named_user(image, user)?;
+fn try_delete_user(image: &mut [u16], user: usize) -> Outcome {
+    let (user, start) = named_user(image, user)?;
     demand(files(image, user).next().is_none(), HAS_FILE)?;
     let back = unreserved(image) + pair(image, start + user::GIVEN);
     put_pair(image, UNRESERVED, back);
@@ -104,14 +104,14 @@ fn try_delete_user(image: &mut [u16], user: u32) -> Outcome {
 }
 
 /// Moves pages from unreserved to the user's given pages.
-pub fn give(image: &mut [u16], user: u32, count: u32) -> Reply {
+pub fn give(image: &mut [u16], user: usize, count: usize) -> Reply {
     try_give(image, user, count).into()
 }
 
-fn try_give(image: &mut [u16], user: u32, count: u32) -> Outcome {
+fn try_give(image: &mut [u16], user: usize, count: usize) -> Outcome {
     page_count(image)?;
-    demand(is_count(count), BAD_ARGUMENT)?;
-    let start = named_user(image, user)?;
+    let count = arguments::count(count)?;
+    let (_, start) = named_user(image, user)?;
     let (given, rest) = (pair(image, start + user::GIVEN), unreserved(image));
     demand(rest >= count, UNRESERVED_SHORT)?;
     put_pair(image, start + user::GIVEN, given + count);
@@ -120,14 +120,14 @@ fn try_give(image: &mut [u16], user: u32, count: u32) -> Outcome {
 }
 
 /// Moves pages the user does not use back to unreserved.
-pub fn take(image: &mut [u16], user: u32, count: u32) -> Reply {
+pub fn take(image: &mut [u16], user: usize, count: usize) -> Reply {
     try_take(image, user, count).into()
 }
 
-fn try_take(image: &mut [u16], user: u32, count: u32) -> Outcome {
+fn try_take(image: &mut [u16], user: usize, count: usize) -> Outcome {
     page_count(image)?;
-    demand(is_count(count), BAD_ARGUMENT)?;
-    let start = named_user(image, user)?;
+    let count = arguments::count(count)?;
+    let (_, start) = named_user(image, user)?;
     let (given, rest) = (pair(image, start + user::GIVEN), unreserved(image));
     demand(given - pair(image, start + user::USED) >= count, GIVEN_SHORT)?;
     put_pair(image, start + user::GIVEN, given - count);

@@ -107,7 +107,7 @@ fn chance_words() {
         let reply = check(&image);
         assert!(matches!(reply.number, 0 | 3) && (reply.number == 3) == (reply.rule > 0));
         rules[reply.rule as usize] += 1;
-        who_holds(&image, chance.below(32));
+        who_holds(&image, chance.below(32) as usize);
         grow(&mut image, 0, 0);
         assert_eq!(check(&image).rule, reply.rule);
     }

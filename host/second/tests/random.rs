@@ -6,21 +6,23 @@ use common::*;
 use second::*;
 
 /// A user, file or the like: mostly small, seldom out of range.
-fn index(chance: &mut Chance) -> u32 {
-    match chance.below(40) {
+fn index(chance: &mut Chance) -> usize {
+    let index = match chance.below(40) {
         0 => 256 + chance.below(10),
         1 => chance.below(256),
         _ => chance.below(5),
-    }
+    };
+    index as usize
 }
 
-fn count(chance: &mut Chance) -> u32 {
-    match chance.below(30) {
+fn count(chance: &mut Chance) -> usize {
+    let count = match chance.below(30) {
         0 => 0,
         1 => 16_385,
         2 => chance.below(16_384),
         _ => 1 + chance.below(12),
-    }
+    };
+    count as usize
 }
 
 fn some_name(chance: &mut Chance) -> Vec<u8> {
@@ -37,7 +39,7 @@ fn some_type(chance: &mut Chance) -> &'static [u8] {
 
 /// One chance call; gives a word for it and its reply.
 fn call(image: &mut [u16], chance: &mut Chance) -> (&'static str, Reply) {
-    let (user, file, position) = (index(chance), index(chance), chance.below(6));
+    let (user, file, position) = (index(chance), index(chance), chance.below(6) as usize);
     let (name, kind, count) = (some_name(chance), some_type(chance), count(chance));
     let created = chance.below(u32::MAX);
     match chance.below(40) {
@@ -67,31 +69,27 @@ fn assert_sound(image: &[u16], after: &str) {
 
 /// Each held page is where its holder says.
 fn assert_holders_agree(image: &[u16]) {
-    for page in 0..(image.len() / 1024) as u32 {
+    for page in 0..image.len() / 1024 {
         let holder = who_holds(image, page);
         assert_eq!(holder.reply, done(0));
         if holder.kind == kind::FILE_DATA {
-            let found = address(image, holder.user, holder.file, holder.position);
-            assert_eq!(found, done(page));
-            assert_eq!(
-                read_page(image, holder.user, holder.file, holder.position),
-                &image[page as usize * 1024..][..1024]
-            );
+            let [user, file, position] = [holder.user, holder.file, holder.position].map(|number| number as usize);
+            assert_eq!(address(image, user, file, position), done(page as u32));
+            assert_eq!(read_page(image, user, file, position), &image[page * 1024..][..1024]);
         }
     }
 }
 
 /// Grow, then shrink: all counts, pointers and addresses are as before.
-fn assert_shrink_undoes_grow(image: &[u16], user: u32, file: u32) {
+fn assert_shrink_undoes_grow(image: &[u16], user: usize, file: usize) {
     let mut after = image.to_vec();
     let grown = grow(&mut after, user, file);
     if grown.number != 0 {
         return;
     }
-    let taken: Vec<usize> = (0..(image.len() / 1024) as u32)
+    let taken: Vec<usize> = (0..image.len() / 1024)
         .filter(|&page| who_holds(image, page).kind == kind::FREE)
         .filter(|&page| who_holds(&after, page).kind != kind::FREE)
-        .map(|page| page as usize)
         .collect();
     assert!(taken.contains(&(grown.value as usize)));
     assert_eq!(shrink(&mut after, user, file), done(0));
@@ -106,7 +104,7 @@ fn run(pages: usize, calls: u32, seed: u64) -> [u32; 12] {
     let mut chance = Chance::new(seed);
     let mut image: Vec<u16> = (0..pages * 1024).map(|_| chance.below(65_536) as u16).collect();
     let bit_page = 1 + chance.below(pages as u32 - 1);
-    assert_eq!(format(&mut image, b"YARD", Some(bit_page)), done(0));
+    assert_eq!(format(&mut image, b"YARD", Some(bit_page as usize)), done(0));
     let mut numbers = [0; 12];
     for n in 0..calls {
         let before = image.clone();
@@ -120,7 +118,7 @@ fn run(pages: usize, calls: u32, seed: u64) -> [u32; 12] {
         }
         if n % 50 == 0 {
             assert_holders_agree(&image);
-            assert_shrink_undoes_grow(&image, chance.below(4), chance.below(4));
+            assert_shrink_undoes_grow(&image, chance.below(4) as usize, chance.below(4) as usize);
         }
     }
     numbers
@@ -163,9 +161,9 @@ fn long_files() {
         }
         if n % 100 == 0 {
             assert_sound(&image, "a chance length");
-            let found = (0..addresses.len() as u32).map(|p| address(&image, 0, 0, p).value);
+            let found = (0..addresses.len()).map(|p| address(&image, 0, 0, p).value);
             assert_eq!(found.collect::<Vec<u32>>(), addresses);
-            assert_eq!(address(&image, 0, 0, addresses.len() as u32), refused(4));
+            assert_eq!(address(&image, 0, 0, addresses.len()), refused(4));
         }
     }
     assert!(longest > 1_024 && addresses.len() < 512);

@@ -7,6 +7,11 @@ use second::*;
 
 type Call = Box<dyn Fn(&mut [u16]) -> Reply>;
 
+/// The largest number of 32 bits, and the first that they do not hold: cut to
+/// 32 bits, it and those above it would be small.
+const LARGE: usize = u32::MAX as usize;
+const WIDE: usize = LARGE + 1;
+
 /// Every call with arguments that are right for `reads`, but format.
 fn all_calls() -> Vec<Call> {
     vec![
@@ -60,7 +65,7 @@ fn number_1_for_all() {
 #[test]
 fn number_2_for_indexes_and_counts() {
     let image = two_users();
-    for bad in [256, u32::MAX] {
+    for bad in [256, LARGE, WIDE, WIDE + 1] {
         refuses(&image, 2, |image| find_file(image, bad, b"READS", b"DATA"));
         refuses(&image, 2, |image| address(image, bad, 0, 0));
         refuses(&image, 2, |image| address(image, 0, bad, 0));
@@ -75,13 +80,14 @@ fn number_2_for_indexes_and_counts() {
         refuses(&image, 2, |image| write_page(image, 0, bad, 0, &[0; 1024]));
         refuses(&image, 2, |image| note_open(image, 0, bad));
     }
-    for bad in [0, 16_385, u32::MAX] {
+    for bad in [0, 16_385, LARGE, WIDE, WIDE + 1] {
         refuses(&image, 2, |image| give(image, 0, bad));
         refuses(&image, 2, |image| take(image, 0, bad));
         refuses(&image, 2, |image| create_contiguous(image, 0, b"NEW", b"", 0, bad));
     }
-    assert_eq!(who_holds(&image, 32).reply, refused(2));
-    assert_eq!(who_holds(&image, u32::MAX).reply, refused(2));
+    for bad in [32, LARGE, WIDE, WIDE + 3] {
+        assert_eq!(who_holds(&image, bad).reply, refused(2));
+    }
     refuses(&image, 2, |image| write_page(image, 0, 0, 0, &[0; 1023]));
     refuses(&image, 2, |image| write_page(image, 0, 0, 0, &[0; 1025]));
 }
@@ -109,7 +115,7 @@ fn number_2_for_names_and_types() {
 #[test]
 fn number_2_for_the_bit_page() {
     let image = vec![7; 9 * 1024];
-    for bad in [0, 9, u32::MAX] {
+    for bad in [0, 9, LARGE, WIDE, WIDE + 1] {
         refuses(&image, 2, |image| format(image, b"YARD", Some(bad)));
     }
 }
@@ -136,7 +142,11 @@ fn number_4() {
     refuses(&image, 4, |image| find_file(image, 0, b"READS", b"DAT"));
     refuses(&image, 4, |image| find_file(image, 2, b"READS", b"DATA"));
     refuses(&image, 4, |image| address(image, 0, 0, 1));
-    refuses(&image, 4, |image| address(image, 0, 0, u32::MAX));
+    for far in [LARGE, WIDE] {
+        refuses(&image, 4, |image| address(image, 0, 0, far));
+        refuses(&image, 4, |image| write_page(image, 0, 0, far, &[0; 1024]));
+        assert!(read_page(&image, 0, 0, far).is_empty());
+    }
     refuses(&image, 4, |image| address(image, 0, 255, 0));
     refuses(&image, 4, |image| address(image, 255, 0, 0));
     refuses(&image, 4, |image| delete_user(image, 2));
@@ -237,7 +247,7 @@ fn number_10() {
     for n in 0..32 {
         create_user(&mut crowded, &nth(n));
     }
-    let rest = unreserved(&crowded);
+    let rest = unreserved(&crowded) as usize;
     assert_eq!(give(&mut crowded, 0, rest), done(0));
     refuses(&crowded, 10, |image| create_user(image, b"MORE"));
 }

@@ -6,6 +6,7 @@ mod growth;
 mod hostile;
 mod instructions;
 mod memory;
+mod runs;
 
 use crate::goals::Goals;
 use crate::report::{Report, Table};
@@ -74,6 +75,7 @@ pub fn run(plan: Plan) -> io::Result<Report> {
     let volumes = volumes(run.plan.large);
     run.report.add(contents(&volumes));
     calls::measure(&mut run, &volumes);
+    runs::measure(&mut run);
     beside::measure(&mut run, &volumes)?;
     growth::measure(&mut run);
     hostile::measure(&mut run);

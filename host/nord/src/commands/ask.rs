@@ -62,7 +62,7 @@ pub fn address(at: &Ask, file: &FileName, position: u32) -> Result<Answer, Failu
     let image = store::read(&at.image)?;
     let (user, index) = file.indexes(&image)?;
     let subject = format!("position {position} of {file}");
-    let page = done(proved::address(&image, user, index, position), Call::Address, subject)?;
+    let page = done(proved::address(&image, user, index, position as usize), Call::Address, subject)?;
     Ok(Answer::new(
         format!("page {page}"),
         json!({ "page": page, "user": user, "file": index, "position": position }),
@@ -71,7 +71,7 @@ pub fn address(at: &Ask, file: &FileName, position: u32) -> Result<Answer, Failu
 
 pub fn who(at: &Ask, page: u32) -> Result<Answer, Failure> {
     let image = store::read(&at.image)?;
-    let holder = proved::who_holds(&image, page);
+    let holder = proved::who_holds(&image, page as usize);
     if holder.number != 0 {
         let reply = Reply {
             number: holder.number,

@@ -32,7 +32,7 @@ fn create(at: &Change, file: &FileName, contiguous: Option<u32>, created: u32) -
 }
 
 /// Creates an empty indexed file, or a contiguous one of so many pages, and gives its user's and its own index.
-pub fn make(image: &mut [u16], file: &FileName, contiguous: Option<u32>, created: u32) -> Result<(u32, u32), Failure> {
+pub fn make(image: &mut [u16], file: &FileName, contiguous: Option<u32>, created: u32) -> Result<(usize, usize), Failure> {
     let Within::Name(name, kind) = &file.file else {
         return Err(Failure::Usage("a new file is named by its name, not by an index".to_string()));
     };
@@ -41,12 +41,12 @@ pub fn make(image: &mut [u16], file: &FileName, contiguous: Option<u32>, created
     let index = match contiguous {
         None => done(proved::create_indexed(image, user, name, kind, created), Call::CreateIndexed, file)?,
         Some(count) => done(
-            proved::create_contiguous(image, user, name, kind, created, count),
+            proved::create_contiguous(image, user, name, kind, created, count as usize),
             Call::CreateContiguous,
             file,
         )?,
     };
-    Ok((user, index))
+    Ok((user, index as usize))
 }
 
 fn grow(at: &Change, file: &FileName, count: u32) -> Result<Answer, Failure> {
@@ -78,7 +78,7 @@ fn some(count: u32) -> Result<u32, Failure> {
 }
 
 /// Grows by so many pages, and gives the new data pages. A refusal says how far it came, though nothing of it is kept.
-pub fn grow_by(image: &mut [u16], file: &FileName, (user, index): (u32, u32), count: u32) -> Result<Vec<u32>, Failure> {
+pub fn grow_by(image: &mut [u16], file: &FileName, (user, index): (usize, usize), count: u32) -> Result<Vec<u32>, Failure> {
     let bar = Progress::start("growing", count.into());
     let mut pages = Vec::new();
     for number in 1..=count {
@@ -90,7 +90,7 @@ pub fn grow_by(image: &mut [u16], file: &FileName, (user, index): (u32, u32), co
 }
 
 /// Shrinks by so many pages.
-pub fn shrink_by(image: &mut [u16], file: &FileName, (user, index): (u32, u32), count: u32) -> Result<(), Failure> {
+pub fn shrink_by(image: &mut [u16], file: &FileName, (user, index): (usize, usize), count: u32) -> Result<(), Failure> {
     let bar = Progress::start("shrinking", count.into());
     for number in 1..=count {
         let shrunk = done(proved::shrink(image, user, index), Call::Shrink, file);

@@ -26,7 +26,11 @@ fn blank(pages: u32) -> Vec<u16> {
 }
 
 fn formatted(image: &mut [u16], name: &str, bit_page: Option<u32>) -> Result<Answer, Failure> {
-    done(proved::format(image, name.as_bytes(), bit_page), Call::Format, name)?;
+    done(
+        proved::format(image, name.as_bytes(), bit_page.map(|page| page as usize)),
+        Call::Format,
+        name,
+    )?;
     let pages = image.len() / proved::PAGE;
     let bit_page = bit_page.unwrap_or(pages as u32 / 2);
     let json = json!({ "volume": name, "pages": pages, "bit_page": bit_page });
@@ -40,13 +44,13 @@ fn formatted(image: &mut [u16], name: &str, bit_page: Option<u32>) -> Result<Ans
 pub fn sample(at: &Ask) -> Result<Answer, Failure> {
     let mut image = blank(154);
     formatted(&mut image, "YARD", None)?;
-    let user = done(proved::create_user(&mut image, b"DOCK"), Call::AddUser, "DOCK")?;
+    let user = done(proved::create_user(&mut image, b"DOCK"), Call::AddUser, "DOCK")? as usize;
     done(proved::give(&mut image, user, 100), Call::Give, "DOCK")?;
     let reads = done(
         proved::create_indexed(&mut image, user, b"READS", b"DATA", 0),
         Call::CreateIndexed,
         "DOCK/READS:DATA",
-    )?;
+    )? as usize;
     for position in 0..3 {
         done(proved::grow(&mut image, user, reads), Call::Grow, "DOCK/READS:DATA")?;
         let text = format!("Page {position} of READS:DATA, a file of user DOCK on volume YARD.\n");

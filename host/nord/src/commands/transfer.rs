@@ -52,7 +52,7 @@ fn pages(image: &[u16], file: &FileName) -> Result<Vec<u8>, Failure> {
     let count = entry(image, file, (user, index))?.pages;
     let bar = Progress::start("reading", count.into());
     let mut bytes = Vec::with_capacity(count as usize * store::PAGE);
-    for position in 0..count {
+    for position in 0..count as usize {
         let page = proved::read_page(image, user, index, position);
         if page.is_empty() {
             done(
@@ -68,9 +68,9 @@ fn pages(image: &[u16], file: &FileName) -> Result<Vec<u8>, Failure> {
 }
 
 /// A file's entry in an image, which is checked before.
-fn entry(image: &[u16], file: &FileName, (user, index): (u32, u32)) -> Result<volume::File, Failure> {
+fn entry(image: &[u16], file: &FileName, (user, index): (usize, usize)) -> Result<volume::File, Failure> {
     done(proved::check(image), Call::Check, "")?;
-    match volume::read(image).user(user).and_then(|owner| owner.file(index)) {
+    match volume::read(image).user(user as u32).and_then(|owner| owner.file(index as u32)) {
         Some(entry) => Ok(entry.clone()),
         // An index that no entry has: the address call says which refusal it is.
         None => {
@@ -115,7 +115,7 @@ fn load(input: &Path) -> Result<Vec<u16>, Failure> {
 }
 
 /// Grows or shrinks the file to so many pages.
-fn fit(image: &mut [u16], file: &FileName, place: (u32, u32), count: u32, contiguous: bool) -> Result<(), Failure> {
+fn fit(image: &mut [u16], file: &FileName, place: (usize, usize), count: u32, contiguous: bool) -> Result<(), Failure> {
     let entry = entry(image, file, place)?;
     if contiguous && entry.kind != FileKind::Contiguous {
         return Err(Failure::Usage(format!("{file}: is there and is not contiguous")));
@@ -130,7 +130,7 @@ fn fit(image: &mut [u16], file: &FileName, place: (u32, u32), count: u32, contig
 }
 
 /// Writes every page.
-fn fill(image: &mut [u16], file: &FileName, (user, index): (u32, u32), data: &[u16]) -> Result<(), Failure> {
+fn fill(image: &mut [u16], file: &FileName, (user, index): (usize, usize), data: &[u16]) -> Result<(), Failure> {
     let bar = Progress::start("writing", (data.len() / proved::PAGE) as u64);
     for (position, page) in (0..).zip(data.chunks_exact(proved::PAGE)) {
         let written = proved::write_page(image, user, index, position, page);

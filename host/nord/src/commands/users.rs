@@ -41,8 +41,8 @@ fn moved(at: &Change, user: &UserName, count: u32, call: Call) -> Result<Answer,
     let index = store::change(&at.image, at.wait, |image| {
         let index = user.index(image)?;
         let reply: Reply = match call {
-            Call::Take => proved::take(image, index, count),
-            _ => proved::give(image, index, count),
+            Call::Take => proved::take(image, index, count as usize),
+            _ => proved::give(image, index, count as usize),
         };
         done(reply, call, format!("{count} for {user}"))?;
         Ok(index)

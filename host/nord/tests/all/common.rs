@@ -1,6 +1,8 @@
 //! Folders of their own for tests, runs of the program, and images to begin with.
 
 use serde_json::Value;
+use std::fmt::Debug;
+use std::io::Write;
 use std::path::{Path, PathBuf};
 use std::process::{Command, Output, Stdio};
 use std::sync::atomic::{AtomicU32, Ordering};
@@ -43,6 +45,14 @@ impl Drop for Folder {
     fn drop(&mut self) {
         let _ = std::fs::remove_dir_all(&self.0);
     }
+}
+
+/// Says that a test cannot be tried here, for want of what, and why: past the capture of a test's output, so that it is seen. In the gate
+/// (host/test sets NORD_GATE) the test fails.
+pub fn untried(wanted: &str, why: impl Debug) {
+    let line = format!("NOT TRIED for want of {wanted}: {why:?}");
+    let _ = writeln!(std::io::stderr(), "{line}");
+    assert!(std::env::var_os("NORD_GATE").is_none(), "{line}");
 }
 
 /// How a run ended.

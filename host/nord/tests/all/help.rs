@@ -1,6 +1,6 @@
 //! Help, the manual page and the completions have every command.
 
-use crate::common::{run, Run, NORD};
+use crate::common::{run, untried, Run, NORD};
 use clap::CommandFactory;
 use std::path::Path;
 use std::process::Command;
@@ -64,11 +64,10 @@ fn the_manual_is_nord_1_and_has_every_command() {
 #[test]
 fn the_manual_is_well_formed() {
     let path = Path::new(env!("CARGO_MANIFEST_DIR")).join("nord.1");
-    let Ok(output) = Command::new("groff").args(["-man", "-Tutf8", "-ww", "-z"]).arg(path).output() else {
-        println!("no groff here, not tried");
-        return;
-    };
-    assert_eq!(String::from_utf8_lossy(&output.stderr), "");
+    match Command::new("groff").args(["-man", "-Tutf8", "-ww", "-z"]).arg(path).output() {
+        Ok(output) => assert_eq!(String::from_utf8_lossy(&output.stderr), ""),
+        Err(error) => untried("groff", error),
+    }
 }
 
 #[test]

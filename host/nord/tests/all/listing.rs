@@ -8,12 +8,12 @@ fn drawn(seed: u64) -> Vec<u16> {
     let mut image = vec![0; (8 + seed as usize % 25) * proved::PAGE];
     assert_eq!(proved::format(&mut image, format!("V{seed}").as_bytes(), None).number, 0);
     for draw in noise.chunks_exact(4) {
-        let (user, file) = (u32::from(draw[1] % 4), u32::from(draw[2] % 4));
-        let (name, count) = (format!("N-{}", draw[3] % 5), u32::from(draw[3] % 6));
+        let (user, file) = (usize::from(draw[1] % 4), usize::from(draw[2] % 4));
+        let (name, count) = (format!("N-{}", draw[3] % 5), usize::from(draw[3] % 6));
         match draw[0] % 8 {
             0 => proved::create_user(&mut image, name.as_bytes()),
             1 => proved::give(&mut image, user, count),
-            2 => proved::create_indexed(&mut image, user, name.as_bytes(), &b"TYPE"[..file as usize], 0),
+            2 => proved::create_indexed(&mut image, user, name.as_bytes(), &b"TYPE"[..file], 0),
             3 => proved::create_contiguous(&mut image, user, name.as_bytes(), b"", 0, count),
             4 => proved::shrink(&mut image, user, file),
             5 if count == 0 => proved::delete_file(&mut image, user, file),

@@ -1,7 +1,7 @@
 //! The system calls of a run, by strace: in the right order, and a run killed at each of them. Where there is no strace, or it may not trace,
-//! these tests say so and try nothing; killed.rs stands without it.
+//! these tests say so and try nothing, and in the gate they fail; killed.rs stands without it.
 
-use crate::common::{done, noise, sample, words, Folder, NORD};
+use crate::common::{done, noise, sample, untried, words, Folder, NORD};
 use crate::killed::Case;
 use std::collections::HashMap;
 use std::path::Path;
@@ -28,7 +28,7 @@ fn calls(folder: &Folder, line: &str) -> Vec<String> {
             .map(str::to_string)
             .collect(),
         other => {
-            println!("no strace here, not tried: {other:?}");
+            untried("strace, or of leave to trace", other);
             Vec::new()
         }
     }

@@ -17,8 +17,8 @@ pub fn done(reply: Reply) -> u32 {
 }
 
 /// A new user with so many pages given; his index.
-pub fn user(image: &mut [u16], name: &str, given: u32) -> u32 {
-    let user = done(proved::create_user(image, name.as_bytes()));
+pub fn user(image: &mut [u16], name: &str, given: usize) -> usize {
+    let user = done(proved::create_user(image, name.as_bytes())) as usize;
     if given > 0 {
         done(proved::give(image, user, given));
     }
@@ -26,8 +26,8 @@ pub fn user(image: &mut [u16], name: &str, given: u32) -> u32 {
 }
 
 /// A new file grown to so many pages; its index.
-pub fn grown(image: &mut [u16], user: u32, name: &str, pages: u32) -> u32 {
-    let file = done(proved::create_indexed(image, user, name.as_bytes(), b"DATA", 1234));
+pub fn grown(image: &mut [u16], user: usize, name: &str, pages: usize) -> usize {
+    let file = done(proved::create_indexed(image, user, name.as_bytes(), b"DATA", 1234)) as usize;
     for _ in 0..pages {
         done(proved::grow(image, user, file));
     }
@@ -35,8 +35,8 @@ pub fn grown(image: &mut [u16], user: u32, name: &str, pages: u32) -> u32 {
 }
 
 /// A new contiguous file; its index.
-pub fn run(image: &mut [u16], user: u32, name: &str, pages: u32) -> u32 {
-    done(proved::create_contiguous(image, user, name.as_bytes(), b"", 5, pages))
+pub fn run(image: &mut [u16], user: usize, name: &str, pages: usize) -> usize {
+    done(proved::create_contiguous(image, user, name.as_bytes(), b"", 5, pages)) as usize
 }
 
 /// Document 01's example: 16 pages, DOCK given 5, READS:DATA grown once.
@@ -119,7 +119,7 @@ pub fn full() -> Vec<u16> {
         "GUEST",
     ];
     let mut image = volume("UPLANDS-MAIN-01", 16_384);
-    let users: Vec<u32> = NAMES.iter().map(|name| user(&mut image, name, 1360)).collect();
+    let users: Vec<usize> = NAMES.iter().map(|name| user(&mut image, name, 1360)).collect();
     for round in 0..4 {
         for user in &users {
             run(&mut image, *user, &format!("RUN{round}"), 40 + (user * 37 + round * 91) % 160);
@@ -129,13 +129,13 @@ pub fn full() -> Vec<u16> {
         }
     }
     grown(&mut image, 10, "TAPE-COPY", 700);
-    let turns: Vec<u32> = users.iter().map(|user| grown(&mut image, *user, "LOG", 1)).collect();
+    let turns: Vec<usize> = users.iter().map(|user| grown(&mut image, *user, "LOG", 1)).collect();
     for turn in 0..360 {
         let user = users[turn * 7 % users.len()];
-        done(proved::grow(&mut image, user, turns[user as usize]));
+        done(proved::grow(&mut image, user, turns[user]));
     }
     for user in [1, 4, 6, 9] {
-        let old = done(proved::find_file(&image, user, b"RUN1", b""));
+        let old = done(proved::find_file(&image, user, b"RUN1", b"")) as usize;
         done(proved::delete_file(&mut image, user, old));
     }
     image

@@ -11,7 +11,7 @@ pub fn volume(pages: usize) -> Vec<u16> {
 }
 
 /// A volume with user 0, DOCK, who is given so many pages.
-pub fn dock(pages: usize, given: u32) -> Vec<u16> {
+pub fn dock(pages: usize, given: usize) -> Vec<u16> {
     let mut image = volume(pages);
     assert_eq!(create_user(&mut image, b"DOCK"), done(0));
     if given > 0 {
@@ -21,7 +21,7 @@ pub fn dock(pages: usize, given: u32) -> Vec<u16> {
 }
 
 /// The same with file 0, READS:DATA, grown so often.
-pub fn reads(pages: usize, given: u32, length: u32) -> Vec<u16> {
+pub fn reads(pages: usize, given: usize, length: u32) -> Vec<u16> {
     let mut image = dock(pages, given);
     assert_eq!(create_indexed(&mut image, 0, b"READS", b"DATA", 0), done(0));
     for _ in 0..length {

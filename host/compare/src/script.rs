@@ -1,0 +1,179 @@
+//! Lists of calls for one run: what is asked, and how it is played by a run of either program and by single calls one after the other.
+
+use crate::calls::{Answer, Call};
+use crate::lent::Lent;
+use crate::words::PAGE;
+
+/// The parts that a step names by their places in what is lent.
+#[derive(Clone, Copy, Debug, PartialEq, Eq)]
+pub enum Part {
+    Name,
+    Type,
+    Data,
+}
+
+impl Part {
+    pub const ALL: [Part; 3] = [Part::Name, Part::Type, Part::Data];
+
+    pub fn name(self) -> &'static str {
+        match self {
+            Part::Name => "name",
+            Part::Type => "type",
+            Part::Data => "data",
+        }
+    }
+}
+
+/// One step of a script.
+#[derive(Clone, Debug, PartialEq)]
+pub enum Asked {
+    Call(Call),
+    /// The step of a call with another number, which is no call's.
+    NoCall {
+        number: u32,
+        call: Call,
+    },
+    /// A call with one part so placed that it ends so far behind the end of what is lent.
+    Outside {
+        part: Part,
+        past: u32,
+        call: Call,
+    },
+}
+
+#[derive(Clone, Debug, PartialEq)]
+pub struct Script {
+    /// How many replies there is room for.
+    pub room: usize,
+    pub asked: Vec<Asked>,
+}
+
+/// What a script left of its replies: the number that came back, and all of them, those that were not written too.
+#[derive(Clone, Debug, PartialEq)]
+pub struct Played {
+    pub made: usize,
+    pub replies: Vec<Answer>,
+}
+
+/// What a reply is before a run: no call answers so.
+const UNTOUCHED: proved::Reply = proved::Reply { number: 0xAAAA_AAAA, rule: 0x5555_5555, value: 0x3333_3333 };
+
+impl Script {
+    /// By one run of the proved library.
+    pub fn on_proved(&self, image: &mut [u16]) -> Played {
+        let Lent { steps, text, data } = Lent::of(&self.asked);
+        let mut replies = vec![UNTOUCHED; self.room];
+        let made = proved::run(image, &steps, &text, &data, &mut replies);
+        Played { made, replies: replies.into_iter().map(Answer::from).collect() }
+    }
+
+    /// By one run of the second program.
+    pub fn on_second(&self, image: &mut [u16]) -> Played {
+        let Lent { steps, text, data } = Lent::of(&self.asked);
+        let steps: Vec<second::Step> = steps.into_iter().map(second_step).collect();
+        let untouched = second::Reply { number: UNTOUCHED.number, rule: UNTOUCHED.rule, value: UNTOUCHED.value };
+        let mut replies = vec![untouched; self.room];
+        let made = second::run(image, &steps, &text, &data, &mut replies);
+        Played { made, replies: replies.into_iter().map(Answer::from).collect() }
+    }
+
+    /// By single calls of the proved library, in order, up to the first refusal or the end of the room.
+    pub fn singly(&self, image: &mut [u16]) -> Played {
+        let mut played = Played { made: 0, replies: vec![UNTOUCHED.into(); self.room] };
+        for (asked, reply) in self.asked.iter().zip(&mut played.replies) {
+            *reply = asked.singly(image);
+            played.made += 1;
+            if reply.number != 0 {
+                break;
+            }
+        }
+        played
+    }
+}
+
+impl Asked {
+    pub fn call(&self) -> &Call {
+        match self {
+            Asked::Call(call) | Asked::NoCall { call, .. } | Asked::Outside { call, .. } => call,
+        }
+    }
+
+    /// The single call that the step stands for; a step that is none is a call with a wrong argument.
+    fn singly(&self, image: &mut [u16]) -> Answer {
+        match self {
+            Asked::Call(call) if is_step(call) => call.on_proved(image),
+            _ => {
+                let pages = image.len() / PAGE;
+                let is_right = image.len().is_multiple_of(PAGE) && (8..=16_384).contains(&pages);
+                Answer { number: if is_right { 2 } else { 1 }, ..Answer::default() }
+            }
+        }
+    }
+}
+
+/// Whether a run can make the call.
+pub fn is_step(call: &Call) -> bool {
+    match call {
+        Call::WhoHolds { .. } | Call::ReadPage { .. } => false,
+        Call::Check => second::CHECK_IS_A_STEP,
+        _ => true,
+    }
+}
+
+/// The parts that a call uses.
+pub fn used(call: &Call) -> &'static [Part] {
+    match call {
+        Call::FindUser { .. } | Call::Format { .. } | Call::CreateUser { .. } => &[Part::Name],
+        Call::FindFile { .. } | Call::CreateIndexed { .. } | Call::CreateContiguous { .. } => &[Part::Name, Part::Type],
+        Call::WritePage { .. } => &[Part::Data],
+        _ => &[],
+    }
+}
+
+fn second_step(step: proved::Step) -> second::Step {
+    let proved::Step { call, user, file, count, created, name_at, name_bytes, type_at, type_bytes, data_at } = step;
+    second::Step { call, user, file, count, created, name_at, name_bytes, type_at, type_bytes, data_at }
+}
+
+#[cfg(test)]
+mod tests {
+    use super::*;
+
+    fn find(name: &[u8]) -> Call {
+        Call::FindUser { name: name.to_vec() }
+    }
+
+    /// A name is lent once, a type of no bytes lies at the text's end, and what is not used is filled.
+    #[test]
+    fn parts_lie_where_the_steps_say() {
+        let file = Call::FindFile { user: 3, name: b"DOCK".to_vec(), kind: Vec::new() };
+        let lent = Lent::of(&[Asked::Call(find(b"A")), Asked::Call(find(b"DOCK")), Asked::Call(file)]);
+        assert_eq!(lent.text, b"ADOCK");
+        let step = lent.steps[2];
+        assert_eq!((step.name_at, step.name_bytes, step.type_at, step.type_bytes), (1, 4, 5, 0));
+        assert_eq!((step.call, step.user, step.file, step.data_at), (4, 3, u32::MAX, u32::MAX));
+    }
+
+    /// A part outside ends so far behind the end; one that would begin past all numbers begins at the last.
+    #[test]
+    fn parts_outside_end_behind_the_end() {
+        let outside = |past: u32| Asked::Outside { part: Part::Name, past, call: find(b"DOCK") };
+        let lent = Lent::of(&[outside(1), outside(u32::MAX)]);
+        assert_eq!(lent.steps.iter().map(|step| step.name_at).collect::<Vec<u32>>(), [1, u32::MAX]);
+    }
+
+    /// Single calls stop as a run does: after a refusal, or with the room.
+    #[test]
+    fn single_calls_stop_as_a_run_does() {
+        let mut image = vec![0; 8 * PAGE];
+        let format = Asked::Call(Call::Format { name: b"YARD".to_vec(), bit_page: None });
+        let asked = vec![format.clone(), Asked::NoCall { number: 6, call: Call::Check }, format];
+        let numbers = |room: usize, image: &mut [u16]| {
+            let played = Script { room, asked: asked.clone() }.singly(image);
+            (played.made, played.replies.iter().map(|reply| reply.number).collect::<Vec<u32>>())
+        };
+        assert_eq!(numbers(1, &mut image), (1, vec![0]));
+        assert_eq!(numbers(3, &mut image), (2, vec![0, 2, UNTOUCHED.number]));
+        assert_eq!(numbers(3, &mut image[1..]), (1, vec![1, UNTOUCHED.number, UNTOUCHED.number]));
+    }
+}
