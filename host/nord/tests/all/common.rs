@@ -47,12 +47,18 @@ impl Drop for Folder {
     }
 }
 
-/// Says that a test cannot be tried here, for want of what, and why: past the capture of a test's output, so that it is seen. In the gate
-/// (host/test sets NORD_GATE) the test fails.
-pub fn untried(wanted: &str, why: impl Debug) {
-    let line = format!("NOT TRIED for want of {wanted}: {why:?}");
+/// Says that a test cannot be tried here, for want of which tool, and why: past the capture of a test's output, so that it is seen. In the
+/// gate (host/test sets NORD_GATE) the test fails.
+pub fn untried(tool: &str, why: impl Debug) {
+    let line = format!("NOT TRIED for want of {tool}: {why:?}");
     let _ = writeln!(std::io::stderr(), "{line}");
     assert!(std::env::var_os("NORD_GATE").is_none(), "{line}");
+}
+
+/// Says that a test cannot be tried, as this machine forbids what it does: no tool that could be installed changes that, so the gate shows
+/// the line (host/test looks for it) and goes on.
+pub fn forbidden(what: &str, why: impl Debug) {
+    let _ = writeln!(std::io::stderr(), "NOT TRIED, as this machine forbids {what}: {why:?}");
 }
 
 /// How a run ended.

@@ -1,6 +1,6 @@
 //! What the host can do to us: full disks, files that may not be read or written, folders that may not be changed, links, odd files.
 
-use crate::common::{done, fails, run, sample, untried, words as words_of, Folder, Run, NORD};
+use crate::common::{done, fails, forbidden, run, sample, untried, words as words_of, Folder, Run, NORD};
 use std::fs::{self, Permissions};
 use std::os::unix::fs::{symlink, MetadataExt, PermissionsExt};
 use std::os::unix::process::CommandExt;
@@ -46,8 +46,8 @@ fn a_limit_of_file_sizes_is_a_clear_error() {
     done(&image, "user add IMAGE FLOCK");
 }
 
-/// In a mount of its own, which the system takes away with the run; where mounts are not allowed the test above stands alone, but not in the
-/// gate.
+/// In a mount of its own, which the system takes away with the run; where mounts are not allowed the test says so, and the one above stands
+/// alone.
 #[test]
 fn a_full_disk_is_a_clear_error() {
     let (folder, image) = sample();
@@ -65,7 +65,7 @@ fn a_full_disk_is_a_clear_error() {
         Err(error) => return untried("unshare", error),
     };
     if run.status == 99 || run.err.starts_with("unshare:") {
-        return untried("leave to mount (unshare -rm)", run.err);
+        return forbidden("mounts (unshare -rm)", run.err);
     }
     let wanted = "status 74\nsame\nstatus 74\n81920\ndisk.img\nout.bin\nsound: 20 of 154 pages are held\n";
     assert_eq!(run.text(), wanted, "{}", run.err);

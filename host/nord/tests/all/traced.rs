@@ -1,7 +1,7 @@
-//! The system calls of a run, by strace: in the right order, and a run killed at each of them. Where there is no strace, or it may not trace,
-//! these tests say so and try nothing, and in the gate they fail; killed.rs stands without it.
+//! The system calls of a run, by strace: in the right order, and a run killed at each of them. Where there is no strace these tests say so and
+//! try nothing, and in the gate they fail; where it may not trace they say so. killed.rs stands without it.
 
-use crate::common::{done, noise, sample, untried, words, Folder, NORD};
+use crate::common::{done, forbidden, noise, sample, untried, words, Folder, NORD};
 use crate::killed::Case;
 use std::collections::HashMap;
 use std::path::Path;
@@ -27,11 +27,23 @@ fn calls(folder: &Folder, line: &str) -> Vec<String> {
             .lines()
             .map(str::to_string)
             .collect(),
-        other => {
-            untried("strace, or of leave to trace", other);
+        Ok(status) => {
+            assert!(!may_trace(), "strace {line}: {status}");
+            forbidden("tracing", status);
+            Vec::new()
+        }
+        Err(error) => {
+            untried("strace", error);
             Vec::new()
         }
     }
+}
+
+/// Whether strace can follow a program at all.
+fn may_trace() -> bool {
+    let mut command = Command::new("strace");
+    command.args(["-o", "/dev/null", "true"]).stderr(Stdio::null());
+    command.status().is_ok_and(|status| status.success())
 }
 
 fn name(call: &str) -> &str {
