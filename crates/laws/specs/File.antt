@@ -5,5 +5,5 @@ pub mod Finish
 pub mod Finished
 pub mod Kinds
 pub mod Named
-pub mod Own
+pub mod Owned
 pub mod Packed
