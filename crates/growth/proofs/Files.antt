@@ -21,6 +21,7 @@ use Rattle.laws.specs.Count.Good.{good}
 use Rattle.laws.specs.Count.Pages.{file-cost, run-cost}
 use Rattle.laws.specs.Count.Room.{charged-lt, charged-owner, charged-file}
 use Rattle.laws.specs.File.Finish.{isO, isU}
+use Rattle.laws.specs.File.Owned.{Owned}
 use Rattle.laws.specs.File.Kinds.{grows-kind, kind-low, kind-high}
 use Rattle.laws.specs.Tree.Pointer.{file-used}
 use Rattle.growth.specs.declared.entries.Head.{Head}
@@ -79,14 +80,21 @@ module _ {img : List ℕ} {u f : ℕ} {h : Head} (a : FileHead img u f h) where
   pub file-count-lt : h .count < P
   file-count-lt = omega (arith, held-le (h .flags) (h .count), file-charged, file-used-lt)
 
+  owned : Owned P v (λ p. 0) u f
+  owned = record {
+    spot = record { good = good P v (a .ready .sound); pos = ready-some img (a .ready); ha = a .user; hf = a .file };
+    big = omega (arith, a .ready .whole .most);
+    uf = a .there;
+  }
+
   -- the pages of the two entries are there
   pub file-entry-pos : 0 < h .entry
   unfolding objectPage
-  file-entry-pos = omega (arith, a .head .entryAt, isO P v (λ p. 0) (good P v (a .ready .sound)) (ready-some img (a .ready)) (omega (arith, a .ready .whole .most)) u f (a .user) (a .file) (a .there))
+  file-entry-pos = omega (arith, a .head .entryAt, isO owned)
 
   pub file-owner-pos : 0 < h .owner
   unfolding userPage
-  file-owner-pos = omega (arith, a .head .ownerAt, isU P v (λ p. 0) (good P v (a .ready .sound)) (ready-some img (a .ready)) (omega (arith, a .ready .whole .most)) u f (a .user) (a .file) (a .there))
+  file-owner-pos = omega (arith, a .head .ownerAt, isU owned)
 
   -- its entries can be written, with m pages, flags x, page t and y used pages
   pub can-enter : (Q m x t y : ℕ) → Q ≡ P → m < 2097152 → x < 4 → t < P → y < P + 4

@@ -18,18 +18,18 @@ use Rattle.book.specs.Calls.{checkCall, findUserCall, findFileCall, addressCall
 use Rattle.book.specs.Calls.{giveCall, takeCall, createIndexedCall, createContiguousCall, growCall, shrinkCall, deleteFileCall, writeCall, openCall}
 use Rattle.book.specs.Format.{middle}
 use Rattle.book.specs.Run.{wrongCall, pickCall, partCall, nameCall, namesCall, dataCall, numbered, stepCall}
-use Rattle.laws.specs.Call.{kept-call}
-use Rattle.laws.specs.Find.{single-find-user, single-find-file}
-use Rattle.laws.specs.FormatCall.{single-format, format-new}
-use Rattle.laws.specs.DeleteUser.{kept-delete-user}
-use Rattle.laws.specs.ShrinkCall.{kept-shrink}
-use Rattle.laws.specs.DeleteFileCall.{kept-delete-file}
-use Rattle.laws.specs.CreateFileCall.{kept-create-indexed, kept-create-contiguous}
-use Rattle.laws.specs.CreateUserCall.{kept-create-user}
-use Rattle.laws.specs.Give.{kept-give, kept-take}
-use Rattle.laws.specs.GrowCall.{kept-grow}
-use Rattle.laws.specs.Open.{kept-open}
-use Rattle.laws.specs.Write.{kept-write}
+use Rattle.laws.specs.Call.After.{kept-call}
+use Rattle.laws.specs.Call.Open.{kept-open}
+use Rattle.laws.specs.Call.Singles.{single-find-user, single-find-file}
+use Rattle.laws.specs.Call.Write.{kept-write}
+use Rattle.laws.specs.Create.FileCall.{kept-create-indexed, kept-create-contiguous}
+use Rattle.laws.specs.Create.UserCall.{kept-create-user}
+use Rattle.laws.specs.Delete.FileCall.{kept-delete-file}
+use Rattle.laws.specs.Delete.User.{kept-delete-user}
+use Rattle.laws.specs.Format.Call.{single-format, format-new}
+use Rattle.laws.specs.Grow.Call.{kept-grow}
+use Rattle.laws.specs.Shrink.Call.{kept-shrink}
+use Rattle.laws.specs.User.Give.{kept-give, kept-take}
 
 -- it gives one value, its refusals have numbers above 0, and done it leaves a ready image
 pub record Fair (img : List ℕ) (C : Call ℕ) : Type 0 where

@@ -14,13 +14,13 @@ use Rattle.book.specs.Trees.{Root, weighR}
 use Rattle.book.specs.Words.{Vol}
 use Rattle.laws.specs.Count.Good.{Good}
 use Rattle.laws.specs.File.Named.{Legal-ext, SameName-ext}
-use Rattle.laws.specs.Frame.Edit.{Change, entries, edit-mine, edit-good}
+use Rattle.laws.specs.Frame.Edit.{Change, entries, edit-mine, edit-good, Spot}
 use Rattle.laws.specs.Frame.Renewed.{used-same}
 use Rattle.laws.specs.Tree.Pointer.{file-unused, used-ext}
 use Rattle.laws.specs.Tree.Slot.{two-ext}
 
-module _ (P : ℕ) (v : Vol) (hand : ℕ → ℕ) (G : Good P v hand) (pos : 0 < P) (a f : ℕ) (ha : a < 256) (hf : f < 256) (uf : 0 < used (object v (256 * a + f)))
-    (v′ : Vol) (E : Change P v hand G pos a f ha hf (λ x. 0) v′) (gone : used (object v′ (256 * a + f)) ≡ 0)
+module _ {P : ℕ} {v : Vol} {hand : ℕ → ℕ} {a f : ℕ} (spot : Spot P v hand a f) (uf : 0 < used (object v (256 * a + f)))
+    {v′ : Vol} (E : Change spot (λ x. 0) v′) (gone : used (object v′ (256 * a + f)) ≡ 0)
     (kept : (k : ℕ) → k < 32 → k ≢ 16 → k ≢ 17 → user v′ a k ≡ user v a k) (master : (k : ℕ) → v′ 0 k ≡ v 0 k)
     (less : usedPages (user v′) a + weighR v (fileAt v (256 * a + f)) some ≡ usedPages (user v) a) where
   abbrev e : ℕ
@@ -28,7 +28,7 @@ module _ (P : ℕ) (v : Vol) (hand : ℕ → ℕ) (G : Good P v hand) (pos : 0 <
 
   owner-used : 0 < used (user v a)
   unfolding Rule6
-  owner-used = G .most .r6 .0 a f ha hf uf .owner
+  owner-used = spot .good .most .r6 .0 a f (spot .ha) (spot .hf) uf .owner
 
   user-used : used (user v′ a) ≡ used (user v a)
   user-used = used-ext (user v′ a) (user v a) (kept 0 (omega arith) (omega arith) (omega arith))
@@ -39,7 +39,7 @@ module _ (P : ℕ) (v : Vol) (hand : ℕ → ℕ) (G : Good P v hand) (pos : 0 <
 
   ok : UserOk (user v) a
   unfolding Rule4
-  ok = G .most .r4 .0 a ha owner-used
+  ok = spot .good .most .r4 .0 a (spot .ha) owner-used
 
   none : (g : ℕ → ℕ) → weighR v′ (fileAt v′ e) g ≡ 0
   unfolding weighR
@@ -47,12 +47,12 @@ module _ (P : ℕ) (v : Vol) (hand : ℕ → ℕ) (G : Good P v hand) (pos : 0 <
 
   high : flags (v 0) objectPointer ≡ 1 → 63 < a → used (user v a) ≡ 0
   unfolding Rule5 Rule5By
-  high q i = subst (λ (x : ℕ). Rule5By P v x (page (v 0) objectPointer)) q (G .most .r5) .1 a i ha
+  high q i = subst (λ (x : ℕ). Rule5By P v x (page (v 0) objectPointer)) q (spot .good .most .r5) .1 a i (spot .ha)
 
   -- all that the file held is now in hand
   pub delete-good : Good P v′ (λ p. hand p + weighR v (fileAt v e) (hit p))
   unfolding Rule4 Rule10 grant
-  delete-good = edit-good P v hand G pos a f ha hf (λ x. 0) v′ E (λ g. weighR v (fileAt v e) g) (λ g. 0) (λ p. hand p + weighR v (fileAt v e) (hit p)) record {
+  delete-good = edit-good spot E (λ g. weighR v (fileAt v e) g) (λ g. 0) (λ p. hand p + weighR v (fileAt v e) (hit p)) record {
     weight = λ g g0. omega (arith, none g);
     hands = λ p h. omega arith;
     userNew = record {
@@ -61,8 +61,8 @@ module _ (P : ℕ) (v : Vol) (hand : ℕ → ℕ) (G : Good P v hand) (pos : 0 <
         name = Legal-ext (user v′ a) (user v a) 1 1 16 (λ i j. kept (1 + i / 2) (omega arith) (omega arith) (omega arith)) (ok .name);
         within = omega (arith, less, given-kept, ok .within);
       };
-      alone = λ u h m i j s. m (G .most .r4 .1 u a h ha (omega (arith, used-same P v v′ a f ha hf (entries P v hand G pos a f ha hf (λ x. 0) v′ E) u h m)) owner-used
-          (SameName-ext (user v u) (user v a) (user v′ u) (user v′ a) (λ k l. entries P v hand G pos a f ha hf (λ x. 0) v′ E .users u h m (1 + k) (omega arith))
+      alone = λ u h m i j s. m (spot .good .most .r4 .1 u a h (spot .ha) (omega (arith, used-same P v v′ a f (spot .ha) (spot .hf) (entries spot E) u h m)) owner-used
+          (SameName-ext (user v u) (user v a) (user v′ u) (user v′ a) (λ k l. entries spot E .users u h m (1 + k) (omega arith))
           (λ k l. kept (1 + k) (omega arith) (omega arith) (omega arith)) s));
     };
     fileNew = record {
@@ -73,5 +73,5 @@ module _ (P : ℕ) (v : Vol) (hand : ℕ → ℕ) (G : Good P v hand) (pos : 0 <
     owner = λ h i q. omega (arith, user-used, owner-used);
     high = λ q i. user-used ∙ high q i;
     balance = omega (arith, two-ext (v′ 0) (v 0) unreservedCount (master unreservedCount) (master (suc unreservedCount)), ap₂ (λ (x y : ℕ). pick x y 0) user-used given-kept);
-    count = λ h. omega (arith, less, none some, G .most .r10 .0 a ha owner-used, edit-mine P v hand G pos a f ha hf (λ x. 0) v′ E some);
+    count = λ h. omega (arith, less, none some, spot .good .most .r10 .0 a (spot .ha) owner-used, edit-mine spot E some);
   }

@@ -1,8 +1,8 @@
 -- The entries of a file and of its owner are written: all that is then known. Assumes nothing.
 use mathlib.Core.Path.{_≡_, ap, _∙_}
 use mathlib.Core.Logic.{inl, inr}
-use Prim.Native.Nat.{ℕ, _+_, _*_, _/_, _≤_, _<_}
-use Rattle.book.specs.Entries.{userFile, objectFile, userPage, objectPage, user, object, used, usedPages}
+use Prim.Native.Nat.{ℕ, _+_, _*_, _/_, _<_}
+use Rattle.book.specs.Entries.{userFile, objectFile, userPage, objectPage, user, object, usedPages}
 use Rattle.book.specs.Files.{fileAt}
 use Rattle.book.specs.Grow.{finish}
 use Rattle.book.specs.Pointers.{pointer}
@@ -11,6 +11,7 @@ use Rattle.book.specs.Words.{Vol, two}
 use Rattle.laws.specs.Count.Good.{Good}
 use Rattle.laws.specs.File.Around.{CountsOf, only-finish}
 use Rattle.laws.specs.File.Finish.{Blocks, Regrown, finish-good, finish-page, change, master, weight, new-root, new-pages, new-spent, obj-kept, user-kept, agreeB, quiet}
+use Rattle.laws.specs.File.Owned.{Owned}
 use Rattle.laws.specs.Frame.Beside.{Beside, edit-beside}
 use Rattle.laws.specs.Frame.Places.{OnlyAt}
 use Rattle.laws.specs.Tree.Levels.{indexAt-frame}
@@ -28,9 +29,9 @@ pub record Finished (P : ℕ) (v v₂ v₃ : Vol) (a e n x t y : ℕ) (gone new 
   pub words : OnlyAt (CountsOf v a e) v₂ v₃
   pub weight : (g : ℕ → ℕ) → g 0 ≡ 0 → weighR v₃ (fileAt v₃ e) g + gone g ≡ weighR v (fileAt v e) g + new g
 
-module _ (P : ℕ) (v : Vol) (hand : ℕ → ℕ) (G : Good P v hand) (pos : 0 < P) (big : P ≤ 1073741824) (a f : ℕ) (ha : a < 256) (hf : f < 256)
-    (uf : 0 < used (object v (256 * a + f))) (D : ℕ → ℕ) (v₂ : Vol) (K : Blocks P v hand G pos big a f ha hf uf D v₂) (n x t y : ℕ)
-    (gone new : (ℕ → ℕ) → ℕ) (hand′ : ℕ → ℕ) (R : Regrown P v hand G pos big a f ha hf uf D v₂ K n x t y gone new hand′) where
+module _ {P : ℕ} {v : Vol} {hand : ℕ → ℕ} {a f : ℕ} (here : Owned P v hand a f)
+    {D : ℕ → ℕ} {v₂ : Vol} (K : Blocks here D v₂) (n x t y : ℕ)
+    (gone new : (ℕ → ℕ) → ℕ) (hand′ : ℕ → ℕ) (R : Regrown here K n x t y gone new hand′) where
   abbrev e : ℕ
   e = 256 * a + f
 
@@ -40,19 +41,19 @@ module _ (P : ℕ) (v : Vol) (hand : ℕ → ℕ) (G : Good P v hand) (pos : 0 <
   pub finished : Finished P v v₂ v₃ a e n x t y gone new hand′
   unfolding userPage objectPage
   finished = record {
-    good = finish-good P v hand G pos big a f ha hf uf D v₂ K n x t y gone new hand′ R;
-    beside = edit-beside P v hand G pos a f ha hf D v₃ (change P v hand G pos big a f ha hf uf D v₂ K n x t y)
-        (master P v hand G pos big a f ha hf uf D v₂ K n x t y gone new hand′ R) (λ k h i j. user-kept P v hand G pos big a f ha hf uf D v₂ K n x t y k i j);
-    count = new-pages P v hand G pos big a f ha hf uf D v₂ K n x t y;
-    entry = obj-kept P v hand G pos big a f ha hf uf D v₂ K n x t y;
-    spent = new-spent P v hand G pos big a f ha hf uf D v₂ K n x t y;
+    good = finish-good here K n x t y gone new hand′ R;
+    beside = edit-beside (here .spot) (change here K n x t y)
+        (master here K n x t y gone new hand′ R) (λ k h i j. user-kept here K n x t y k i j);
+    count = new-pages here K n x t y;
+    entry = obj-kept here K n x t y;
+    spent = new-spent here K n x t y;
     root = root;
-    page = finish-page P v hand G pos big a f ha hf uf D v₂ K n x t y gone new hand′ R;
+    page = finish-page here K n x t y gone new hand′ R;
     index = λ m. ap (λ (r : Root). indexAt v₃ r m) root
-        ∙ indexAt-frame v₂ v₃ _ (agreeB P v hand G pos big a f ha hf uf D v₂ K n x t y gone new hand′ R) (rootBy x t n) (quiet P v hand G pos big a f ha hf uf D v₂ K n x t y gone new hand′ R) m;
+        ∙ indexAt-frame v₂ v₃ _ (agreeB here K n x t y gone new hand′ R) (rootBy x t n) (quiet here K n x t y gone new hand′ R) m;
     words = only-finish (CountsOf v a e) v₂ _ _ a e n (pointer x t) y (λ p j h. inl h) (λ p j h. inr h);
-    weight = weight P v hand G pos big a f ha hf uf D v₂ K n x t y gone new hand′ R;
+    weight = weight here K n x t y gone new hand′ R;
   }
     where
       root : fileAt v₃ e ≡ rootBy x t n
-      root = new-root P v hand G pos big a f ha hf uf D v₂ K n x t y gone new hand′ R
+      root = new-root here K n x t y gone new hand′ R

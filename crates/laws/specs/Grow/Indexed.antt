@@ -5,7 +5,7 @@ use Prim.Native.Nat.{ℕ, suc, _+_, _-_, _*_, _/_, _%_, _≤_, _<_, min}
 use native.Mathlib.Nat.{le-refl, div-one, mod-one}
 use native.Mathlib.Omega.{arith}
 use Rattle.sums.specs.Sum.{sum, is}
-use Rattle.book.specs.Entries.{userFile, objectFile, user, object, used, given, usedPages}
+use Rattle.book.specs.Entries.{userFile, objectFile, user, object, given, usedPages}
 use Rattle.book.specs.Files.{fileAt, Shape, need}
 use Rattle.book.specs.Grow.{finish}
 use Rattle.book.specs.Holders.{hit, all}
@@ -16,7 +16,7 @@ use Rattle.laws.specs.Count.Good.{Good}
 use Rattle.laws.specs.File.Around.{AroundNew, Needs, SlotOf, CountsOf, Longer}
 use Rattle.laws.specs.File.Finish.{Blocks, Regrown}
 use Rattle.laws.specs.File.Finished.{Finished, finished}
-use Rattle.laws.specs.File.Own.{own, loose, root-is, shape-is}
+use Rattle.laws.specs.File.Owned.{own, loose, root-is, shape-is, Owned}
 use Rattle.laws.specs.Frame.Beside.{Beside}
 use Rattle.laws.specs.Frame.Places.{only-slot, only-trans, Places, Either, OnlyAt, only-wider}
 use Rattle.laws.specs.Frame.Roots.{upto-in}
@@ -81,8 +81,7 @@ grown-leaf P v X m d pX hm pd ld F B =
     grown-up P v v₂ (hit X) (setSlot-agree v X m d) 0 X m d (λ g. g d) pX hm (λ j ne. slot-other v X m d pX j (λ q. ne (q ∙ sym i1))) (λ j h ne. refl) F B
     (subst₃ (λ (x y z : ℕ). Grown P v v₂ 0 x y z d (λ g. g d)) (sym was) (sym now) (sym (mod-one m)) (grown-page P v v₂ d pd ld))
 
-module _ (P : ℕ) (v : Vol) (hand : ℕ → ℕ) (G : Good P v hand) (pos : 0 < P) (big : P ≤ 1073741824) (a f : ℕ) (ha : a < 256) (hf : f < 256)
-    (uf : 0 < used (object v (256 * a + f))) where
+module _ {P : ℕ} {v : Vol} {hand : ℕ → ℕ} {a f : ℕ} (here : Owned P v hand a f) where
   abbrev e : ℕ
   e = 256 * a + f
 
@@ -104,7 +103,7 @@ module _ (P : ℕ) (v : Vol) (hand : ℕ → ℕ) (G : Good P v hand) (pos : 0 <
     pub grew-first : Grew P v (finish (setSlot v b 0 d) U O a e 1 (pointer 1 b) (usedPages (user v) a + 2)) a e n d hand
     unfolding Shape rootBy weighR sum Below pageAt
     grew-first = grew P v v₂ _ a e n d 1 b _ 1 (λ g. g b + g d) hand
-        (finished P v hand G pos big a f ha hf uf (hit b) v₂ K 1 1 b (usedPages (user v) a + 2) (λ g. 0) (λ g. g b + g d) (λ p. 0) R)
+        (finished here K 1 1 b (usedPages (user v) a + 2) (λ g. 0) (λ g. g b + g d) (λ p. 0) R)
         refl (sym (ap suc n0)) (ap (λ (k : ℕ). usedPages (user v) a + k) (sym (need-block n (omega (arith, n0)) (omega (arith, n0)))))
         (λ m h. absurd (let r : ⊥ = omega (arith, n0) in r)) pg
         lastly (λ p. omega (arith, hand-is p, hit-sym p d, hit-sym p b)) (only-slot _ v b 0 d (λ p j h. inl (omega (arith, lastly (hit p), subst (λ (z : ℕ). hit p z ≡ 1) (h .0) (hit-same p (omega (arith, h .0)))))))
@@ -113,17 +112,17 @@ module _ (P : ℕ) (v : Vol) (hand : ℕ → ℕ) (G : Good P v hand) (pos : 0 <
         v₂ = setSlot v b 0 d
 
         lo : (all P v (hit b) ≡ 0) × (weighR v (fileAt v e) (hit b) ≡ 0) × (hand b ≡ 1)
-        lo = loose P v hand G pos big a f ha hf uf b hb (omega (arith, hand-is b, hit-same b pb))
+        lo = loose here b hb (omega (arith, hand-is b, hit-same b pb))
 
-        K : Blocks P v hand G pos big a f ha hf uf (hit b) v₂
+        K : Blocks here (hit b) v₂
         K = record { none = hit-zero b; only = omega (arith, lo); agree = setSlot-agree v b 0 d; master = λ k. setSlot-page v b 0 d 0 k (omega arith) }
 
         W : Grown P v v₂ 1 0 b 0 d (λ g. g b + g d)
-        W = grown-block P v v₂ 0 b d d (λ g. g d) pos pb hb (slot-here v b 0 d pb) (λ k ne. slot-other v b 0 d pb k ne ∙ bare k) (grown-page P v v₂ d pd hd)
+        W = grown-block P v v₂ 0 b d d (λ g. g d) (here .spot .pos) pb hb (slot-here v b 0 d pb) (λ k ne. slot-other v b 0 d pb k ne ∙ bare k) (grown-page P v v₂ d pd hd)
 
-        R : Regrown P v hand G pos big a f ha hf uf (hit b) v₂ K 1 1 b (usedPages (user v) a + 2) (λ g. 0) (λ g. g b + g d) (λ p. 0)
+        R : Regrown here K 1 1 b (usedPages (user v) a + 2) (λ g. 0) (λ g. g b + g d) (λ p. 0)
         R = record {
-          weight = λ g g0. omega (arith, ap (λ (r : Root). weighR v r g) (root-is P v hand G pos big a f ha hf uf 0 fl) ∙ ap (λ (k : ℕ). weighR v (run t k) g) n0, W .weight g g0, weigh-none v g g0 1);
+          weight = λ g g0. omega (arith, ap (λ (r : Root). weighR v r g) (root-is here 0 fl) ∙ ap (λ (k : ℕ). weighR v (run t k) g) n0, W .weight g g0, weigh-none v g g0 1);
           shape = (omega arith, omega arith, W .fill, W .inside);
           top = hb;
           hands = λ p h. omega (arith, hand-is p, hit-sym p d, hit-sym p b);
@@ -144,13 +143,13 @@ module _ (P : ℕ) (v : Vol) (hand : ℕ → ℕ) (G : Good P v hand) (pos : 0 <
     pub grew-onward : Grew P v (finish (setSlot v t n d) U O a e (suc n) (pointer 1 t) (usedPages (user v) a + 1)) a e n d hand
     unfolding Shape rootBy weighR Fill Below weigh pageAt
     grew-onward = grew P v v₂ _ a e n d 1 t _ (suc n) (λ g. g d) hand
-        (finished P v hand G pos big a f ha hf uf (hit t) v₂ K (suc n) 1 t (usedPages (user v) a + 1) (λ g. 0) (λ g. g d) (λ p. 0) R)
+        (finished here K (suc n) 1 t (usedPages (user v) a + 1) (λ g. 0) (λ g. g d) (λ p. 0) R)
         refl refl (ap (λ (k : ℕ). usedPages (user v) a + k) (sym (need-mid n mid)))
-        (λ m h. ap (upto m 512) (W .old m h) ∙ sym (ap (λ (r : Root). pageAt v r m) (root-is P v hand G pos big a f ha hf uf 1 fl))) at (λ g. last-mid v₂ (tree 1 t) n g mid ∙ ap g at)
+        (λ m h. ap (upto m 512) (W .old m h) ∙ sym (ap (λ (r : Root). pageAt v r m) (root-is here 1 fl))) at (λ g. last-mid v₂ (tree 1 t) n g mid ∙ ap g at)
         (λ p. omega (arith, hand-is p, hit-sym p d)) (only-slot _ v t n d (λ p j h. inr (inl (mid, (h .0 ∙ sym ix, omega (arith, h .1, lt), omega (arith, h .2, lt))))))
       where
         S : Shape P v 1 t n
-        S = shape-is P v hand G pos big a f ha hf uf 1 fl
+        S = shape-is here 1 fl
 
         v₂ : Vol
         v₂ = setSlot v t n d
@@ -158,10 +157,10 @@ module _ (P : ℕ) (v : Vol) (hand : ℕ → ℕ) (G : Good P v hand) (pos : 0 <
         pt : 0 < t
         pt = S .2 .0 (S .0)
 
-        K : Blocks P v hand G pos big a f ha hf uf (hit t) v₂
+        K : Blocks here (hit t) v₂
         K = record {
           none = hit-zero t;
-          only = own P v hand G pos big a f ha hf uf t (S .3 .0) (omega (arith, ap (λ (r : Root). weighR v r (hit t)) (root-is P v hand G pos big a f ha hf uf 1 fl), hit-same t pt)) .0;
+          only = own here t (S .3 .0) (omega (arith, ap (λ (r : Root). weighR v r (hit t)) (root-is here 1 fl), hit-same t pt)) .0;
           agree = setSlot-agree v t n d;
           master = λ k. setSlot-page v t n d 0 k (omega (arith, pt));
         }
@@ -169,9 +168,9 @@ module _ (P : ℕ) (v : Vol) (hand : ℕ → ℕ) (G : Good P v hand) (pos : 0 <
         W : Grown P v v₂ 1 t t n d (λ g. g d)
         W = grown-leaf P v t n d pt lt pd hd (S .2) (S .3)
 
-        R : Regrown P v hand G pos big a f ha hf uf (hit t) v₂ K (suc n) 1 t (usedPages (user v) a + 1) (λ g. 0) (λ g. g d) (λ p. 0)
+        R : Regrown here K (suc n) 1 t (usedPages (user v) a + 1) (λ g. 0) (λ g. g d) (λ p. 0)
         R = record {
-          weight = λ g g0. omega (arith, ap (λ (r : Root). weighR v r g) (root-is P v hand G pos big a f ha hf uf 1 fl), W .weight g g0);
+          weight = λ g g0. omega (arith, ap (λ (r : Root). weighR v r g) (root-is here 1 fl), W .weight g g0);
           shape = (omega arith, lt, W .fill, W .inside);
           top = S .3 .0;
           hands = λ p h. omega (arith, hand-is p, hit-sym p d);

@@ -21,7 +21,7 @@ use Rattle.laws.specs.Count.Good.{Good, good, sound, free, free-count, r
 use Rattle.laws.specs.Count.Sums.{sum-1, sum-2, sum-3}
 use Rattle.laws.specs.File.Around.{AroundNew, Needs, longer-still}
 use Rattle.laws.specs.File.Kinds.{kind-empty, kind-low, kind-high}
-use Rattle.laws.specs.File.Own.{root-is, shape-is}
+use Rattle.laws.specs.File.Owned.{root-is, shape-is, Owned}
 use Rattle.laws.specs.Frame.Beside.{Beside, still-beside, beside-trans}
 use Rattle.laws.specs.Frame.Places.{only-trans}
 use Rattle.laws.specs.Frame.Rest.{all-rest, file-le, rest}
@@ -43,6 +43,9 @@ module _ (choose : Vol → ℕ) (P : ℕ) (ch : Chooser P choose) (v : Vol) (S :
   G0 : Good P v (λ p. 0)
   G0 = good P v S
 
+  here : Owned P v (λ p. 0) a f
+  here = record { spot = record { good = G0; pos = pos; ha = ha; hf = hf }; big = omega arith; uf = uf }
+
   -- the file is not contiguous
   module _ (kind : flags (object v e) 30 ≡ 0 → n ≡ 0) (le : usedPages (user v) a + need n ≤ given (user v) a) where
     owner : 0 < used (user v a)
@@ -51,7 +54,7 @@ module _ (choose : Vol → ℕ) (P : ℕ) (ch : Chooser P choose) (v : Vol) (S :
 
     -- the flags by the page count
     shape : Shape P v (flags (object v e) 30) (page (object v e) 30) n
-    shape = shape-is P v (λ p. 0) G0 pos (omega arith) a f ha hf uf (flags (object v e) 30) refl
+    shape = shape-is here (flags (object v e) 30) refl
 
     flag-first : n ≡ 0 → flags (object v e) 30 ≡ 0
     flag-first z = kind-empty P v (page (object v e) 30) n (flags (object v e) 30) shape z
@@ -70,7 +73,7 @@ module _ (choose : Vol → ℕ) (P : ℕ) (ch : Chooser P choose) (v : Vol) (S :
       | yes i ↦ absurd (let r : ⊥ = omega (
         arith,
         full-count v 2 (page (object v e) 30) (subst (λ (y : ℕ). Fill v 2 (page (object v e) 30) y) i (S2 .2)),
-        ap (λ (r : Root). weighR v r some) (root-is P v (λ p. 0) G0 pos (omega arith) a f ha hf uf 2 (flag-high z)),
+        ap (λ (r : Root). weighR v r some) (root-is here 2 (flag-high z)),
         file-le v some a f ha hf,
         all-rest P v some,
         free-count P v (λ p. 0) G0 pos,
@@ -119,8 +122,8 @@ module _ (choose : Vol → ℕ) (P : ℕ) (ch : Chooser P choose) (v : Vol) (S :
       abbrev hand : ℕ → ℕ
       hand p = sum i (λ j. hit (new j) p)
 
-      used-now : 0 < used (object (w i) e)
-      used-now = subst (λ (O : Table). 0 < used (O e)) (sym (C .still .objects)) uf
+      there : Owned P (w i) hand a f
+      there = record { spot = record { good = C .good; pos = pos; ha = ha; hf = hf }; big = omega arith; uf = subst (λ (O : Table). 0 < used (O e)) (sym (C .still .objects)) uf }
 
       count-now : two (object (w i) e) 26 ≡ n
       count-now = ap (λ (O : Table). two (O e) 26) (C .still .objects)
@@ -159,7 +162,7 @@ module _ (choose : Vol → ℕ) (P : ℕ) (ch : Chooser P choose) (v : Vol) (S :
     firsted z =
         let q : need n ≡ 2 = need-block n (omega (arith, z)) (omega (arith, z)) in
         let c : Claimed choose P v 2 = C 2 q in
-        rebase 2 q (growTo choose P v a f first) (grew-first P (w 2) (hand 2 q) (c .good) pos (omega arith) a f ha hf (used-now 2 q)
+        rebase 2 q (growTo choose P v a f first) (grew-first (there 2 q)
         (new 0) (new 1) (c .real 0 (omega arith) .1) (c .real 1 (omega arith) .1) (c .real 0 (omega arith) .0) (c .real 1 (omega arith) .0) (λ p. sum-2 (λ j. hit (new j) p))
         (slot-bare (w 2) (new 1) (c .zero 1 (omega arith))) (flags-now 2 q ∙ flag-first z) (count-now 2 q ∙ z) (room-now 2 q))
 
@@ -168,7 +171,7 @@ module _ (choose : Vol → ℕ) (P : ℕ) (ch : Chooser P choose) (v : Vol) (S :
     blocked z h =
         let q : need n ≡ 2 = need-block n z (omega arith) in
         let c : Claimed choose P v 2 = C 2 q in
-        rebase 2 q (growTo choose P v a f block) (grew-block P (w 2) (hand 2 q) (c .good) pos (omega arith) a f ha hf (used-now 2 q)
+        rebase 2 q (growTo choose P v a f block) (grew-block (there 2 q)
         (new 0) (new 1) (c .real 0 (omega arith) .1) (c .real 1 (omega arith) .1) (c .real 0 (omega arith) .0) (c .real 1 (omega arith) .0) (λ p. sum-2 (λ j. hit (new j) p))
         (slot-bare (w 2) (new 1) (c .zero 1 (omega arith))) (flags-now 2 q ∙ flag-high h) (omega (arith, count-now 2 q, small h)) (omega (arith, count-now 2 q, z)) (room-now 2 q))
 
@@ -177,7 +180,7 @@ module _ (choose : Vol → ℕ) (P : ℕ) (ch : Chooser P choose) (v : Vol) (S :
     raised z =
         let q : need n ≡ 3 = need-raise n z in
         let c : Claimed choose P v 3 = C 3 q in
-        rebase 3 q (growTo choose P v a f raise) (grew-raise P (w 3) (hand 3 q) (c .good) pos (omega arith) a f ha hf (used-now 3 q)
+        rebase 3 q (growTo choose P v a f raise) (grew-raise (there 3 q)
         (new 0) (new 1) (new 2) (c .real 0 (omega arith) .1) (c .real 1 (omega arith) .1) (c .real 2 (omega arith) .1) (c .real 0 (omega arith) .0) (c .real 1 (omega arith) .0) (c .real 2 (omega arith) .0)
         (λ p. sum-3 (λ j. hit (new j) p)) (slot-bare (w 3) (new 1) (c .zero 1 (omega arith))) (slot-bare (w 3) (new 2) (c .zero 2 (omega arith))) (flags-now 3 q ∙ flag-low (omega arith) (omega arith)) (count-now 3 q ∙ z) (room-now 3 q))
 
@@ -206,8 +209,8 @@ module _ (choose : Vol → ℕ) (P : ℕ) (ch : Chooser P choose) (v : Vol) (S :
         go (suc zero) h =
             let lt : n < 512 = omega (arith, at 1 h .1) in
             subst (λ (k : ℕ). Grew P (w 1) (put 1 (page (object (w 1) e) 30) k) a e (two (object (w 1) e) 26) (choose v) (hand 1 q)) (let r : two (object (w 1) e) 26 ≡ two (object (w 1) e) 26 % 512 = omega (arith, n₁, lt) in r)
-            (grew-onward P (w 1) (hand 1 q) (c .good) pos (omega arith) a f ha hf (used-now 1 q) (new 0) (c .real 0 (omega arith) .1) (c .real 0 (omega arith) .0) (λ p. sum-1 (λ j. hit (new j) p)) h (omega (arith, n₁, lt)) (room-now 1 q))
-        go (suc (suc zero)) h = grew-onward-sub P (w 1) (hand 1 q) (c .good) pos (omega arith) a f ha hf (used-now 1 q) (new 0) (c .real 0 (omega arith) .1) (c .real 0 (omega arith) .0) (λ p. sum-1 (λ j. hit (new j) p)) h
+            (grew-onward (there 1 q) (new 0) (c .real 0 (omega arith) .1) (c .real 0 (omega arith) .0) (λ p. sum-1 (λ j. hit (new j) p)) h (omega (arith, n₁, lt)) (room-now 1 q))
+        go (suc (suc zero)) h = grew-onward-sub (there 1 q) (new 0) (c .real 0 (omega arith) .1) (c .real 0 (omega arith) .0) (λ p. sum-1 (λ j. hit (new j) p)) h
             (omega (arith, n₁, small (at 2 h .0))) (omega (arith, n₁)) (room-now 1 q)
         go (suc (suc (suc x))) h = absurd (at (suc (suc (suc x))) h)
 

@@ -5,7 +5,7 @@ use Prim.Native.Nat.{ℕ, suc, _+_, _*_, _/_, _%_, _≤_, _<_}
 use native.Mathlib.Nat.{mod-lt}
 use native.Mathlib.Omega.{arith}
 use Rattle.sums.specs.Sum.{sum, sum-at, sum-at₂, sum-none}
-use Rattle.book.specs.Entries.{userFile, objectFile, user, object, used, given, usedPages}
+use Rattle.book.specs.Entries.{userFile, objectFile, user, object, given, usedPages}
 use Rattle.book.specs.Files.{fileAt, Shape}
 use Rattle.book.specs.Grow.{finish}
 use Rattle.book.specs.Holders.{hit, all}
@@ -13,11 +13,10 @@ use Rattle.book.specs.Pointers.{slot, flags, page, pointer, setSlot}
 use Rattle.book.specs.Trees.{Root, tree, weigh, blocks, weighR, pageAt, indexAt, subindexOf, upto, leaf, rootBy, Fill, Below}
 use Rattle.book.specs.Words.{Vol, two}
 use Rattle.book.specs.Written.{word-ext}
-use Rattle.laws.specs.Count.Good.{Good}
 use Rattle.laws.specs.File.Around.{Needs}
 use Rattle.laws.specs.File.Finish.{Blocks, Regrown}
 use Rattle.laws.specs.File.Finished.{finished}
-use Rattle.laws.specs.File.Own.{own, loose, root-is, shape-is}
+use Rattle.laws.specs.File.Owned.{own, loose, root-is, shape-is, Owned}
 use Rattle.laws.specs.Frame.Places.{only-slot, only-trans}
 use Rattle.laws.specs.Frame.Rest.{all-add}
 use Rattle.laws.specs.Frame.Roots.{weighR-add, upto-in}
@@ -27,8 +26,7 @@ use Rattle.laws.specs.Tree.Levels.{last, last-mid, last-block, last-rais
 use Rattle.laws.specs.Tree.Slot.{slot-here, slot-other, setSlot-page, setSlot-agree, hit-sym, Agree-comp, Agree-mono, Agree, hit-zero, hit-same, some-pos, slot-same}
 use Rattle.laws.specs.Tree.Weigh.{blocks-le}
 
-module _ (P : ℕ) (v : Vol) (hand : ℕ → ℕ) (G : Good P v hand) (pos : 0 < P) (big : P ≤ 1073741824) (a f : ℕ) (ha : a < 256) (hf : f < 256)
-    (uf : 0 < used (object v (256 * a + f))) where
+module _ {P : ℕ} {v : Vol} {hand : ℕ → ℕ} {a f : ℕ} (here : Owned P v hand a f) where
   abbrev e : ℕ
   e = 256 * a + f
 
@@ -53,13 +51,13 @@ module _ (P : ℕ) (v : Vol) (hand : ℕ → ℕ) (G : Good P v hand) (pos : 0 <
     pub grew-onward-sub : Grew P v (finish (setSlot v X (n % 512) d) U O a e (suc n) (pointer 2 t) (usedPages (user v) a + 1)) a e n d hand
     unfolding Shape rootBy weighR Fill Below weigh blocks pageAt
     grew-onward-sub = grew P v v₂ _ a e n d 2 t _ (suc n) (λ g. g d) hand
-        (finished P v hand G pos big a f ha hf uf (hit X) v₂ K (suc n) 2 t (usedPages (user v) a + 1) (λ g. 0) (λ g. g d) (λ p. 0) R)
+        (finished here K (suc n) 2 t (usedPages (user v) a + 1) (λ g. 0) (λ g. g d) (λ p. 0) R)
         refl refl (ap (λ (k : ℕ). usedPages (user v) a + k) (sym (need-mid n mid)))
-        (λ m h. ap (upto m 262144) (W .old m h) ∙ sym (ap (λ (r : Root). pageAt v r m) (root-is P v hand G pos big a f ha hf uf 2 fl))) pg (λ g. last-mid v₂ (tree 2 t) n g mid ∙ ap g pg)
+        (λ m h. ap (upto m 262144) (W .old m h) ∙ sym (ap (λ (r : Root). pageAt v r m) (root-is here 2 fl))) pg (λ g. last-mid v₂ (tree 2 t) n g mid ∙ ap g pg)
         (λ p. omega (arith, hand-is p, hit-sym p d)) (only-slot _ v X (n % 512) d (λ p j h. inr (inl (mid, (h .0 ∙ sym (index-2 v₂ t (n / 512) i ∙ top (n / 512)), h .1, h .2)))))
       where
         S : Shape P v 2 t n
-        S = shape-is P v hand G pos big a f ha hf uf 2 fl
+        S = shape-is here 2 fl
 
         v₂ : Vol
         v₂ = setSlot v X (n % 512) d
@@ -86,15 +84,15 @@ module _ (P : ℕ) (v : Vol) (hand : ℕ → ℕ) (G : Good P v hand) (pos : 0 <
         at = omega (arith, hit-same X pX)
 
         whole : weighR v (fileAt v e) (hit X) ≡ hit X t + sum 512 child
-        whole = ap (λ (r : Root). weighR v r (hit X)) (root-is P v hand G pos big a f ha hf uf 2 fl)
+        whole = ap (λ (r : Root). weighR v r (hit X)) (root-is here 2 fl)
 
         one : (all P v (hit X) ≡ weighR v (fileAt v e) (hit X)) × (weighR v (fileAt v e) (hit X) ≡ 1)
-        one = own P v hand G pos big a f ha hf uf X (BX .0) (omega (arith, whole, at, sum-at 512 child (n / 512) i))
+        one = own here X (BX .0) (omega (arith, whole, at, sum-at 512 child (n / 512) i))
 
         tX : t ≢ X
         tX q = omega (arith, one, whole, at, sum-at 512 child (n / 512) i, subst (λ (y : ℕ). hit X y ≡ 1) (sym q) (hit-same X pX))
 
-        K : Blocks P v hand G pos big a f ha hf uf (hit X) v₂
+        K : Blocks here (hit X) v₂
         K = record { none = hit-zero X; only = one .0; agree = setSlot-agree v X (n % 512) d; master = λ k. setSlot-page v X (n % 512) d 0 k (omega (arith, pX)) }
 
         top : (j : ℕ) → slot v₂ t j ≡ slot v t j
@@ -105,9 +103,9 @@ module _ (P : ℕ) (v : Vol) (hand : ℕ → ℕ) (G : Good P v hand) (pos : 0 <
             (λ j h ne. omega (arith, one, whole, at, sum-at₂ 512 child j (n / 512) h i ne, sum-none 512 (λ k. 0) (λ k l. refl)))
             (S .2) (S .3) (subst (λ (y : ℕ). Grown P v v₂ 1 X y (n % 512) d (λ g. g d)) (sym (top (n / 512))) (grown-leaf P v X (n % 512) d pX (mod-lt n (omega arith)) pd hd FX BX))
 
-        R : Regrown P v hand G pos big a f ha hf uf (hit X) v₂ K (suc n) 2 t (usedPages (user v) a + 1) (λ g. 0) (λ g. g d) (λ p. 0)
+        R : Regrown here K (suc n) 2 t (usedPages (user v) a + 1) (λ g. 0) (λ g. g d) (λ p. 0)
         R = record {
-          weight = λ g g0. omega (arith, ap (λ (r : Root). weighR v r g) (root-is P v hand G pos big a f ha hf uf 2 fl), W .weight g g0);
+          weight = λ g g0. omega (arith, ap (λ (r : Root). weighR v r g) (root-is here 2 fl), W .weight g g0);
           shape = (omega (arith, S .0), lt, W .fill, W .inside);
           top = S .3 .0;
           hands = λ p h. omega (arith, hand-is p, hit-sym p d);
@@ -125,14 +123,14 @@ module _ (P : ℕ) (v : Vol) (hand : ℕ → ℕ) (G : Good P v hand) (pos : 0 <
     pub grew-block : Grew P v (finish (setSlot (setSlot v t (n / 512) b) b 0 d) U O a e (suc n) (pointer 2 t) (usedPages (user v) a + 2)) a e n d hand
     unfolding Shape rootBy weighR Fill Below weigh blocks pageAt subindexOf
     grew-block = grew P v v₂ _ a e n d 2 t _ (suc n) (λ g. g b + g d) hand
-        (finished P v hand G pos big a f ha hf uf D v₂ K (suc n) 2 t (usedPages (user v) a + 2) (λ g. 0) (λ g. g b + g d) (λ p. 0) R)
+        (finished here K (suc n) 2 t (usedPages (user v) a + 2) (λ g. 0) (λ g. g b + g d) (λ p. 0) R)
         refl refl (ap (λ (k : ℕ). usedPages (user v) a + k) (sym (need-block n start (omega (arith, S .0)))))
-        (λ m h. ap (upto m 262144) (W .old m h) ∙ sym (ap (λ (r : Root). pageAt v r m) (root-is P v hand G pos big a f ha hf uf 2 fl))) pg
+        (λ m h. ap (upto m 262144) (W .old m h) ∙ sym (ap (λ (r : Root). pageAt v r m) (root-is here 2 fl))) pg
         lastly (λ p. omega (arith, hand-is p, hit-sym p d, hit-sym p b))
         (only-trans _ v v₁ v₂ (only-slot _ v t (n / 512) b (λ p j h. inr (inr (start, omega (arith, S .0), h)))) (only-slot _ v₁ b 0 d (λ p j h. inl (needs p (h .0)))))
       where
         S : Shape P v 2 t n
-        S = shape-is P v hand G pos big a f ha hf uf 2 fl
+        S = shape-is here 2 fl
 
         v₁ : Vol
         v₁ = setSlot v t (n / 512) b
@@ -156,13 +154,13 @@ module _ (P : ℕ) (v : Vol) (hand : ℕ → ℕ) (G : Good P v hand) (pos : 0 <
         child g j = weigh v 1 (slot v t j) g
 
         whole : (g : ℕ → ℕ) → weighR v (fileAt v e) g ≡ g t + sum 512 (child g)
-        whole g = ap (λ (r : Root). weighR v r g) (root-is P v hand G pos big a f ha hf uf 2 fl)
+        whole g = ap (λ (r : Root). weighR v r g) (root-is here 2 fl)
 
         one : (all P v (hit t) ≡ weighR v (fileAt v e) (hit t)) × (weighR v (fileAt v e) (hit t) ≡ 1)
-        one = own P v hand G pos big a f ha hf uf t (S .3 .0) (omega (arith, whole (hit t), hit-same t pt))
+        one = own here t (S .3 .0) (omega (arith, whole (hit t), hit-same t pt))
 
         lo : (all P v (hit b) ≡ 0) × (weighR v (fileAt v e) (hit b) ≡ 0) × (hand b ≡ 1)
-        lo = loose P v hand G pos big a f ha hf uf b hb (omega (arith, hand-is b, hit-same b pb))
+        lo = loose here b hb (omega (arith, hand-is b, hit-same b pb))
 
         tb : t ≢ b
         tb q = omega (arith, lo, whole (hit b), subst (λ (y : ℕ). hit b y ≡ 1) (sym q) (hit-same b pb))
@@ -170,7 +168,7 @@ module _ (P : ℕ) (v : Vol) (hand : ℕ → ℕ) (G : Good P v hand) (pos : 0 <
         agree : Agree D v v₂
         agree = Agree-comp (hit t) (hit b) v v₁ v₂ (setSlot-agree v t (n / 512) b) (setSlot-agree v₁ b 0 d)
 
-        K : Blocks P v hand G pos big a f ha hf uf D v₂
+        K : Blocks here D v₂
         K = record {
           none = omega (arith, hit-zero t, hit-zero b);
           only = omega (arith, one, lo, all-add P v (hit t) (hit b), weighR-add v (hit t) (hit b) (fileAt v e));
@@ -192,11 +190,11 @@ module _ (P : ℕ) (v : Vol) (hand : ℕ → ℕ) (G : Good P v hand) (pos : 0 <
             (λ j h ne. omega (arith, one, lo, whole (hit t), whole (hit b), hit-same t pt, sum-at 512 (child (hit t)) j h, sum-at 512 (child (hit b)) j h, sum-none 512 (λ k. 0) (λ k l. refl)))
             (S .2) (S .3)
             (subst₃ (λ (x y z : ℕ). Grown P v v₂ 1 x y z d (λ g. g b + g d)) (sym was) (sym now) (sym start)
-            (grown-block P v v₂ 0 b d d (λ g. g d) pos pb hb (slot-here v₁ b 0 d pb) (λ k ne. slot-other v₁ b 0 d pb k ne ∙ at-b k ∙ bare k) (grown-page P v v₂ d pd hd)))
+            (grown-block P v v₂ 0 b d d (λ g. g d) (here .spot .pos) pb hb (slot-here v₁ b 0 d pb) (λ k ne. slot-other v₁ b 0 d pb k ne ∙ at-b k ∙ bare k) (grown-page P v v₂ d pd hd)))
 
-        R : Regrown P v hand G pos big a f ha hf uf D v₂ K (suc n) 2 t (usedPages (user v) a + 2) (λ g. 0) (λ g. g b + g d) (λ p. 0)
+        R : Regrown here K (suc n) 2 t (usedPages (user v) a + 2) (λ g. 0) (λ g. g b + g d) (λ p. 0)
         R = record {
-          weight = λ g g0. omega (arith, ap (λ (r : Root). weighR v r g) (root-is P v hand G pos big a f ha hf uf 2 fl), W .weight g g0);
+          weight = λ g g0. omega (arith, ap (λ (r : Root). weighR v r g) (root-is here 2 fl), W .weight g g0);
           shape = (omega (arith, S .0), lt, W .fill, W .inside);
           top = S .3 .0;
           hands = λ p h. omega (arith, hand-is p, hit-sym p d, hit-sym p b);
@@ -221,15 +219,15 @@ module _ (P : ℕ) (v : Vol) (hand : ℕ → ℕ) (G : Good P v hand) (pos : 0 <
     pub grew-raise : Grew P v (finish (setSlot (setSlot (setSlot v s 0 t) s 1 b) b 0 d) U O a e 513 (pointer 2 s) (usedPages (user v) a + 3)) a e n d hand
     unfolding Shape rootBy weighR Fill Below weigh blocks pageAt subindexOf
     grew-raise = grew P v v₃ _ a e n d 2 s _ 513 (λ g. g s + (g b + g d)) hand
-        (finished P v hand G pos big a f ha hf uf D v₃ K 513 2 s (usedPages (user v) a + 3) (λ g. 0) (λ g. g s + (g b + g d)) (λ p. 0) R)
+        (finished here K 513 2 s (usedPages (user v) a + 3) (λ g. 0) (λ g. g s + (g b + g d)) (λ p. 0) R)
         refl (sym (ap suc full)) (ap (λ (k : ℕ). usedPages (user v) a + k) (sym (need-raise n full)))
-        (λ m h. upto-in m 262144 (leaf v₃ 2 s m) (omega (arith, full)) ∙ raise-old P v v₃ D agree 1 t s b d (λ g. g b + g d) pos ps hs s0 s1 so bz F B W m (omega (arith, full))
-        ∙ sym (upto-in m 512 (leaf v 1 t m) (omega (arith, full))) ∙ sym (ap (λ (r : Root). pageAt v r m) (root-is P v hand G pos big a f ha hf uf 1 fl))) pg
+        (λ m h. upto-in m 262144 (leaf v₃ 2 s m) (omega (arith, full)) ∙ raise-old P v v₃ D agree 1 t s b d (λ g. g b + g d) (here .spot .pos) ps hs s0 s1 so bz F B W m (omega (arith, full))
+        ∙ sym (upto-in m 512 (leaf v 1 t m) (omega (arith, full))) ∙ sym (ap (λ (r : Root). pageAt v r m) (root-is here 1 fl))) pg
         lastly (λ p. omega (arith, hand-is p, hit-sym p d, hit-sym p b, hit-sym p s))
         (only-trans _ v v₂ v₃ (only-trans _ v v₁ v₂ (only-slot _ v s 0 t (λ p j h. inl (top p (h .0)))) (only-slot _ v₁ s 1 b (λ p j h. inl (top p (h .0))))) (only-slot _ v₂ b 0 d (λ p j h. inl (index p (h .0)))))
       where
         S : Shape P v 1 t n
-        S = shape-is P v hand G pos big a f ha hf uf 1 fl
+        S = shape-is here 1 fl
 
         F : Fill v 1 t 512
         F = subst (λ (y : ℕ). Fill v 1 t y) full (S .2)
@@ -253,10 +251,10 @@ module _ (P : ℕ) (v : Vol) (hand : ℕ → ℕ) (G : Good P v hand) (pos : 0 <
         D x = hit s x + hit b x
 
         lo : (all P v (hit b) ≡ 0) × (weighR v (fileAt v e) (hit b) ≡ 0) × (hand b ≡ 1)
-        lo = loose P v hand G pos big a f ha hf uf b hb (omega (arith, hand-is b, hit-same b pb))
+        lo = loose here b hb (omega (arith, hand-is b, hit-same b pb))
 
         lo′ : (all P v (hit s) ≡ 0) × (weighR v (fileAt v e) (hit s) ≡ 0) × (hand s ≡ 1)
-        lo′ = loose P v hand G pos big a f ha hf uf s hs (omega (arith, hand-is s, hit-same s ps))
+        lo′ = loose here s hs (omega (arith, hand-is s, hit-same s ps))
 
         sb : s ≢ b
         sb q = omega (arith, lo′, hand-is s, hit-same s ps, subst (λ (y : ℕ). hit y s ≡ 1) q (hit-same s ps))
@@ -265,7 +263,7 @@ module _ (P : ℕ) (v : Vol) (hand : ℕ → ℕ) (G : Good P v hand) (pos : 0 <
         agree = Agree-mono (λ x. hit s x + hit s x + hit b x) D v v₃ (λ q z. omega (arith, z))
             (Agree-comp (λ x. hit s x + hit s x) (hit b) v v₂ v₃ (Agree-comp (hit s) (hit s) v v₁ v₂ (setSlot-agree v s 0 t) (setSlot-agree v₁ s 1 b)) (setSlot-agree v₂ b 0 d))
 
-        K : Blocks P v hand G pos big a f ha hf uf D v₃
+        K : Blocks here D v₃
         K = record {
           none = omega (arith, hit-zero s, hit-zero b);
           only = omega (arith, lo, lo′, all-add P v (hit s) (hit b), weighR-add v (hit s) (hit b) (fileAt v e));
@@ -289,18 +287,18 @@ module _ (P : ℕ) (v : Vol) (hand : ℕ → ℕ) (G : Good P v hand) (pos : 0 <
         so k i j = at-s k ∙ slot-other v₁ s 1 b ps k j ∙ slot-other v s 0 t ps k i ∙ bare′ k
 
         whole : (g : ℕ → ℕ) → weighR v (fileAt v e) g ≡ weigh v 1 t g
-        whole g = ap (λ (r : Root). weighR v r g) (root-is P v hand G pos big a f ha hf uf 1 fl)
+        whole g = ap (λ (r : Root). weighR v r g) (root-is here 1 fl)
 
         bz : blocks v 1 t D ≡ 0
         bz = omega (arith, lo, lo′, blocks-le v D 1 t, whole D, weighR-add v (hit s) (hit b) (fileAt v e))
 
         W : Grown P v v₃ 1 0 b 0 d (λ g. g b + g d)
-        W = grown-block P v v₃ 0 b d d (λ g. g d) pos pb hb (slot-here v₂ b 0 d pb) (λ k ne. slot-other v₂ b 0 d pb k ne ∙ at-b k ∙ bare k) (grown-page P v v₃ d pd hd)
+        W = grown-block P v v₃ 0 b d d (λ g. g d) (here .spot .pos) pb hb (slot-here v₂ b 0 d pb) (λ k ne. slot-other v₂ b 0 d pb k ne ∙ at-b k ∙ bare k) (grown-page P v v₃ d pd hd)
 
-        R : Regrown P v hand G pos big a f ha hf uf D v₃ K 513 2 s (usedPages (user v) a + 3) (λ g. 0) (λ g. g s + (g b + g d)) (λ p. 0)
+        R : Regrown here K 513 2 s (usedPages (user v) a + 3) (λ g. 0) (λ g. g s + (g b + g d)) (λ p. 0)
         R = record {
-          weight = λ g g0. omega (arith, ap (λ (r : Root). weighR v r g) (root-is P v hand G pos big a f ha hf uf 1 fl), raise-weight P v v₃ D agree 1 t s b d (λ g. g b + g d) pos ps hs s0 s1 so bz F B W g g0);
-          shape = (omega arith, omega arith, raise-fill P v v₃ D agree 1 t s b d (λ g. g b + g d) pos ps hs s0 s1 so bz F B W, raise-below P v v₃ D agree 1 t s b d (λ g. g b + g d) pos ps hs s0 s1 so bz F B W);
+          weight = λ g g0. omega (arith, ap (λ (r : Root). weighR v r g) (root-is here 1 fl), raise-weight P v v₃ D agree 1 t s b d (λ g. g b + g d) (here .spot .pos) ps hs s0 s1 so bz F B W g g0);
+          shape = (omega arith, omega arith, raise-fill P v v₃ D agree 1 t s b d (λ g. g b + g d) (here .spot .pos) ps hs s0 s1 so bz F B W, raise-below P v v₃ D agree 1 t s b d (λ g. g b + g d) (here .spot .pos) ps hs s0 s1 so bz F B W);
           top = hs;
           hands = λ p h. omega (arith, hand-is p, hit-sym p d, hit-sym p b, hit-sym p s);
           fresh = λ q z. omega (arith, hand-is q, hit-sym q d, hit-sym q b, hit-sym q s);
@@ -309,7 +307,7 @@ module _ (P : ℕ) (v : Vol) (hand : ℕ → ℕ) (G : Good P v hand) (pos : 0 <
         }
 
         pg : upto n 262144 (leaf v₃ 2 s n) ≡ d
-        pg = upto-in n 262144 (leaf v₃ 2 s n) (omega (arith, full)) ∙ ap (leaf v₃ 2 s) full ∙ raise-at P v v₃ D agree 1 t s b d (λ g. g b + g d) pos ps hs s0 s1 so bz F B W
+        pg = upto-in n 262144 (leaf v₃ 2 s n) (omega (arith, full)) ∙ ap (leaf v₃ 2 s) full ∙ raise-at P v v₃ D agree 1 t s b d (λ g. g b + g d) (here .spot .pos) ps hs s0 s1 so bz F B W
 
         lastly : (g : ℕ → ℕ) → last v₃ (tree 2 s) n g ≡ g s + (g b + g d)
         lastly g = omega (arith, last-raise v₃ (tree 2 s) n g full, ap g pg, ap g (ap (indexAt v₃ (tree 2 s)) (let q : n / 512 ≡ 1 = omega (arith, full) in q) ∙ index-2 v₃ s 1 (omega arith) ∙ s1))

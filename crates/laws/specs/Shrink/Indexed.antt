@@ -4,7 +4,7 @@ use mathlib.Core.Logic.{inl, inr}
 use Prim.Native.Nat.{ℕ, suc, _+_, _-_, _*_, _/_, _%_, _≤_, _<_}
 use native.Mathlib.Omega.{arith}
 use Rattle.sums.specs.Sum.{sum-zero, sum-at}
-use Rattle.book.specs.Entries.{userFile, objectFile, user, object, used, given, usedPages}
+use Rattle.book.specs.Entries.{userFile, objectFile, user, object, given, usedPages}
 use Rattle.book.specs.Files.{fileAt, Shape, need}
 use Rattle.book.specs.Grow.{finish}
 use Rattle.book.specs.Holders.{hit, some, all, mine}
@@ -16,7 +16,7 @@ use Rattle.laws.specs.Count.Good.{Good}
 use Rattle.laws.specs.File.Around.{Around, Needs, SlotOf, Longer}
 use Rattle.laws.specs.File.Finish.{Blocks, owner-used}
 use Rattle.laws.specs.File.Finished.{Finished, finished}
-use Rattle.laws.specs.File.Own.{own, root-is, shape-is}
+use Rattle.laws.specs.File.Owned.{own, root-is, shape-is, Owned}
 use Rattle.laws.specs.Frame.Beside.{Beside}
 use Rattle.laws.specs.Frame.Places.{only-slot, only-trans, OnlyAt, only-wider}
 use Rattle.laws.specs.Frame.Roots.{weighR-nobody}
@@ -54,7 +54,7 @@ lost P v v₂ v₃ a e n x t y gone hand F i k old l o = record {
   words = only-trans (Around P v a e n) v v₂ v₃ (only-wider _ _ v v₂ (λ p j h. inr (inl h)) o) (only-wider _ _ v₂ v₃ (λ p j h. inr (inr h)) (F .words));
 }
 
-module _ (P : ℕ) (v : Vol) (G : Good P v (λ p. 0)) (pos : 0 < P) (big : P ≤ 1073741824) (a f : ℕ) (ha : a < 256) (hf : f < 256) (uf : 0 < used (object v (256 * a + f))) where
+module _ {P : ℕ} {v : Vol} {a f : ℕ} (here : Owned P v (λ p. 0) a f) where
   abbrev e : ℕ
   e = 256 * a + f
 
@@ -73,15 +73,15 @@ module _ (P : ℕ) (v : Vol) (G : Good P v (λ p. 0)) (pos : 0 < P) (big : P ≤
   -- what leaves the file is paid back
   mine-file : weighR v (fileAt v e) some ≤ mine v a some
   unfolding mine
-  mine-file = sum-at 256 (λ f. weighR v (fileAt v (256 * a + f)) some) f hf
+  mine-file = sum-at 256 (λ f. weighR v (fileAt v (256 * a + f)) some) f (here .spot .hf)
 
   pub paid : (k : ℕ) → k ≤ weighR v (fileAt v e) some → k ≤ usedPages (user v) a
   unfolding Rule10
-  paid k h = omega (arith, G .most .r10 .0 a ha (owner-used P v (λ p. 0) G pos big a f ha hf uf), mine-file)
+  paid k h = omega (arith, here .spot .good .most .r10 .0 a (here .spot .ha) (owner-used here), mine-file)
 
   pub within : usedPages (user v) a ≤ given (user v) a
   unfolding Rule4
-  within = G .most .r4 .0 a ha (owner-used P v (λ p. 0) G pos big a f ha hf uf) .within
+  within = here .spot .good .most .r4 .0 a (here .spot .ha) (owner-used here) .within
 
   -- ---- the only page of a file: the index block goes too
   module _ (n1 : n ≡ 1) (fl : flags (object v e) 30 ≡ 1) where
@@ -92,10 +92,10 @@ module _ (P : ℕ) (v : Vol) (G : Good P v (λ p. 0)) (pos : 0 < P) (big : P ≤
     unfolding Shape rootBy weighR Fill Below weigh Agree
     lost-first = (
       lost P v v _ a e 0 0 0 _ (λ g. g t + g d₁) (λ p. hit p t + hit p d₁)
-          (finished P v (λ p. 0) G pos big a f ha hf uf (λ x. 0) v K 0 0 0 (usedPages (user v) a - 2) (λ g. g t + g d₁) (λ g. 0) (λ p. hit p t + hit p d₁) record {
-            weight = λ g g0. omega (arith, ap (λ (r : Root). weighR v r g) (root-is P v (λ p. 0) G pos big a f ha hf uf 1 fl), W .weight g g0, weigh-none v g g0 1, sum-zero (λ i. g (0 + i)));
+          (finished here K 0 0 0 (usedPages (user v) a - 2) (λ g. g t + g d₁) (λ g. 0) (λ p. hit p t + hit p d₁) record {
+            weight = λ g g0. omega (arith, ap (λ (r : Root). weighR v r g) (root-is here 1 fl), W .weight g g0, weigh-none v g g0 1, sum-zero (λ i. g (0 + i)));
             shape = inl (refl, refl);
-            top = pos;
+            top = (here .spot .pos);
             hands = λ p h. omega arith;
             fresh = λ q z. refl;
             count = omega (arith, some-pos t pt, some-pos d₁ pd, two′);
@@ -107,7 +107,7 @@ module _ (P : ℕ) (v : Vol) (G : Good P v (λ p. 0)) (pos : 0 < P) (big : P ≤
     )
       where
         S : Shape P v 1 t n
-        S = shape-is P v (λ p. 0) G pos big a f ha hf uf 1 fl
+        S = shape-is here 1 fl
 
         F : Fill v 1 t 1
         F = subst (λ (x : ℕ). Fill v 1 t x) n1 (S .2)
@@ -119,22 +119,22 @@ module _ (P : ℕ) (v : Vol) (G : Good P v (λ p. 0)) (pos : 0 < P) (big : P ≤
         pd = F .2 0 (omega arith) .0 (omega arith)
 
         W : Shrunk P v v 1 t 0 0 (λ g. g t + g d₁)
-        W = shrunk-block P v v 0 t (λ g. g d₁) pos F (shrunk-page P v v d₁ pos)
+        W = shrunk-block P v v 0 t (λ g. g d₁) (here .spot .pos) F (shrunk-page P v v d₁ (here .spot .pos))
 
         two′ : 2 ≤ usedPages (user v) a
-        two′ = paid 2 (omega (arith, ap (λ (r : Root). weighR v r some) (root-is P v (λ p. 0) G pos big a f ha hf uf 1 fl), some-pos t pt, some-pos d₁ pd, sum-at 512 (λ k. some (slot v t k)) 0 (omega arith)))
+        two′ = paid 2 (omega (arith, ap (λ (r : Root). weighR v r some) (root-is here 1 fl), some-pos t pt, some-pos d₁ pd, sum-at 512 (λ k. some (slot v t k)) 0 (omega arith)))
 
         nobody : all P v (λ x. 0) ≡ weighR v (fileAt v e) (λ x. 0)
         nobody = all-zero P v ∙ sym (weighR-nobody v (λ x. 0) (λ x. refl) (fileAt v e))
 
-        K : Blocks P v (λ p. 0) G pos big a f ha hf uf (λ x. 0) v
+        K : Blocks here (λ x. 0) v
         K = record { none = refl; only = nobody; agree = λ q h k. refl; master = λ k. refl }
 
         at : pageAt v (fileAt v e) 0 ≡ pageAt v (tree 1 t) 0
-        at = ap (λ (r : Root). pageAt v r 0) (root-is P v (λ p. 0) G pos big a f ha hf uf 1 fl)
+        at = ap (λ (r : Root). pageAt v r 0) (root-is here 1 fl)
 
         ix : indexAt v (fileAt v e) 0 ≡ indexAt v (tree 1 t) 0
-        ix = ap (λ (r : Root). indexAt v r 0) (root-is P v (λ p. 0) G pos big a f ha hf uf 1 fl)
+        ix = ap (λ (r : Root). indexAt v r 0) (root-is here 1 fl)
 
         lastly : (g : ℕ → ℕ) → last v (fileAt v e) 0 g ≡ g t + g d₁
         lastly g = omega (arith, last-block v (fileAt v e) 0 g refl (omega arith), ap g (at ∙ page-1 v t 0 (omega arith)), ap g (ix ∙ index-1 v t))
@@ -148,8 +148,8 @@ module _ (P : ℕ) (v : Vol) (G : Good P v (λ p. 0)) (pos : 0 < P) (big : P ≤
     unfolding Shape rootBy weighR Fill Below weigh pageAt
     lost-onward = (
       lost P v v₂ _ a e m 1 t _ (λ g. g d) (λ p. hit p d)
-          (finished P v (λ p. 0) G pos big a f ha hf uf (hit t) v₂ K m 1 t (usedPages (user v) a - 1) (λ g. g d) (λ g. 0) (λ p. hit p d) record {
-            weight = λ g g0. omega (arith, ap (λ (r : Root). weighR v r g) (root-is P v (λ p. 0) G pos big a f ha hf uf 1 fl), W .weight g g0);
+          (finished here K m 1 t (usedPages (user v) a - 1) (λ g. g d) (λ g. 0) (λ p. hit p d) record {
+            weight = λ g g0. omega (arith, ap (λ (r : Root). weighR v r g) (root-is here 1 fl), W .weight g g0);
             shape = (pm, omega (arith, S .1), W .fill, W .inside);
             top = S .3 .0;
             hands = λ p h. omega arith;
@@ -163,7 +163,7 @@ module _ (P : ℕ) (v : Vol) (G : Good P v (λ p. 0)) (pos : 0 < P) (big : P ≤
     )
       where
         S : Shape P v 1 t n
-        S = shape-is P v (λ p. 0) G pos big a f ha hf uf 1 fl
+        S = shape-is here 1 fl
 
         F : Fill v 1 t (suc m)
         F = subst (λ (x : ℕ). Fill v 1 t x) nm (S .2)
@@ -178,7 +178,7 @@ module _ (P : ℕ) (v : Vol) (G : Good P v (λ p. 0)) (pos : 0 < P) (big : P ≤
         lt = omega (arith, S .1)
 
         W : Shrunk P v v₂ 1 t t m (λ g. g d)
-        W = shrunk-leaf P v t m pos pt pm lt F (S .3)
+        W = shrunk-leaf P v t m (here .spot .pos) pt pm lt F (S .3)
 
         pd : 0 < d
         pd = F .2 m lt .0 (omega arith)
@@ -187,12 +187,12 @@ module _ (P : ℕ) (v : Vol) (G : Good P v (λ p. 0)) (pos : 0 < P) (big : P ≤
         sd = some-pos d pd
 
         one : 1 ≤ usedPages (user v) a
-        one = paid 1 (omega (arith, ap (λ (r : Root). weighR v r some) (root-is P v (λ p. 0) G pos big a f ha hf uf 1 fl), some-pos t pt))
+        one = paid 1 (omega (arith, ap (λ (r : Root). weighR v r some) (root-is here 1 fl), some-pos t pt))
 
-        K : Blocks P v (λ p. 0) G pos big a f ha hf uf (hit t) v₂
+        K : Blocks here (hit t) v₂
         K = record {
           none = hit-zero t;
-          only = own P v (λ p. 0) G pos big a f ha hf uf t (S .3 .0) (omega (arith, ap (λ (r : Root). weighR v r (hit t)) (root-is P v (λ p. 0) G pos big a f ha hf uf 1 fl), hit-same t pt)) .0;
+          only = own here t (S .3 .0) (omega (arith, ap (λ (r : Root). weighR v r (hit t)) (root-is here 1 fl), hit-same t pt)) .0;
           agree = setSlot-agree v t m 0;
           master = λ k. setSlot-page v t m 0 0 k (omega (arith, pt));
         }
@@ -201,10 +201,10 @@ module _ (P : ℕ) (v : Vol) (G : Good P v (λ p. 0)) (pos : 0 < P) (big : P ≤
         mid = omega (arith, lt)
 
         at : (i : ℕ) → pageAt v (fileAt v e) i ≡ pageAt v (tree 1 t) i
-        at i = ap (λ (r : Root). pageAt v r i) (root-is P v (λ p. 0) G pos big a f ha hf uf 1 fl)
+        at i = ap (λ (r : Root). pageAt v r i) (root-is here 1 fl)
 
         ix : indexAt v (fileAt v e) (m / 512) ≡ t
-        ix = ap₂ (λ (r : Root) (i : ℕ). indexAt v r i) (root-is P v (λ p. 0) G pos big a f ha hf uf 1 fl) (let q : m / 512 ≡ 0 = omega (arith, lt) in q) ∙ index-1 v t
+        ix = ap₂ (λ (r : Root) (i : ℕ). indexAt v r i) (root-is here 1 fl) (let q : m / 512 ≡ 0 = omega (arith, lt) in q) ∙ index-1 v t
 
         lastly : (g : ℕ → ℕ) → last v (fileAt v e) m g ≡ g d
         lastly g = last-mid v (fileAt v e) m g mid ∙ ap g (at m ∙ page-1 v t m lt)

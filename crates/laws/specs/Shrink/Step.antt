@@ -17,7 +17,7 @@ use Rattle.laws.specs.Bits.Marked.{alone, mark-still}
 use Rattle.laws.specs.Count.Good.{Good, good, sound}
 use Rattle.laws.specs.File.Around.{Around, longer-still}
 use Rattle.laws.specs.File.Kinds.{kind-low, kind-high}
-use Rattle.laws.specs.File.Own.{shape-is}
+use Rattle.laws.specs.File.Owned.{shape-is, Owned}
 use Rattle.laws.specs.Frame.Beside.{still-beside, beside-trans}
 use Rattle.laws.specs.Frame.Places.{only-mark, only-trans}
 use Rattle.laws.specs.Frame.Still.{Still, still-sym, bitPage-same}
@@ -63,11 +63,14 @@ module _ (P : ℕ) (v : Vol) (S : Sound P v) (pos : 0 < P) (big : P ≤ 10737418
   G : Good P v (λ p. 0)
   G = good P v S
 
+  here : Owned P v (λ p. 0) a f
+  here = record { spot = record { good = G; pos = pos; ha = ha; hf = hf }; big = big; uf = uf }
+
   he : e < 65536
   he = omega arith
 
   shape : Shape P v x t n
-  shape = shape-is P v (λ p. 0) G pos big a f ha hf uf x refl
+  shape = shape-is here x refl
 
   low : n ≤ 512 → x ≡ 1
   low h = kind-low P v t n x shape kind (omega arith) h
@@ -83,10 +86,10 @@ module _ (P : ℕ) (v : Vol) (S : Sound P v) (pos : 0 < P) (big : P ≤ 10737418
       → Lost P v (mark P (entered a f v (setSlot v (indexOf v y t m) (m % 512) 0) m (pointer y t) (left 1)) (slot v (indexOf v y t m) (m % 512)) 0) a e m (λ p. 0)
   unfolding entered indexOf Shape
   onwarded h zero q s = absurd (let r : ⊥ = omega (arith, kind q) in r)
-  onwarded h (suc zero) q s = let c = lost-onward P v G pos big a f ha hf uf m nm (omega arith) q in
+  onwarded h (suc zero) q s = let c = lost-onward here m nm (omega arith) q in
       subst (λ (k : ℕ). Lost P v (mark P (entered a f v (setSlot v t k 0) m (pointer 1 t) (left 1)) (slot v t k) 0) a e m (λ p. 0)) (let r : m ≡ m % 512 = omega (arith, s .1) in r)
       (lost-release P v _ a e m _ (λ p. 0) (slot v t m) he (c .0) (c .1) (λ p. omega arith))
-  onwarded h (suc (suc zero)) q s = let c = lost-onward-sub P v G pos big a f ha hf uf m nm (omega (arith, s .0)) h q in
+  onwarded h (suc (suc zero)) q s = let c = lost-onward-sub here m nm (omega (arith, s .0)) h q in
       lost-release P v _ a e m _ (λ p. 0) (slot v (slot v t (m / 512)) (m % 512)) he (c .0) (c .1) (λ p. omega arith)
   onwarded h (suc (suc (suc y))) q s = absurd s
 
@@ -97,14 +100,14 @@ module _ (P : ℕ) (v : Vol) (S : Sound P v) (pos : 0 < P) (big : P ≤ 10737418
   -- the only page
   firsted : m ≡ 0 → Lost P v (shrinkTo P v a f first) a e m (λ p. 0)
   unfolding shrinkTo entered pointer
-  firsted h = let c = lost-first P v G pos big a f ha hf uf (omega arith) (low (omega arith)) in
+  firsted h = let c = lost-first here (omega arith) (low (omega arith)) in
       subst (λ (k : ℕ). Lost P v (shrinkTo P v a f first) a e k (λ p. 0)) (sym h)
       (lost-release P v _ a e 0 _ (λ p. 0) t he (lost-release P v _ a e 0 _ (λ p. hit p t) (slot v t 0) he (c .0) (c .2) (λ p. omega arith)) (c .1) (λ p. omega arith))
 
   -- 513 pages
   raised : m ≡ 512 → Lost P v (shrinkTo P v a f raise) a e m (λ p. 0)
   unfolding shrinkTo entered
-  raised h = let c = lost-raise P v G pos big a f ha hf uf (omega arith) (high (omega arith)) in let b : ℕ = slot v t 1 in
+  raised h = let c = lost-raise here (omega arith) (high (omega arith)) in let b : ℕ = slot v t 1 in
       subst (λ (k : ℕ). Lost P v (shrinkTo P v a f raise) a e k (λ p. 0)) (sym h)
       (lost-release P v _ a e 512 _ (λ p. 0) t he
       (lost-release P v _ a e 512 _ (λ p. hit p t) b he (lost-release P v _ a e 512 _ (λ p. hit p t + hit p b) (slot v b 0) he (c .0) (c .3) (λ p. omega arith)) (c .2) (λ p. omega arith)) (c .1) (λ p. omega arith))
@@ -112,7 +115,7 @@ module _ (P : ℕ) (v : Vol) (S : Sound P v) (pos : 0 < P) (big : P ≤ 10737418
   -- the only page of the last index block of several
   blocked : m % 512 ≡ 0 → 512 < m → Lost P v (shrinkTo P v a f block) a e m (λ p. 0)
   unfolding shrinkTo entered
-  blocked h i = let c = lost-block P v G pos big a f ha hf uf m nm i h (high (omega arith)) in let b : ℕ = slot v t (m / 512) in
+  blocked h i = let c = lost-block here m nm i h (high (omega arith)) in let b : ℕ = slot v t (m / 512) in
       lost-release P v _ a e m _ (λ p. 0) b he (lost-release P v _ a e m _ (λ p. hit p b) (slot v b 0) he (c .0) (c .2) (λ p. omega arith)) (c .1) (λ p. omega arith)
 
   -- the whole step: the pages of the last position are free again

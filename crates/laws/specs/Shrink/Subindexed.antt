@@ -5,7 +5,7 @@ use Prim.Native.Nat.{ℕ, suc, _+_, _-_, _*_, _/_, _%_, _≤_, _<_}
 use native.Mathlib.Nat.{mod-lt}
 use native.Mathlib.Omega.{arith}
 use Rattle.sums.specs.Sum.{sum, sum-none, sum-at, sum-at₂, sum-only₂}
-use Rattle.book.specs.Entries.{userFile, objectFile, user, object, used, usedPages}
+use Rattle.book.specs.Entries.{userFile, objectFile, user, object, usedPages}
 use Rattle.book.specs.Files.{fileAt, Shape}
 use Rattle.book.specs.Grow.{finish}
 use Rattle.book.specs.Holders.{hit, some, all}
@@ -13,10 +13,9 @@ use Rattle.book.specs.Pointers.{slot, flags, page, pointer, setSlot}
 use Rattle.book.specs.Trees.{Root, tree, weigh, blocks, weighR, pageAt, indexAt, subindexOf, upto, rootBy, Fill, Below}
 use Rattle.book.specs.Words.{Vol, two}
 use Rattle.book.specs.Written.{word-ext}
-use Rattle.laws.specs.Count.Good.{Good}
 use Rattle.laws.specs.File.Finish.{Blocks}
 use Rattle.laws.specs.File.Finished.{finished}
-use Rattle.laws.specs.File.Own.{own, root-is, shape-is}
+use Rattle.laws.specs.File.Owned.{own, root-is, shape-is, Owned}
 use Rattle.laws.specs.Frame.Places.{only-slot}
 use Rattle.laws.specs.Frame.Roots.{weighR-nobody}
 use Rattle.laws.specs.Grow.Grown.{part-here}
@@ -26,7 +25,7 @@ use Rattle.laws.specs.Tree.Levels.{last, last-mid, last-block, last-rais
 use Rattle.laws.specs.Tree.Slot.{slot-here, slot-other, setSlot-page, setSlot-agree, Agree, hit-zero, hit-same, some-pos, some-zero, slot-same}
 use Rattle.laws.specs.Tree.Weigh.{weigh-none}
 
-module _ (P : ℕ) (v : Vol) (G : Good P v (λ p. 0)) (pos : 0 < P) (big : P ≤ 1073741824) (a f : ℕ) (ha : a < 256) (hf : f < 256) (uf : 0 < used (object v (256 * a + f))) where
+module _ {P : ℕ} {v : Vol} {a f : ℕ} (here : Owned P v (λ p. 0) a f) where
   abbrev e : ℕ
   e = 256 * a + f
 
@@ -54,14 +53,14 @@ module _ (P : ℕ) (v : Vol) (G : Good P v (λ p. 0)) (pos : 0 < P) (big : P ≤
     unfolding Shape rootBy weighR Fill Below weigh blocks pageAt
     lost-onward-sub = (
       lost P v v₂ _ a e m 2 t _ (λ g. g d₂) (λ p. hit p d₂)
-          (finished P v (λ p. 0) G pos big a f ha hf uf (hit X) v₂ K m 2 t (usedPages (user v) a - 1) (λ g. g d₂) (λ g. 0) (λ p. hit p d₂) record {
+          (finished here K m 2 t (usedPages (user v) a - 1) (λ g. g d₂) (λ g. 0) (λ p. hit p d₂) record {
             weight = λ g g0. omega (arith, whole g, W .weight g g0);
             shape = (hi, omega (arith, S .1), W .fill, W .inside);
             top = S .3 .0;
             hands = λ p h. omega arith;
             fresh = λ q z. refl;
             count = omega (arith, sd, one′);
-            within = omega (arith, within P v G pos big a f ha hf uf);
+            within = omega (arith, within here);
           }) nm (omega (arith, one′, need-mid m mid))
           (λ i h. ap (upto i 262144) (W .old i h) ∙ sym (pg i)) lastly
           (only-slot _ v X (m % 512) 0 (λ p j h. inl (mid, (h .0 ∙ sym ix, h .1, h .2)))),
@@ -69,13 +68,13 @@ module _ (P : ℕ) (v : Vol) (G : Good P v (λ p. 0)) (pos : 0 < P) (big : P ≤
     )
       where
         S : Shape P v 2 t n
-        S = shape-is P v (λ p. 0) G pos big a f ha hf uf 2 fl
+        S = shape-is here 2 fl
 
         F : Fill v 2 t (suc m)
         F = subst (λ (x : ℕ). Fill v 2 t x) nm (S .2)
 
         whole : (g : ℕ → ℕ) → weighR v (fileAt v e) g ≡ g t + sum 512 (λ k. weigh v 1 (slot v t k) g)
-        whole g = ap (λ (r : Root). weighR v r g) (root-is P v (λ p. 0) G pos big a f ha hf uf 2 fl)
+        whole g = ap (λ (r : Root). weighR v r g) (root-is here 2 fl)
 
         v₂ : Vol
         v₂ = setSlot v X (m % 512) 0
@@ -105,7 +104,7 @@ module _ (P : ℕ) (v : Vol) (G : Good P v (λ p. 0)) (pos : 0 < P) (big : P ≤
         at = omega (arith, hit-same X pX)
 
         one : (all P v (hit X) ≡ weighR v (fileAt v e) (hit X)) × (weighR v (fileAt v e) (hit X) ≡ 1)
-        one = own P v (λ p. 0) G pos big a f ha hf uf X (BX .0) (omega (arith, whole (hit X), at, sum-at 512 child (m / 512) i))
+        one = own here X (BX .0) (omega (arith, whole (hit X), at, sum-at 512 child (m / 512) i))
 
         tX : t ≢ X
         tX q = omega (arith, one, whole (hit X), at, sum-at 512 child (m / 512) i, subst (λ (y : ℕ). hit X y ≡ 1) (sym q) (hit-same X pX))
@@ -117,9 +116,9 @@ module _ (P : ℕ) (v : Vol) (G : Good P v (λ p. 0)) (pos : 0 < P) (big : P ≤
         sd = some-pos d₂ pd
 
         one′ : 1 ≤ usedPages (user v) a
-        one′ = paid P v G pos big a f ha hf uf 1 (omega (arith, whole some, some-pos t pt))
+        one′ = paid here 1 (omega (arith, whole some, some-pos t pt))
 
-        K : Blocks P v (λ p. 0) G pos big a f ha hf uf (hit X) v₂
+        K : Blocks here (hit X) v₂
         K = record { none = hit-zero X; only = one .0; agree = setSlot-agree v X (m % 512) 0; master = λ k. setSlot-page v X (m % 512) 0 0 k (omega (arith, pX)) }
 
         top : (j : ℕ) → slot v₂ t j ≡ slot v t j
@@ -128,13 +127,13 @@ module _ (P : ℕ) (v : Vol) (G : Good P v (λ p. 0)) (pos : 0 < P) (big : P ≤
         W : Shrunk P v v₂ 2 t t m (λ g. g d₂)
         W = shrunk-up P v v₂ (hit X) (setSlot-agree v X (m % 512) 0) 1 t m (λ g. g d₂) pt (omega arith) lt (λ j ne. top j)
             (λ j h ne. omega (arith, one, whole (hit X), at, sum-at₂ 512 child j (m / 512) h i ne, sum-none 512 (λ k. 0) (λ k l. refl)))
-            F (S .3) (subst (λ (y : ℕ). Shrunk P v v₂ 1 X y (m % 512) (λ g. g d₂)) (sym (top (m / 512))) (shrunk-leaf P v X (m % 512) pos pX mid (mod-lt m (omega arith)) FX BX))
+            F (S .3) (subst (λ (y : ℕ). Shrunk P v v₂ 1 X y (m % 512) (λ g. g d₂)) (sym (top (m / 512))) (shrunk-leaf P v X (m % 512) (here .spot .pos) pX mid (mod-lt m (omega arith)) FX BX))
 
         pg : (i : ℕ) → pageAt v (fileAt v e) i ≡ pageAt v (tree 2 t) i
-        pg i = ap (λ (r : Root). pageAt v r i) (root-is P v (λ p. 0) G pos big a f ha hf uf 2 fl)
+        pg i = ap (λ (r : Root). pageAt v r i) (root-is here 2 fl)
 
         ix : indexAt v (fileAt v e) (m / 512) ≡ X
-        ix = ap (λ (r : Root). indexAt v r (m / 512)) (root-is P v (λ p. 0) G pos big a f ha hf uf 2 fl) ∙ index-2 v t (m / 512) i
+        ix = ap (λ (r : Root). indexAt v r (m / 512)) (root-is here 2 fl) ∙ index-2 v t (m / 512) i
 
         lastly : (g : ℕ → ℕ) → last v (fileAt v e) m g ≡ g d₂
         lastly g = last-mid v (fileAt v e) m g mid ∙ ap g (pg m ∙ page-2 v t m lt)
@@ -151,14 +150,14 @@ module _ (P : ℕ) (v : Vol) (G : Good P v (λ p. 0)) (pos : 0 < P) (big : P ≤
     unfolding Shape rootBy weighR Fill Below weigh blocks pageAt subindexOf
     lost-block = (
       lost P v v₂ _ a e m 2 t _ (λ g. g b₃ + g d₃) (λ p. hit p b₃ + hit p d₃)
-          (finished P v (λ p. 0) G pos big a f ha hf uf (hit t) v₂ K m 2 t (usedPages (user v) a - 2) (λ g. g b₃ + g d₃) (λ g. 0) (λ p. hit p b₃ + hit p d₃) record {
+          (finished here K m 2 t (usedPages (user v) a - 2) (λ g. g b₃ + g d₃) (λ g. 0) (λ p. hit p b₃ + hit p d₃) record {
             weight = λ g g0. omega (arith, whole g, W .weight g g0);
             shape = (hi, omega (arith, S .1), W .fill, W .inside);
             top = S .3 .0;
             hands = λ p h. omega arith;
             fresh = λ q z. refl;
             count = omega (arith, some-pos b₃ pb, sd, two′);
-            within = omega (arith, within P v G pos big a f ha hf uf);
+            within = omega (arith, within here);
           }) nm (omega (arith, two′, need-block m start (omega arith)))
           (λ i h. ap (upto i 262144) (W .old i h) ∙ sym (pg i))
           lastly
@@ -168,13 +167,13 @@ module _ (P : ℕ) (v : Vol) (G : Good P v (λ p. 0)) (pos : 0 < P) (big : P ≤
     )
       where
         S : Shape P v 2 t n
-        S = shape-is P v (λ p. 0) G pos big a f ha hf uf 2 fl
+        S = shape-is here 2 fl
 
         F : Fill v 2 t (suc m)
         F = subst (λ (x : ℕ). Fill v 2 t x) nm (S .2)
 
         whole : (g : ℕ → ℕ) → weighR v (fileAt v e) g ≡ g t + sum 512 (λ k. weigh v 1 (slot v t k) g)
-        whole g = ap (λ (r : Root). weighR v r g) (root-is P v (λ p. 0) G pos big a f ha hf uf 2 fl)
+        whole g = ap (λ (r : Root). weighR v r g) (root-is here 2 fl)
 
         v₂ : Vol
         v₂ = setSlot v t (m / 512) 0
@@ -201,28 +200,28 @@ module _ (P : ℕ) (v : Vol) (G : Good P v (λ p. 0)) (pos : 0 < P) (big : P ≤
         sd = some-pos d₃ pd
 
         one : (all P v (hit t) ≡ weighR v (fileAt v e) (hit t)) × (weighR v (fileAt v e) (hit t) ≡ 1)
-        one = own P v (λ p. 0) G pos big a f ha hf uf t (S .3 .0) (omega (arith, whole (hit t), hit-same t pt))
+        one = own here t (S .3 .0) (omega (arith, whole (hit t), hit-same t pt))
 
         two′ : 2 ≤ usedPages (user v) a
-        two′ = paid P v G pos big a f ha hf uf 2 (omega (arith, whole some, some-pos t pt, some-pos b₃ pb, sum-at 512 (λ k. weigh v 1 (slot v t k) some) (m / 512) i))
+        two′ = paid here 2 (omega (arith, whole some, some-pos t pt, some-pos b₃ pb, sum-at 512 (λ k. weigh v 1 (slot v t k) some) (m / 512) i))
 
-        K : Blocks P v (λ p. 0) G pos big a f ha hf uf (hit t) v₂
+        K : Blocks here (hit t) v₂
         K = record { none = hit-zero t; only = one .0; agree = setSlot-agree v t (m / 512) 0; master = λ k. setSlot-page v t (m / 512) 0 0 k (omega (arith, pt)) }
 
         W : Shrunk P v v₂ 2 t t m (λ g. g b₃ + g d₃)
         W = shrunk-up P v v₂ (hit t) (setSlot-agree v t (m / 512) 0) 1 t m (λ g. g b₃ + g d₃) pt (omega arith) lt (λ j ne. slot-other v t (m / 512) 0 pt j ne)
             (λ j h ne. omega (arith, one, whole (hit t), hit-same t pt, sum-at 512 (λ k. weigh v 1 (slot v t k) (hit t)) j h, sum-none 512 (λ k. 0) (λ k l. refl)))
             F (S .3) (subst₂ (λ (y z : ℕ). Shrunk P v v₂ 1 b₃ y z (λ g. g b₃ + g d₃)) (sym (slot-here v t (m / 512) 0 pt)) (sym start)
-            (shrunk-block P v v₂ 0 b₃ (λ g. g d₃) pos Fb (shrunk-page P v v₂ d₃ pos)))
+            (shrunk-block P v v₂ 0 b₃ (λ g. g d₃) (here .spot .pos) Fb (shrunk-page P v v₂ d₃ (here .spot .pos))))
 
         pg : (i : ℕ) → pageAt v (fileAt v e) i ≡ pageAt v (tree 2 t) i
-        pg i = ap (λ (r : Root). pageAt v r i) (root-is P v (λ p. 0) G pos big a f ha hf uf 2 fl)
+        pg i = ap (λ (r : Root). pageAt v r i) (root-is here 2 fl)
 
         ix : indexAt v (fileAt v e) (m / 512) ≡ indexAt v (tree 2 t) (m / 512)
-        ix = ap (λ (r : Root). indexAt v r (m / 512)) (root-is P v (λ p. 0) G pos big a f ha hf uf 2 fl)
+        ix = ap (λ (r : Root). indexAt v r (m / 512)) (root-is here 2 fl)
 
         sub : subindexOf (fileAt v e) ≡ t
-        sub = ap subindexOf (root-is P v (λ p. 0) G pos big a f ha hf uf 2 fl)
+        sub = ap subindexOf (root-is here 2 fl)
 
         lastly : (g : ℕ → ℕ) → last v (fileAt v e) m g ≡ g b₃ + g d₃
         lastly g = omega (arith, last-block v (fileAt v e) m g start (omega arith), ap g (pg m ∙ page-2 v t m lt ∙ ap (slot v b₃) start), ap g (ix ∙ index-2 v t (m / 512) i))
@@ -242,14 +241,14 @@ module _ (P : ℕ) (v : Vol) (G : Good P v (λ p. 0)) (pos : 0 < P) (big : P ≤
     unfolding Shape rootBy weighR Fill Below weigh Agree subindexOf
     lost-raise = (
       lost P v v _ a e 512 1 t₄ _ (λ g. g t + (g b₄ + g d₄)) (λ p. hit p t + (hit p b₄ + hit p d₄))
-          (finished P v (λ p. 0) G pos big a f ha hf uf (λ x. 0) v K 512 1 t₄ (usedPages (user v) a - 3) (λ g. g t + (g b₄ + g d₄)) (λ g. 0) (λ p. hit p t + (hit p b₄ + hit p d₄)) record {
+          (finished here K 512 1 t₄ (usedPages (user v) a - 3) (λ g. g t + (g b₄ + g d₄)) (λ g. 0) (λ p. hit p t + (hit p b₄ + hit p d₄)) record {
             weight = λ g g0. omega (arith, whole g, two-children g g0);
             shape = (omega arith, omega arith, F .2 0 (omega arith), S .3 .1 0 (omega arith));
             top = S .3 .1 0 (omega arith) .0;
             hands = λ p h. omega arith;
             fresh = λ q z. refl;
             count = omega (arith, some-pos t pt, some-pos b₄ pb, sd, three′);
-            within = omega (arith, within P v G pos big a f ha hf uf);
+            within = omega (arith, within here);
           }) n5 (omega (arith, three′, need-raise 512 refl))
           (λ i h. page-1 v t₄ i h ∙ sym (pg i ∙ page-2 v t i (omega arith) ∙ ap₂ (λ (y z : ℕ). slot v (slot v t y) z) (let q : i / 512 ≡ 0 = omega arith in q) (let q : i % 512 ≡ i = omega arith in q)))
           lastly (λ p k h. refl),
@@ -259,13 +258,13 @@ module _ (P : ℕ) (v : Vol) (G : Good P v (λ p. 0)) (pos : 0 < P) (big : P ≤
     )
       where
         S : Shape P v 2 t n
-        S = shape-is P v (λ p. 0) G pos big a f ha hf uf 2 fl
+        S = shape-is here 2 fl
 
         F : Fill v 2 t 513
         F = subst (λ (x : ℕ). Fill v 2 t x) n5 (S .2)
 
         whole : (g : ℕ → ℕ) → weighR v (fileAt v e) g ≡ g t + sum 512 (λ k. weigh v 1 (slot v t k) g)
-        whole g = ap (λ (r : Root). weighR v r g) (root-is P v (λ p. 0) G pos big a f ha hf uf 2 fl)
+        whole g = ap (λ (r : Root). weighR v r g) (root-is here 2 fl)
 
         pt : 0 < t
         pt = F .0 (omega arith)
@@ -283,7 +282,7 @@ module _ (P : ℕ) (v : Vol) (G : Good P v (λ p. 0)) (pos : 0 < P) (big : P ≤
         sd = some-pos d₄ pd
 
         Wb : Shrunk P v v 1 b₄ 0 0 (λ g. g b₄ + g d₄)
-        Wb = shrunk-block P v v 0 b₄ (λ g. g d₄) pos Fb (shrunk-page P v v d₄ pos)
+        Wb = shrunk-block P v v 0 b₄ (λ g. g d₄) (here .spot .pos) Fb (shrunk-page P v v d₄ (here .spot .pos))
 
         others : (j : ℕ) → j < 512 → j ≢ 0 → j ≢ 1 → slot v t j ≡ 0
         others j h p q = F .2 j h .1 (omega arith)
@@ -297,19 +296,19 @@ module _ (P : ℕ) (v : Vol) (G : Good P v (λ p. 0)) (pos : 0 < P) (big : P ≤
         )
 
         three′ : 3 ≤ usedPages (user v) a
-        three′ = paid P v G pos big a f ha hf uf 3 (omega (arith, whole some, two-children some some-zero, some-pos t pt, some-pos b₄ pb, sd))
+        three′ = paid here 3 (omega (arith, whole some, two-children some some-zero, some-pos t pt, some-pos b₄ pb, sd))
 
-        K : Blocks P v (λ p. 0) G pos big a f ha hf uf (λ x. 0) v
+        K : Blocks here (λ x. 0) v
         K = record { none = refl; only = all-zero P v ∙ sym (weighR-nobody v (λ x. 0) (λ x. refl) (fileAt v e)); agree = λ q h k. refl; master = λ k. refl }
 
         pg : (i : ℕ) → pageAt v (fileAt v e) i ≡ pageAt v (tree 2 t) i
-        pg i = ap (λ (r : Root). pageAt v r i) (root-is P v (λ p. 0) G pos big a f ha hf uf 2 fl)
+        pg i = ap (λ (r : Root). pageAt v r i) (root-is here 2 fl)
 
         ix : indexAt v (fileAt v e) 1 ≡ indexAt v (tree 2 t) 1
-        ix = ap (λ (r : Root). indexAt v r 1) (root-is P v (λ p. 0) G pos big a f ha hf uf 2 fl)
+        ix = ap (λ (r : Root). indexAt v r 1) (root-is here 2 fl)
 
         top : subindexOf (fileAt v e) ≡ t
-        top = ap subindexOf (root-is P v (λ p. 0) G pos big a f ha hf uf 2 fl)
+        top = ap subindexOf (root-is here 2 fl)
 
         lastly : (g : ℕ → ℕ) → last v (fileAt v e) 512 g ≡ g t + (g b₄ + g d₄)
         lastly g = omega (arith, last-raise v (fileAt v e) 512 g refl, ap g (pg 512 ∙ page-2 v t 512 (omega arith)), ap g (ix ∙ index-2 v t 1 (omega arith)), ap g top)

@@ -1,4 +1,4 @@
--- A file of a good volume: its root and shape by its flags, and that its pages are its own. Assumes nothing.
+-- A used file of a good volume (Owned): its root and shape by its flags, and that its pages are its own. Assumes nothing.
 use mathlib.Core.Path.{_≡_, ap, _∙_, subst}
 use Prim.Native.Nat.{ℕ, _+_, _-_, _*_, _≤_, _<_}
 use native.Mathlib.Omega.{arith}
@@ -9,12 +9,18 @@ use Rattle.book.specs.Pointers.{flags, page}
 use Rattle.book.specs.Rules.{Rule7}
 use Rattle.book.specs.Trees.{weighR, rootAt, rootBy}
 use Rattle.book.specs.Words.{Vol, two}
-use Rattle.laws.specs.Count.Good.{Good, bit-le}
+use Rattle.laws.specs.Count.Good.{bit-le}
+use Rattle.laws.specs.Frame.Edit.{Spot}
 use Rattle.laws.specs.Frame.Rest.{rest, all-rest, file-le}
 use Rattle.laws.specs.Tree.Pointer.{file-used}
 
-module _ (P : ℕ) (v : Vol) (hand : ℕ → ℕ) (G : Good P v hand) (pos : 0 < P) (big : P ≤ 1073741824) (a f : ℕ) (ha : a < 256) (hf : f < 256)
-    (uf : 0 < used (object v (256 * a + f))) where
+-- file f of user a is used, and page numbers fit into a pointer
+pub record Owned (P : ℕ) (v : Vol) (hand : ℕ → ℕ) (a f : ℕ) : Type 0 where
+  pub spot : Spot P v hand a f
+  pub big : P ≤ 1073741824
+  pub uf : 0 < used (object v (256 * a + f))
+
+module _ {P : ℕ} {v : Vol} {hand : ℕ → ℕ} {a f : ℕ} (here : Owned P v hand a f) where
   abbrev e : ℕ
   e = 256 * a + f
 
@@ -28,19 +34,19 @@ module _ (P : ℕ) (v : Vol) (hand : ℕ → ℕ) (G : Good P v hand) (pos : 0 <
   pub own : (q : ℕ) → q < P → 1 ≤ weighR v (fileAt v e) (hit q) → (all P v (hit q) ≡ weighR v (fileAt v e) (hit q)) × (weighR v (fileAt v e) (hit q) ≡ 1)
   unfolding rest
   own q h i = (
-    omega (arith, G .held q h, bit-le P v q, all-rest P v (hit q), file-le v (hit q) a f ha hf),
-    omega (arith, G .held q h, bit-le P v q, all-rest P v (hit q), file-le v (hit q) a f ha hf),
+    omega (arith, here .spot .good .held q h, bit-le P v q, all-rest P v (hit q), file-le v (hit q) a f (here .spot .ha) (here .spot .hf)),
+    omega (arith, here .spot .good .held q h, bit-le P v q, all-rest P v (hit q), file-le v (hit q) a f (here .spot .ha) (here .spot .hf)),
   )
 
   -- a page in hand is held by nobody
   pub loose : (q : ℕ) → q < P → 1 ≤ hand q → (all P v (hit q) ≡ 0) × (weighR v (fileAt v e) (hit q) ≡ 0) × (hand q ≡ 1)
   unfolding rest
-  loose q h i = (omega (arith, G .held q h, bit-le P v q), omega (arith, G .held q h, bit-le P v q, all-rest P v (hit q), file-le v (hit q) a f ha hf), omega (arith, G .held q h, bit-le P v q))
+  loose q h i = (omega (arith, here .spot .good .held q h, bit-le P v q), omega (arith, here .spot .good .held q h, bit-le P v q, all-rest P v (hit q), file-le v (hit q) a f (here .spot .ha) (here .spot .hf)), omega (arith, here .spot .good .held q h, bit-le P v q))
 
   pub root-is : (x : ℕ) → flags (object v e) 30 ≡ x → fileAt v e ≡ rootBy x t n
   unfolding rootAt
-  root-is x h = file-used v e uf ∙ ap (λ (y : ℕ). rootBy y t n) h
+  root-is x h = file-used v e (here .uf) ∙ ap (λ (y : ℕ). rootBy y t n) h
 
   pub shape-is : (x : ℕ) → flags (object v e) 30 ≡ x → Shape P v x t n
   unfolding Rule7 FileShape
-  shape-is x h = subst (λ (y : ℕ). Shape P v y t n) h (G .most .r7 e (omega arith) uf .0)
+  shape-is x h = subst (λ (y : ℕ). Shape P v y t n) h (here .spot .good .most .r7 e (omega arith) (here .uf) .0)
