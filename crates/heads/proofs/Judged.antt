@@ -1,5 +1,5 @@
 -- Rules 4 and 6, by the parts that the code judges. Assumes nothing.
-use mathlib.Core.Path.{_≡_, refl, sym, ap, _∙_, subst, fun-ext}
+use mathlib.Core.Path.{_≡_, sym, ap, _∙_, subst, fun-ext}
 use mathlib.Core.Bool.{Bool}
 use mathlib.Core.List.{List}
 use Prim.Native.Nat.{ℕ, _+_, _-_, _*_, _/_, _%_, _≤_, _<_}
@@ -8,7 +8,7 @@ use native.Mathlib.Omega.{arith}
 use Rattle.book.specs.Words.{Vol, vol}
 use Rattle.book.specs.Pointers.{flags, page, objectPointer, userPointer}
 use Rattle.book.specs.Trees.{Root, rootBy}
-use Rattle.book.specs.Entries.{Table, entry, user, object, userFile, objectFile, used, fileEntry}
+use Rattle.book.specs.Entries.{Table, entry, user, object, used, fileEntry}
 use Rattle.book.specs.Names.{Same, SameFile, LegalName, LegalType}
 use Rattle.book.specs.Rules.{Rule4, Rule6, FileOk}
 use Rattle.book.specs.Decides.{Decides}

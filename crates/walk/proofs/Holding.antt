@@ -1,13 +1,13 @@
 -- Walking over the system pages and over all that is held. Assumes nothing.
-use mathlib.Core.Path.{_≡_, refl, sym, ap, ap₂, _∙_, subst}
+use mathlib.Core.Path.{_≡_, sym, ap, ap₂, _∙_, subst}
 use mathlib.Core.List.{List}
 use mathlib.Core.Bool.{Bool, true, false}
 use Prim.Native.Nat.{ℕ, _+_, _*_, _/_, _%_, _≤_}
 use native.Mathlib.Omega.{arith}
 use Rattle.sums.specs.Sum.{sum, is, is-same, is-sym}
 use Rattle.book.specs.Words.{Vol, vol}
-use Rattle.book.specs.Pointers.{flags, page, bitPointer, userPointer}
-use Rattle.book.specs.Trees.{Root, run, rootBy, weighR}
+use Rattle.book.specs.Pointers.{page, bitPointer}
+use Rattle.book.specs.Trees.{Root, run, weighR}
 use Rattle.book.specs.Bits.{bitPages, bitFile}
 use Rattle.book.specs.Entries.{userFile, objectFile}
 use Rattle.book.specs.Files.{fileAt}

@@ -1,5 +1,6 @@
 // The pages of a tree: marking a pointer calls marking a block, which marks each of its pointers; the level falls, so the walk ends.
-// Each is told how many positions there may be below it, so that it need not look at the pointers past them.
+// Each is told how many positions there may be below it, so that it need not look at the pointers past them. A block whose pointers name
+// pages, those of level 0, is marked by a loop of its own: a call for each page would make the check of large files three times as long.
 use crate::Walk;
 use bits::marks::mark;
 use page::WORDS;
