@@ -23,10 +23,10 @@ use Rattle.laws.specs.Count.Reach.{below-shape}
 use Rattle.laws.specs.Frame.Edit.{obj-page, user-page}
 use Rattle.laws.specs.Frame.Renewed.{Master, rule1}
 use Rattle.laws.specs.Frame.Rest.{rest, file-le}
-use Rattle.laws.specs.Frame.Roots.{blocksR-add, weighR-frame, blocksR-frame, blocksR-le}
+use Rattle.laws.specs.Frame.Roots.{blocksR-add, blocksR-frame, blocksR-le, weighR-frame}
 use Rattle.laws.specs.Tree.Pointer.{page-ext}
-use Rattle.laws.specs.Tree.Slot.{pair-zero, Agree}
-use Rattle.laws.specs.Tree.Weigh.{BelowR, Below-frame}
+use Rattle.laws.specs.Tree.Slot.{Agree, pair-zero}
+use Rattle.laws.specs.Tree.Weigh.{Below-frame, BelowR}
 use Rattle.growth.specs.declared.entries.Head.{Head}
 use Rattle.growth.specs.Head.{FileHead, heldBy}
 use Rattle.growth.specs.Freeing.{Freeing, RootApart}

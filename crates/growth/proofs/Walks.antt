@@ -20,7 +20,7 @@ use Rattle.laws.specs.Bits.Claim.{bitPage-is}
 use Rattle.laws.specs.Bits.Freed.{freed-rule, freed-page, freed-master, freed-none, freed-one, freed-more, freed-ext}
 use Rattle.laws.specs.Tree.Pointer.{page-ext}
 use Rattle.laws.specs.Tree.Slot.{Agree, hit-zero, hit-same, slot-same}
-use Rattle.laws.specs.Tree.Weigh.{BelowR, weigh-none, weigh-frame, blocks-frame, Below-frame}
+use Rattle.laws.specs.Tree.Weigh.{Below-frame, BelowR, blocks-frame, weigh-frame, weigh-none}
 use Rattle.bits.specs.File.{BitsAt}
 use Rattle.bits.proofs.Places.{bits-at}
 use Rattle.growth.specs.Freeing.{Freeing, Apart, RootApart}

@@ -13,7 +13,7 @@ use Rattle.book.specs.Names.{Same, SameFile, LegalName, LegalType}
 use Rattle.book.specs.Rules.{Rule4, Rule6, FileOk}
 use Rattle.book.specs.Decides.{Decides}
 use Rattle.page.proofs.Deciding.{decides-iff}
-use Rattle.laws.specs.File.Named.{SameFile-ten, ten-SameFile, Same-sym}
+use Rattle.laws.specs.File.Named.{Same-sym, SameFile-ten, ten-SameFile}
 use Rattle.tree.specs.Ends.{Ends}
 use Rattle.tree.proofs.Reach.{user-root, object-root}
 use Rattle.tree.proofs.Absent.{ends-unused}

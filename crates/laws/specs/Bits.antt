@@ -3,7 +3,6 @@ pub mod Choose
 pub mod Claim
 pub mod Claims
 pub mod Freed
-pub mod Highest
 pub mod Mark
 pub mod Marked
 pub mod Runs

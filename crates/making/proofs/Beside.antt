@@ -19,7 +19,7 @@ use Rattle.laws.specs.Bits.Claim.{bitPage-rest, claim-bit, claim-bit-other}
 use Rattle.laws.specs.Count.Good.{good}
 use Rattle.laws.specs.Create.Join.{pay-page}
 use Rattle.laws.specs.Create.Placed.{extend-free, extend-pos, extend-master}
-use Rattle.laws.specs.Create.Vacant.{Vacant, Reached, object-none, top-vacant, index-vacant}
+use Rattle.laws.specs.Create.Vacant.{Reached, Vacant, index-vacant, object-none, top-vacant}
 use Rattle.laws.specs.Frame.Rest.{rest}
 use Rattle.laws.specs.Frame.Roots.{blocksR-le}
 use Rattle.bits.specs.File.{BitsAt}

@@ -18,7 +18,7 @@ use Rattle.book.specs.Create.{extend, started, raised, raises, withUserPage, wi
 use Rattle.laws.specs.Bits.Choose.{lowest-chooser}
 use Rattle.laws.specs.Create.Join.{SlotWords}
 use Rattle.laws.specs.Create.Placed.{Placed, extend-pos, extend-master, extend-slot, extend-bare, extend-placed}
-use Rattle.laws.specs.Create.Vacant.{Vacant, Reached, reached-kept, object-one, object-two, object-slot, object-none, user-vacant, top-vacant}
+use Rattle.laws.specs.Create.Vacant.{Reached, Vacant, object-none, object-one, object-slot, object-two, reached-kept, top-vacant, user-vacant}
 use Rattle.laws.specs.Frame.Places.{UnreservedWords, Either}
 use Rattle.laws.specs.Tree.Pointer.{flags-ext, page-ext}
 use Rattle.making.proofs.Ready.{same-pages, ready-next}

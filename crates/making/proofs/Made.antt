@@ -10,8 +10,7 @@ use Rattle.book.specs.Entries.{Table, user, used, usedPages, spare, unreserved,
 use Rattle.book.specs.Image.{pages, mostPages, Ready}
 use Rattle.book.specs.Rules.{Rule4}
 use Rattle.book.specs.Create.{userEntry, objectEntry, userNeed, fileNeed, userPlace, filePlace, createUser, createIndexed, createContiguous}
-use Rattle.laws.specs.Bits.Choose.{lowest-chooser}
-use Rattle.laws.specs.Bits.Highest.{FreeRun, run-found}
+use Rattle.laws.specs.Bits.Choose.{FreeRun, lowest-chooser, run-found}
 use Rattle.laws.specs.Count.Room.{given-room}
 use Rattle.laws.specs.Create.FilePlace.{FilePlaced, file-placed}
 use Rattle.laws.specs.Create.User.{new-first}

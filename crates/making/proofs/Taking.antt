@@ -10,7 +10,7 @@ use Rattle.book.specs.Entries.{unreserved}
 use Rattle.book.specs.Holders.{hit}
 use Rattle.book.specs.Rules.{Sound}
 use Rattle.book.specs.Create.{pay, extend, started, raised}
-use Rattle.laws.specs.Bits.Choose.{lowest-chooser, chosen}
+use Rattle.laws.specs.Bits.Choose.{chosen, lowest-chooser}
 use Rattle.laws.specs.Bits.Claim.{free-pos, claim-good, claim-master, claim-free}
 use Rattle.laws.specs.Count.Good.{Good, good, free}
 use Rattle.laws.specs.Count.Room.{system-room}

@@ -21,7 +21,7 @@ ghost use Rattle.book.specs.Bits.{lowestFree, claim};
 ghost use Rattle.book.specs.Entries.{userPage, objectPage, unreserved as unreservedOf};
 ghost use Rattle.book.specs.Image.{pages, mostPages, Ready};
 ghost use Rattle.book.specs.Create.{extend as extendOf, started, raised, raises as raisesFor, withUserPage, withSubindex, userNeed, userPlace, objectIndex, fileNeed, withIndex, withObjectPage, filePlace};
-ghost use Rattle.laws.specs.Create.Vacant.{Vacant, Reached};
+ghost use Rattle.laws.specs.Create.Vacant.{Reached, Vacant};
 ghost use Rattle.bits.specs.File.{BitsAt};
 
 // The flags of a pointer to an index block, and to a subindex block.

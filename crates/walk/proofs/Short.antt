@@ -12,7 +12,7 @@ use Rattle.book.specs.Trees.{Root, tree, run, rootAt, rootBy, pageAt, Fill}
 use Rattle.book.specs.Entries.{object, used, pageCount, userFile, objectFile, objectPages}
 use Rattle.book.specs.Files.{Shape, FileShape, fileAt}
 use Rattle.book.specs.Rules.{Rule2, Rule3, Rule5, Rule5By, Rule7}
-use Rattle.laws.specs.Tree.Pointer.{root-0, root-1, root-2, zero-flags, file-unused, file-used}
+use Rattle.laws.specs.Tree.Pointer.{file-unused, file-used, root-0, root-1, root-2, zero-flags}
 use Rattle.laws.specs.Tree.Positions.{root-one}
 use Rattle.laws.specs.Tree.Slot.{slot-zero}
 use Rattle.tree.specs.Ends.{Ends}

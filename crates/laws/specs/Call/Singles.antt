@@ -11,7 +11,7 @@ use Rattle.book.specs.Rows.{Clear}
 use Rattle.book.specs.Rules.{Rule4, Rule6}
 use Rattle.book.specs.Words.{Words}
 
--- find user, find file, who holds and format: Find.single-find-user, Find.single-find-file, Who.single-who, FormatCall.single-format
+-- who holds and format: Count.Who.single-who, Format.Call.single-format
 
 module _ (img : List ℕ) where
   pub single-check : Single (checkCall img)

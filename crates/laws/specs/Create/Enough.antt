@@ -17,8 +17,7 @@ use Rattle.book.specs.Outcome.{Outcome, call, asking, judged}
 use Rattle.book.specs.Rows.{Lowest, Clear}
 use Rattle.book.specs.Rules.{Sound}
 use Rattle.book.specs.Words.{Vol, vol}
-use Rattle.laws.specs.Bits.Choose.{lowest-chooser}
-use Rattle.laws.specs.Bits.Highest.{FreeRun, run-found, run-none, run-exact}
+use Rattle.laws.specs.Bits.Choose.{lowest-chooser, FreeRun, run-found, run-none, run-exact}
 use Rattle.laws.specs.Call.Done.{clear-done, Asks, number-exact}
 use Rattle.laws.specs.Count.Good.{free}
 use Rattle.laws.specs.Count.Room.{system-room}

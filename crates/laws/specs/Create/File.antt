@@ -13,8 +13,7 @@ use Rattle.book.specs.Holders.{hit}
 use Rattle.book.specs.Rules.{Rule4, Sound}
 use Rattle.book.specs.Words.{Vol, Words, two}
 use Rattle.book.specs.Written.{put2-two}
-use Rattle.laws.specs.Bits.Choose.{Chooser}
-use Rattle.laws.specs.Bits.Highest.{FreeRun, run-found}
+use Rattle.laws.specs.Bits.Choose.{Chooser, FreeRun, run-found}
 use Rattle.laws.specs.Bits.Runs.{run-taking, taken}
 use Rattle.laws.specs.Bits.Taking.{NoWords, Taking, taking-none}
 use Rattle.laws.specs.Count.Good.{Good, good}

@@ -23,7 +23,7 @@ use Rattle.laws.specs.Call.After.{after-call, kept-call}
 use Rattle.laws.specs.Call.Done.{done}
 use Rattle.laws.specs.Count.Good.{Good, good, sound, bit-le, free}
 use Rattle.laws.specs.Delete.File.{DeletePlaces, Deleted, deleted, used-zero}
-use Rattle.laws.specs.Frame.Beside.{Beside, beside-refl, beside-bits, beside-free}
+use Rattle.laws.specs.Frame.Beside.{Beside, beside-bits, beside-free, beside-refl}
 use Rattle.laws.specs.Frame.Places.{OnlyAt}
 use Rattle.laws.specs.Tree.Pointer.{file-unused}
 

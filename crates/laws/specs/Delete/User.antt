@@ -17,7 +17,7 @@ use Rattle.book.specs.Rules.{Sound}
 use Rattle.book.specs.Trees.{pageAt}
 use Rattle.book.specs.Words.{Vol, vol, zeros}
 use Rattle.book.specs.Written.{putWords-here, put2-page, put2-two}
-use Rattle.laws.specs.Call.After.{after-done, Stepped, Called, called}
+use Rattle.laws.specs.Call.After.{Called, Stepped, after-done, called}
 use Rattle.laws.specs.Count.Good.{grant-used}
 use Rattle.laws.specs.Frame.Places.{Places, EntryOf, UnreservedWords, Either, OnlyAt, only-then, only-put2, only-putWords}
 use Rattle.laws.specs.User.Words.{BesideUser, beside-same, user-has-page, user-now, user-beside, user-sound}

@@ -89,7 +89,7 @@ module _ (v : Vol) (q : ℕ) where
   pub only-wipe : OnlyAt (PageOf q) v (wipe v q)
   only-wipe p k a = wipe-page v q p k a
 
--- ---- laws
+-- ---- a slot, a bit, a page taken
 
 pub only-trans : (A : Places) (u v w : Vol) → OnlyAt A u v → OnlyAt A v w → OnlyAt A u w
 only-trans A u v w a b p k h = b p k h ∙ a p k h
