@@ -10,7 +10,7 @@ use lib.Count.{ones}
 use Rattle.sums.specs.Sum.{sum, sum-suc, sum-le, sum-const}
 use Rattle.sums.specs.Search.{every-yes, every-at}
 use Rattle.book.specs.Words.{Vol, word, put, wipe}
-use Rattle.book.specs.Pointers.{page, bitPointer}
+use Rattle.book.specs.Pointers.{page, bitPointer, flagsAbove}
 use Rattle.book.specs.Trees.{pageAt, upto}
 use Rattle.book.specs.Bits.{digit, toDigit, pageBits, bitPageOf, bitWord, bitPages, bitFile, bitPage, bit, mark, claim, claimRun, freeRun}
 use Rattle.book.specs.Image.{mostPages}
@@ -105,7 +105,7 @@ pub bits-kept : (P : ℕ) (v v′ : Vol) (b : ℕ) → v′ 0 bitPointer ≡ v 0
 unfolding page
 bits-kept P v v′ b h l f = record {
   most = f .most;
-  at = ap₂ (λ (x y : ℕ). x % 16384 * 65536 + y) h l ∙ f .at;
+  at = ap₂ (λ (x y : ℕ). x % flagsAbove * 65536 + y) h l ∙ f .at;
   some = f .some;
   below = f .below;
 }

@@ -3,9 +3,13 @@ use mathlib.Core.Path.{_≡_}
 use Prim.Native.Nat.{ℕ, zero, suc, _+_, _*_, _/_, _%_, _<_}
 use Rattle.book.specs.Words.{Words, Vol, two, word, put2}
 
+-- the flags stand above the fourteen lower bits of the first word
+abbrev pub flagsAbove : ℕ
+flagsAbove = 16384
+
 -- bit 31 is S and bit 30 is I: neither, I alone, S alone; both is an error
 unfoldable pub flags : Words → ℕ → ℕ
-flags w k = w k / 16384
+flags w k = w k / flagsAbove
 
 abbrev pub plain : ℕ
 plain = 0
@@ -21,7 +25,7 @@ wrong = 3
 
 -- the rest of the pointer: a page number
 unfoldable pub page : Words → ℕ → ℕ
-page w k = w k % 16384 * 65536 + w (suc k)
+page w k = w k % flagsAbove * 65536 + w (suc k)
 
 -- the pointer with flags x to page t
 unfoldable pub pointer : ℕ → ℕ → ℕ

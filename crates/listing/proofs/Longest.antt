@@ -15,7 +15,7 @@ use Rattle.book.specs.Words.{Words, Vol, vol, word}
 use Rattle.book.specs.Pointers.{slot}
 use Rattle.book.specs.Trees.{Root, tree, run, weigh, weighR, leaf, upto, pageAt}
 use Rattle.book.specs.Bits.{bitPages, bitFile}
-use Rattle.book.specs.Entries.{user, object, userFile, objectFile, entry, entryPage, entryWord, used, fileEntry}
+use Rattle.book.specs.Entries.{user, object, userFile, objectFile, entry, entryPage, entryWord, used, fileEntry, objectPages}
 use Rattle.book.specs.Holders.{some, system, systemPages}
 use Rattle.book.specs.Rules.{Rule10, Sound}
 use Rattle.book.specs.Rows.{Lowest, Clear}
@@ -165,10 +165,10 @@ module _ (v : Vol) where
             )
       ]
 
-  entry-lines : length (joined (userLines v) 256) ≤ sum 8 U * 2112 + sum 2048 O * 2112
+  entry-lines : length (joined (userLines v) 256) ≤ sum 8 U * 2112 + sum objectPages O * 2112
   entry-lines =
       let a : sum 256 (λ u. U (u / 32) * 66) ≡ sum 8 U * 2112 = sum-entries 8 66 U in
-      let b : sum 65536 (λ e. O (e / 32) * 66) ≡ sum 2048 O * 2112 = sum-entries 2048 66 O in
+      let b : sum 65536 (λ e. O (e / 32) * 66) ≡ sum objectPages O * 2112 = sum-entries objectPages 66 O in
       let c : sum 256 (λ u. sum 256 (λ f. O ((u * 256 + f) / 32) * 66)) ≡ sum 65536 (λ e. O (e / 32) * 66) = sum-rows 256 256 (λ e. O (e / 32) * 66) in
       omega (
         arith,
@@ -200,7 +200,7 @@ listing-length P v h S = omega (
   head-length P v,
   entry-lines v,
   pages-weigh some some-zero v (userFile v) 8,
-  pages-weigh some some-zero v (objectFile v) 2048,
+  pages-weigh some some-zero v (objectFile v) objectPages,
   entry-pages P v S,
 )
 

@@ -18,6 +18,7 @@ use Rattle.book.specs.Calls.{checkCall, findUserCall, findFileCall, addressCall
 use Rattle.book.specs.Calls.{giveCall, takeCall, createIndexedCall, createContiguousCall, growCall, shrinkCall, deleteFileCall, writeCall, openCall}
 use Rattle.book.specs.Format.{middle}
 use Rattle.book.specs.Run.{wrongCall, pickCall, partCall, nameCall, namesCall, dataCall, numbered, stepCall}
+use Rattle.laws.specs.Call.Done.{done}
 use Rattle.laws.specs.Call.After.{kept-call}
 use Rattle.laws.specs.Call.Open.{kept-open}
 use Rattle.laws.specs.Call.Singles.{single-find-user, single-find-file}
@@ -39,9 +40,7 @@ pub record Fair (img : List ℕ) (C : Call ℕ) : Type 0 where
 
 -- so a call that came back with 0 left a ready image
 pub ready-after : (img : List ℕ) (C : Call ℕ) → Fair img C → (r : Numbers ℕ) (img′ : List ℕ) → Outcome C img r img′ → r .number ≡ 0 → Ready img′
-unfolding Outcome
-ready-after img C F r img′ (inl x) z = absurd (let h : 0 < r .number = lowest-counted (C .table) (r .number) (F .counted) (x .number) in omega arith)
-ready-after img C F r img′ (inr x) z = F .leaves r img′ x
+ready-after img C F r img′ o z = F .leaves r img′ (done C img r img′ (F .counted) o z)
 
 -- ---- once for all calls
 

@@ -14,7 +14,7 @@ ghost use mathlib.Core.Path.{_≡_};
 ghost use Prim.Native.Nat.{ℕ, _+_, _*_, _≤_, _<_};
 ghost use Rattle.book.specs.Words.{vol};
 ghost use Rattle.book.specs.Trees.{rootBy};
-ghost use Rattle.book.specs.Entries.{entry};
+ghost use Rattle.book.specs.Entries.{entry, objectPages};
 ghost use Rattle.book.specs.Image.{pages, Ready};
 ghost use Rattle.book.specs.Decides.{Decides};
 ghost use Rattle.book.specs.Calls.{IsUser, IsFile};
@@ -73,7 +73,7 @@ fn find_in(
     kind: &[u8],
     m: usize,
 ) -> Found
-    requires { ⌜ Reach (now img) (rootBy flags top 0) × (b < 2048) × (m ≤ 2) ⌝ }
+    requires { ⌜ Reach (now img) (rootBy flags top 0) × (b < objectPages) × (m ≤ 2) ⌝ }
     ensures { λ r. ⌜ FoundBy (λ (n : ℕ). (n < 256) × Fits m (now (name .entry)) (now (kind .entry)) (entry (vol (now (img .entry))) (rootBy flags top 0) (32 * b + n))) r ⌝ }
 {
     let mut i: usize = 0;

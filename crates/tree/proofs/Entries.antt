@@ -4,7 +4,7 @@ use Prim.Native.Nat.{ℕ, suc, _+_, _*_, _/_, _%_, _<_}
 use native.Mathlib.Omega.{arith}
 use Rattle.book.specs.Words.{Words, Vol, two, word}
 use Rattle.book.specs.Written.{word-pos}
-use Rattle.book.specs.Pointers.{flags, page}
+use Rattle.book.specs.Pointers.{flags, page, flagsAbove}
 use Rattle.book.specs.Trees.{run, rootBy}
 use Rattle.book.specs.Entries.{entryWord, entry, user, object, userPage, objectPage, used}
 use Rattle.book.specs.Files.{fileAt}
@@ -74,8 +74,8 @@ module _ (v : Vol) (q n w k : ℕ) (h : 0 < q) (e : w ≡ entryWord n) where
 
   pub there-page : page (v q) (w + k) ≡ page (entryIn v q n) k
   unfolding page
-  there-page = ap₂ (λ (x y : ℕ). x % 16384 * 65536 + y) there-word there-next
+  there-page = ap₂ (λ (x y : ℕ). x % flagsAbove * 65536 + y) there-word there-next
 
   pub there-flags : flags (v q) (w + k) ≡ flags (entryIn v q n) k
   unfolding flags
-  there-flags = ap (λ (x : ℕ). x / 16384) there-word
+  there-flags = ap (λ (x : ℕ). x / flagsAbove) there-word

@@ -19,7 +19,7 @@ ghost use mathlib.Core.Path.{_≡_};
 ghost use Prim.Native.Nat.{ℕ, _+_, _*_, _/_, _%_, _<_};
 ghost use Rattle.book.specs.Words.{vol};
 ghost use Rattle.book.specs.Trees.{pageAt};
-ghost use Rattle.book.specs.Entries.{objectFile, objectPage};
+ghost use Rattle.book.specs.Entries.{objectFile, objectPage, objectPages};
 ghost use Rattle.book.specs.Files.{fileAt};
 ghost use Rattle.book.specs.Image.{pages, Ready};
 ghost use Rattle.who.specs.Places.{In, Owned};
@@ -52,7 +52,7 @@ fn in_entry(img: &[u16], q: usize, e: usize, p: usize) -> Place
 
 // In the files of the entries on page q, which is page i of the object file.
 fn in_page(img: &[u16], q: usize, i: usize, p: usize) -> Owner
-    requires { ⌜ Ready (now img) × (i < 2048) × (q ≡ pageAt (vol (now img)) (objectFile (vol (now img))) i) × (q < pages (now img)) × (0 < p) × (p < pages (now img)) ⌝ }
+    requires { ⌜ Ready (now img) × (i < objectPages) × (q ≡ pageAt (vol (now img)) (objectFile (vol (now img))) i) × (q < pages (now img)) × (0 < p) × (p < pages (now img)) ⌝ }
     ensures { λ r. ⌜ Owned (vol (now (img .entry))) p (λ (e : ℕ). e / 32 ≡ i) r ⌝ }
 {
     if q == 0 {

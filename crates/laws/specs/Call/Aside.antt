@@ -10,7 +10,7 @@ use Rattle.book.specs.Trees.{pageAt}
 use Rattle.book.specs.Entries.{user, object, used, given, usedPages, spare, pageCount, fileEntry, newUser, newFile}
 use Rattle.book.specs.Files.{fileAt, need}
 use Rattle.book.specs.Image.{pages, Whole, IndexArg}
-use Rattle.book.specs.Pointers.{flags}
+use Rattle.book.specs.Pointers.{flags, flagsAbove}
 use Rattle.book.specs.Rules.{Sound}
 use Rattle.book.specs.Answers.{Numbers}
 use Rattle.book.specs.Rows.{Clear}
@@ -210,7 +210,7 @@ module _ (u : ℕ) (v v′ : Vol) (t : Untouched u v v′) where
 
     kind-stays : Grows v (fileEntry u f) → Grows v′ (fileEntry u f)
     unfolding flags
-    kind-stays k r = k (sym (ap (λ (x : ℕ). x / 16384) (t .files f hf 30 (omega arith))) ∙ r .0, omega (arith, r .1, pages-stay))
+    kind-stays k r = k (sym (ap (λ (x : ℕ). x / flagsAbove) (t .files f hf 30 (omega arith))) ∙ r .0, omega (arith, r .1, pages-stay))
 
 pub space-others : (u : ℕ) → u < 256 → (l : List Step) (img img′ : List ℕ) → Calls l img img′ → 0 < used (user (vol img) u) → AllAside u l
     → (spare (vol img′) u ≡ spare (vol img) u) × ((f : ℕ) → f < 256 → pageCount (object (vol img′) (fileEntry u f)) ≡ pageCount (object (vol img) (fileEntry u f)))

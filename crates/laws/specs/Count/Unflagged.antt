@@ -4,6 +4,7 @@ use mathlib.Core.Logic.{inl, inr}
 use Prim.Native.Nat.{ℕ, zero, suc, _*_, _≤_, _<_}
 use native.Mathlib.Nat.{eq-zero-or-pos}
 use native.Mathlib.Omega.{arith}
+use Rattle.book.specs.Image.{mostPages}
 use Rattle.book.specs.Words.{Words, Vol, two, word}
 use Rattle.book.specs.Pointers.{flags, slot, Inside, wrong, userPointer, objectPointer}
 use Rattle.book.specs.Trees.{Root, tree, run, Below}
@@ -31,7 +32,7 @@ unfolding Rule7 FileShape
 both-file P v r e h u q = both-shape P v _ _ _ q (r e h u .0)
 
 -- a pointer with a flag is a number not below P
-pub flagged-high : (w : Words) (k P : ℕ) → P ≤ 16384 → 0 < flags w k → P ≤ two w k
+pub flagged-high : (w : Words) (k P : ℕ) → P ≤ mostPages → 0 < flags w k → P ≤ two w k
 unfolding flags two
 flagged-high w k P h f = omega arith
 
@@ -49,25 +50,25 @@ unfolding Below
 top-below v P zero t b = b
 top-below v P (suc l) t b = b .0
 
-slot-unflagged : (v : Vol) (P t k : ℕ) → P ≤ 16384 → slot v t k < P → flags (word v t) (2 * k) ≡ 0
+slot-unflagged : (v : Vol) (P t k : ℕ) → P ≤ mostPages → slot v t k < P → flags (word v t) (2 * k) ≡ 0
 unfolding slot
 slot-unflagged v P t k h b = elim (eq-zero-or-pos (flags (word v t) (2 * k))) [
   | inl z ↦ z
   | inr q ↦ let r : ⊥ = omega (arith, b, flagged-high (word v t) (2 * k) P h q) in absurd r
 ]
 
-tree-unflagged : (v : Vol) (P : ℕ) → P ≤ 16384 → (l t : ℕ) → Below v P l t → NoFlags v l t
+tree-unflagged : (v : Vol) (P : ℕ) → P ≤ mostPages → (l t : ℕ) → Below v P l t → NoFlags v l t
 unfolding Below NoFlags
 tree-unflagged v P h zero t b = tt
 tree-unflagged v P h (suc l) t b = λ k i. (slot-unflagged v P t k h (top-below v P l (slot v t k) (b .1 k i)), tree-unflagged v P h l (slot v t k) (b .1 k i))
 
-root-unflagged : (v : Vol) (P : ℕ) → P ≤ 16384 → (r : Root) → BelowR v P r → NoFlagsIn v r
+root-unflagged : (v : Vol) (P : ℕ) → P ≤ mostPages → (r : Root) → BelowR v P r → NoFlagsIn v r
 unfolding BelowR NoFlagsIn
 root-unflagged v P h (tree l t) b = tree-unflagged v P h l t b
 root-unflagged v P h (run s n) b = tt
 
 -- on a sound volume: in the user file, the object file and every file
-pub unflagged : (P : ℕ) (v : Vol) → P ≤ 16384 → Sound P v
+pub unflagged : (P : ℕ) (v : Vol) → P ≤ mostPages → Sound P v
     → NoFlagsIn v (userFile v) × NoFlagsIn v (objectFile v) × ((u f : ℕ) → u < 256 → f < 256 → NoFlagsIn v (fileAt v (fileEntry u f)))
 unflagged P v h S = let W = sound-within P v (most P v S) in
     (root-unflagged v P h (userFile v) (W .users), root-unflagged v P h (objectFile v) (W .objs), λ u f i j. root-unflagged v P h (fileAt v (fileEntry u f)) (W .files u f i j))

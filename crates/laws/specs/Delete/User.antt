@@ -5,6 +5,7 @@ use mathlib.Core.List.{List}
 use Prim.Native.Nat.{ℕ, _+_, _/_, _≤_, _<_}
 use native.Mathlib.Omega.{arith}
 use Rattle.sums.specs.Search.{pick-no}
+use Rattle.book.specs.Pointers.{unreservedCount}
 use Rattle.book.specs.Answers.{Numbers}
 use Rattle.book.specs.Calls.{NoFiles, deleteUserCall}
 use Rattle.book.specs.Delete.{deleteUser}
@@ -28,12 +29,12 @@ UserWordsOf v u = Either (EntryOf (userPage v u) u) UnreservedWords
 
 deleted-only : (v : Vol) (u : ℕ) → OnlyAt (UserWordsOf v u) v (deleteUser v u)
 unfolding deleteUser
-deleted-only v u = only-then (EntryOf (userPage v u) u) UnreservedWords v _ _ (only-putWords v (userPage v u) (entryWord u) 32 zeros) (only-put2 _ 0 1022 _)
+deleted-only v u = only-then (EntryOf (userPage v u) u) UnreservedWords v _ _ (only-putWords v (userPage v u) (entryWord u) 32 zeros) (only-put2 _ 0 unreservedCount _)
 
 -- his given pages are unreserved again
 deleted-back : (v : Vol) (u : ℕ) → unreserved (deleteUser v u) ≡ unreserved v + given (user v) u
 unfolding deleteUser unreserved
-deleted-back v u = put2-two _ 0 1022 _
+deleted-back v u = put2-two _ 0 unreservedCount _
 
 module _ (P : ℕ) (v : Vol) (S : Sound P v) (pos : 0 < P) (u : ℕ) (hu : u < 256) (uu : 0 < used (user v u)) where
   abbrev U : ℕ
@@ -54,7 +55,7 @@ module _ (P : ℕ) (v : Vol) (S : Sound P v) (pos : 0 < P) (u : ℕ) (hu : u < 2
   cleared =
       let i = user-has-page P v S pos u hu uu v′ only in
       user-now P v S pos u hu uu v′ only 0
-      ∙ put2-page (putEntry v U u zeros) 0 1022 _ U (E + 0) (λ e. let r : ⊥ = omega arith in absurd r)
+      ∙ put2-page (putEntry v U u zeros) 0 unreservedCount _ U (E + 0) (λ e. let r : ⊥ = omega arith in absurd r)
       ∙ putWords-here v U E 32 zeros (E + 0) (omega arith) (omega arith)
 
   unused : used (user v′ u) ≡ 0

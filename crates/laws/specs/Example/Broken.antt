@@ -9,7 +9,7 @@ use lib.ListN.{getD}
 use Rattle.sums.specs.Sum.{is}
 use Rattle.sums.specs.Search.{pick}
 use Rattle.book.specs.Words.{Words, Vol, two, word, put}
-use Rattle.book.specs.Pointers.{flags, page, slot, Zero, Inside, bitPointer, objectPointer, unreservedCount, userPointer, volumeName}
+use Rattle.book.specs.Pointers.{flags, page, slot, Zero, Inside, bitPointer, objectPointer, unreservedCount, userPointer, volumeName, flagsAbove}
 use Rattle.book.specs.Trees.{Root, tree, Below}
 use Rattle.book.specs.Bits.{bitPages, bit}
 use Rattle.book.specs.Entries.{entry, user, object, userFile, objectFile, used, unreserved}
@@ -70,7 +70,7 @@ yard = cell 0 volumeName 22849 ∷ cell 0 1009 21060 ∷ cell 0 (suc bitPointer)
 
 -- the same with a user index in page 1 and an object index in page o
 abbrev pub trees : ℕ → List Cell
-trees o = cell 0 userPointer 16384 ∷ cell 0 (suc userPointer) 1 ∷ cell 0 objectPointer 16384 ∷ cell 0 (suc objectPointer) o ∷ yard
+trees o = cell 0 userPointer flagsAbove ∷ cell 0 (suc userPointer) 1 ∷ cell 0 objectPointer flagsAbove ∷ cell 0 (suc objectPointer) o ∷ yard
 
 -- ---- the ten volumes
 
@@ -154,9 +154,9 @@ breaks2 = inr (head-rule (volume broken2) head2, inl (refl, no))
 -- what the master page of such a volume says
 pub record Master (v : Vol) (o : ℕ) : Type 0 where
   pub head : Head v
-  pub ufl : v 0 userPointer ≡ 16384
+  pub ufl : v 0 userPointer ≡ flagsAbove
   pub upg : v 0 (suc userPointer) ≡ 1
-  pub ofl : v 0 objectPointer ≡ 16384
+  pub ofl : v 0 objectPointer ≡ flagsAbove
   pub opg : v 0 (suc objectPointer) ≡ o
 
 module _ (v : Vol) (o : ℕ) (M : Master v o) where

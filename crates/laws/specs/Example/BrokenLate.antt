@@ -10,7 +10,7 @@ use lib.ListN.{getD, List·getD-eq-default}
 use Rattle.sums.specs.Sum.{sum, is, sum-suc, sum-zero, sum-at}
 use Rattle.sums.specs.Search.{pick}
 use Rattle.book.specs.Words.{Words, Vol, two, word, put}
-use Rattle.book.specs.Pointers.{page, slot, Zero, bitPointer, objectPointer, userPointer}
+use Rattle.book.specs.Pointers.{page, slot, Zero, bitPointer, objectPointer, userPointer, flagsAbove}
 use Rattle.book.specs.Trees.{Root, tree, weigh, weighR, pageAt, upto}
 use Rattle.book.specs.Bits.{digit, bitPages, bitFile, bitPage, bit}
 use Rattle.book.specs.Entries.{entry, user, object, userFile, objectFile, used, given, usedPages, unreserved}
@@ -198,8 +198,8 @@ module _ (v : Vol) (F : Fresh v) where
   fresh-all : (g : ℕ → ℕ) → all 16 v g ≡ g 8
   unfolding bitFile bitPages weighR page
   fresh-all g =
-      all-none v (F .users) (F .objects) 16 g ∙ sum-suc 0 (λ i. g (v 0 bitPointer % 16384 * 65536 + v 0 (suc bitPointer) + i))
-      ∙ omega (arith, sum-zero (λ i. g (v 0 bitPointer % 16384 * 65536 + v 0 (suc bitPointer) + i)), ap g (let e : v 0 bitPointer % 16384 * 65536 + v 0 (suc bitPointer) + 0 ≡ 8 = omega (arith, F .head .high, F .head .low) in e))
+      all-none v (F .users) (F .objects) 16 g ∙ sum-suc 0 (λ i. g (v 0 bitPointer % flagsAbove * 65536 + v 0 (suc bitPointer) + i))
+      ∙ omega (arith, sum-zero (λ i. g (v 0 bitPointer % flagsAbove * 65536 + v 0 (suc bitPointer) + i)), ap g (let e : v 0 bitPointer % flagsAbove * 65536 + v 0 (suc bitPointer) + 0 ≡ 8 = omega (arith, F .head .high, F .head .low) in e))
 
   fresh-holders : (p : ℕ) → holders 16 v p ≡ is p 0 + hit p 8
   unfolding holders

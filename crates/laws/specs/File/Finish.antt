@@ -8,7 +8,7 @@ use Rattle.book.specs.Entries.{entry, userFile, objectFile, user, object, used,
 use Rattle.book.specs.Files.{fileAt, Shape, FileShape, pageBytes}
 use Rattle.book.specs.Grow.{finish}
 use Rattle.book.specs.Holders.{hit, some, all}
-use Rattle.book.specs.Pointers.{flags, page, pointer, objectPointer, unreservedCount}
+use Rattle.book.specs.Pointers.{flags, page, pointer, objectPointer, unreservedCount, flagsAbove}
 use Rattle.book.specs.Rules.{UserOk, FileOk, Rule4, Rule5, Rule5By, Rule6, Rule10}
 use Rattle.book.specs.Trees.{Root, weighR, blocksR, pageAt, rootAt, rootBy}
 use Rattle.book.specs.Words.{Vol, two, word, put2}
@@ -177,11 +177,11 @@ module _ {P : ℕ} {v : Vol} {hand : ℕ → ℕ} {a f : ℕ} (here : Owned P v 
 
     pub new-flags : t < P → flags (object v₃ ee) 30 ≡ kind
     unfolding flags
-    new-flags h = ap (λ (y : ℕ). y / 16384) (o-word 30 ∙ fin-30 v₂ UU OO a ee n (pointer kind t) x UO) ∙ flags-pointer kind t (omega arith)
+    new-flags h = ap (λ (y : ℕ). y / flagsAbove) (o-word 30 ∙ fin-30 v₂ UU OO a ee n (pointer kind t) x UO) ∙ flags-pointer kind t (omega arith)
 
     pub new-page : t < P → page (object v₃ ee) 30 ≡ t
     unfolding page
-    new-page h = ap₂ (λ (y z : ℕ). y % 16384 * 65536 + z) (o-word 30 ∙ fin-30 v₂ UU OO a ee n (pointer kind t) x UO) (o-word 31 ∙ fin-31 v₂ UU OO a ee n (pointer kind t) x UO) ∙ page-pointer kind t (omega arith)
+    new-page h = ap₂ (λ (y z : ℕ). y % flagsAbove * 65536 + z) (o-word 30 ∙ fin-30 v₂ UU OO a ee n (pointer kind t) x UO) (o-word 31 ∙ fin-31 v₂ UU OO a ee n (pointer kind t) x UO) ∙ page-pointer kind t (omega arith)
 
     pub user-kept : (k : ℕ) → k ≢ 16 → k ≢ 17 → user v₃ a k ≡ user v a k
     unfolding user entry

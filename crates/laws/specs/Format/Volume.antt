@@ -6,22 +6,18 @@ use Prim.Native.Nat.{ℕ, zero, suc, _+_, _-_, _/_, _%_, _≤_, _<_}
 use native.Mathlib.Nat.{not-suc-le-zero}
 use native.Mathlib.Decide.{ℕ-discrete, decLt}
 use native.Mathlib.Omega.{arith}
-use Rattle.book.specs.Pointers.{volumeName, objectPointer, userPointer, bitPointer}
-use Rattle.book.specs.Bits.{pageBits, bitPageOf, bitWord, bitPlace}
+use Rattle.book.specs.Pointers.{volumeName, objectPointer, userPointer, bitPointer, flags, page, pointer, Zero, unreservedCount}
+use Rattle.book.specs.Bits.{pageBits, bitPageOf, bitWord, bitPlace, digit, bitPages, bitFile, bitPage, bit, mark}
 use Rattle.book.specs.Entries.{unreserved}
-use Rattle.book.specs.Names.{Same}
-use Rattle.book.specs.Written.{digit-other, put-here, put-page, put-word}
+use Rattle.book.specs.Names.{Same, NameText, packed}
+use Rattle.book.specs.Written.{digit-other, put-here, put-page, put-word, word-pos, put2-hi, put2-lo, put2-two, put2-word, putWords-here, wipe-here, wipe-page}
 use Rattle.sums.specs.Sum.{sum, is, is-same, is-other, sum-suc, sum-zero, sum-ext, sum-const}
 use Rattle.book.specs.Words.{Vol, two, put2, putWords, wipe}
-use Rattle.book.specs.Pointers.{flags, page, pointer, Zero, bitPointer, objectPointer, unreservedCount, userPointer, volumeName}
 use Rattle.book.specs.Trees.{weighR, run}
-use Rattle.book.specs.Bits.{digit, bitPages, bitFile, bitPage, bit, mark, bitWord, pageBits}
-use Rattle.book.specs.Names.{NameText, packed}
 use Rattle.book.specs.Holders.{hit, some}
 use Rattle.book.specs.Image.{BitArg}
 use Rattle.book.specs.Rules.{Rule1, Sound}
 use Rattle.book.specs.Format.{wipeRun, markRun, directory, format}
-use Rattle.book.specs.Written.{word-pos, put2-hi, put2-lo, put2-two, put2-word, putWords-here, wipe-here, wipe-page}
 use Rattle.laws.specs.Bits.Claim.{bitPage-is, bitPage-pos}
 use Rattle.laws.specs.Bits.Mark.{mark-page, mark-master, mark-bit, mark-other}
 use Rattle.laws.specs.File.Packed.{packed-legal}
@@ -85,15 +81,15 @@ module _ (P : ℕ) (v : Vol) (r : Rule1 P v) (b : ℕ) (at : page (v 0) bitPoint
   abbrev W : ℕ
   W = bitWord d
 
-  of-d : B ≡ b + d / 16384
-  of-d = bitPage-is P v r d hd ∙ ap (λ (y : ℕ). y + d / 16384) at
+  of-d : B ≡ b + d / pageBits
+  of-d = bitPage-is P v r d hd ∙ ap (λ (y : ℕ). y + d / pageBits) at
 
   pub mark-past : digit (bitPlace p) (mark P v d x (b + bitPageOf p) (bitWord p)) ≡ digit (bitPlace p) (v (b + bitPageOf p) (bitWord p))
   unfolding mark
-  mark-past = elim (ℕ-discrete (b + p / 16384) B) [
-    | no a ↦ ap (digit (p % 16)) (put-page v B W _ (b + p / 16384) (p % 16384 / 16) a)
-    | yes q ↦ elim (ℕ-discrete (p % 16384 / 16) W) [
-      | no a ↦ ap (digit (p % 16)) (put-word v B W _ (b + p / 16384) (p % 16384 / 16) a)
+  mark-past = elim (ℕ-discrete (b + p / pageBits) B) [
+    | no a ↦ ap (digit (p % 16)) (put-page v B W _ (b + p / pageBits) (p % pageBits / 16) a)
+    | yes q ↦ elim (ℕ-discrete (p % pageBits / 16) W) [
+      | no a ↦ ap (digit (p % 16)) (put-word v B W _ (b + p / pageBits) (p % pageBits / 16) a)
       | yes q′ ↦
           let ne : p % 16 ≢ d % 16 = λ i. let z : ⊥ = omega (arith, i, q, q′, of-d) in z in
           ap₂ (λ (y w : ℕ). digit (p % 16) (mark P v d x y w)) q q′
@@ -294,7 +290,7 @@ module _ (P : ℕ) (v : Vol) (name : List ℕ) (b : ℕ) (T : NameText name) (A 
 
       bits-at : two (markRun P w₂ b n 0) bitPointer ≡ b
       unfolding two
-      bits-at = omega (arith, same 1020, same 1021, dir-bits .0, dir-bits .1)
+      bits-at = omega (arith, same bitPointer, same (suc bitPointer), dir-bits .0, dir-bits .1)
 
       -- the directory entry: the name, no objects and no users, the bit file at b, all but the master page and the bit file unreserved
       pub format-entry : Same 8 (format P v name b 0) volumeName (packed name) 0 × Zero (format P v name b 0) objectPointer × Zero (format P v name b 0) userPointer
@@ -305,7 +301,7 @@ module _ (P : ℕ) (v : Vol) (name : List ℕ) (b : ℕ) (T : NameText name) (A 
         formatted .noObjs,
         formatted .noUsers,
         bits-at,
-        two-ext (markRun P w₂ b n 0) (w₀ 0) 1022 (same 1022) (same 1023) ∙ dir-rest,
+        two-ext (markRun P w₂ b n 0) (w₀ 0) unreservedCount (same unreservedCount) (same (suc unreservedCount)) ∙ dir-rest,
       )
 
       -- the bits from P on are 0

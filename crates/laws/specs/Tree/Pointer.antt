@@ -5,28 +5,28 @@ use native.Mathlib.Omega.{arith}
 use Rattle.sums.specs.Search.{pick-yes, pick-no}
 use Rattle.book.specs.Entries.{object, used}
 use Rattle.book.specs.Files.{fileAt}
-use Rattle.book.specs.Pointers.{flags, page, Zero, pointer}
+use Rattle.book.specs.Pointers.{flags, page, Zero, pointer, flagsAbove}
 use Rattle.book.specs.Trees.{run, rootAt, rootBy, tree}
 use Rattle.book.specs.Words.{Vol, two, put2}
 use Rattle.book.specs.Written.{put2-hi, put2-lo}
 
 pub flags-ext : (w x : ℕ → ℕ) (k : ℕ) → w k ≡ x k → flags w k ≡ flags x k
 unfolding flags
-flags-ext w x k e = ap (λ (m : ℕ). m / 16384) e
+flags-ext w x k e = ap (λ (m : ℕ). m / flagsAbove) e
 
 pub page-ext : (w x : ℕ → ℕ) (k : ℕ) → w k ≡ x k → w (suc k) ≡ x (suc k) → page w k ≡ page x k
 unfolding page
-page-ext w x k a b = ap₂ (λ (m n : ℕ). m % 16384 * 65536 + n) a b
+page-ext w x k a b = ap₂ (λ (m n : ℕ). m % flagsAbove * 65536 + n) a b
 
 pub used-ext : (w x : ℕ → ℕ) → w 0 ≡ x 0 → used w ≡ used x
 unfolding used
 used-ext w x e = ap (λ (m : ℕ). m / 32768) e
 
-pub flags-pointer : (x t : ℕ) → t < 1073741824 → pointer x t / 65536 / 16384 ≡ x
+pub flags-pointer : (x t : ℕ) → t < 1073741824 → pointer x t / 65536 / flagsAbove ≡ x
 unfolding pointer
 flags-pointer x t h = omega arith
 
-pub page-pointer : (x t : ℕ) → t < 1073741824 → pointer x t / 65536 % 16384 * 65536 + pointer x t % 65536 ≡ t
+pub page-pointer : (x t : ℕ) → t < 1073741824 → pointer x t / 65536 % flagsAbove * 65536 + pointer x t % 65536 ≡ t
 unfolding pointer
 page-pointer x t h = omega arith
 
@@ -34,11 +34,11 @@ page-pointer x t h = omega arith
 module _ (v : Vol) (q j x t : ℕ) (h : t < 1073741824) where
   pub pointer-flags : flags (put2 v q j (pointer x t) q) j ≡ x
   unfolding flags
-  pointer-flags = ap (λ (y : ℕ). y / 16384) (put2-hi v q j (pointer x t)) ∙ flags-pointer x t h
+  pointer-flags = ap (λ (y : ℕ). y / flagsAbove) (put2-hi v q j (pointer x t)) ∙ flags-pointer x t h
 
   pub pointer-page : page (put2 v q j (pointer x t) q) j ≡ t
   unfolding page
-  pointer-page = ap₂ (λ (y z : ℕ). y % 16384 * 65536 + z) (put2-hi v q j (pointer x t)) (put2-lo v q j (pointer x t)) ∙ page-pointer x t h
+  pointer-page = ap₂ (λ (y z : ℕ). y % flagsAbove * 65536 + z) (put2-hi v q j (pointer x t)) (put2-lo v q j (pointer x t)) ∙ page-pointer x t h
 
 pub zero-flags : (w : ℕ → ℕ) (k : ℕ) → Zero w k → flags w k ≡ 0
 unfolding Zero flags

@@ -5,7 +5,7 @@ use borrow.Author.Count.{below-none, below-more}
 use borrow.Author.Needs.{needs}
 use native.Mathlib.Omega.{arith}
 use Rattle.book.specs.Words.{vol}
-use Rattle.book.specs.Entries.{objectFile}
+use Rattle.book.specs.Entries.{objectFile, objectPages}
 use Rattle.book.specs.Pointers.{objectPointer}
 use Rattle.tree.proofs.Reach.{reach-same, root-read, page-read}
 use Rattle.tree.proofs.Ready.{ready-objects}
@@ -15,10 +15,10 @@ use Rattle.who.proofs.files.in_files.Statement.{statement}
 use Rattle.who.proofs.files.in_files.Tie as tie
 
 abbrev Inv-loop : tie.InvT-loop
-Inv-loop img p flags top i₀ i = (i ≤ 2048) × ((j : ℕ) → j < i → (e : ℕ) → e / 32 ≡ j → Without (vol img) p e)
+Inv-loop img p flags top i₀ i = (i ≤ objectPages) × ((j : ℕ) → j < i → (e : ℕ) → e / 32 ≡ j → Without (vol img) p e)
 
 abbrev μ-loop : tie.MeasureT-loop
-μ-loop img p flags top i₀ i = 2048 - i
+μ-loop img p flags top i₀ i = objectPages - i
 
 flags-at-requires : tie.Need-flags-at-requires Inv-loop μ-loop
 flags-at-requires c κs = let d = c .before .pre .0 in (omega (arith, d .whole .least), omega arith)
