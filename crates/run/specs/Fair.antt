@@ -9,7 +9,7 @@ use native.Mathlib.Omega.{arith}
 use lib.ListN.{length, getD, take, drop}
 use Rattle.book.specs.Words.{Vol, vol}
 use Rattle.book.specs.Rules.{Sound}
-use Rattle.book.specs.Rows.{Rows, Clear, Counted, lowest-counted}
+use Rattle.book.specs.Rows.{Rows, Clear, Counted}
 use Rattle.book.specs.Answers.{Numbers}
 use Rattle.book.specs.Image.{pages, Whole, Ready}
 use Rattle.book.specs.Outcome.{Call, call, asking, judged, Outcome, DoneAs, Single}
