@@ -15,9 +15,9 @@ use Rattle.book.specs.Holders.{hit}
 use Rattle.book.specs.Image.{pages, IndexArg}
 use Rattle.book.specs.Calls.{HasFile}
 use Rattle.book.specs.Grow.{Phase, finish, entered, indexOf, taken₁, taken₂, taken₃, growTo, grow, first, onward, raise, block, phaseBy}
-use Rattle.laws.specs.Bits.Claim.{claim-good, claim-agree, claim-roots, claim-none, claim-quiet, free-pos}
+use Rattle.laws.specs.Bits.Claim.{FreePage, claim-good, claim-agree, claim-roots, claim-none, claim-quiet, free-pos}
 use Rattle.laws.specs.Bits.Marked.{claim-still}
-use Rattle.laws.specs.Count.Good.{Good, good}
+use Rattle.laws.specs.Count.Good.{good}
 use Rattle.laws.specs.File.Kinds.{grows-kind, kind-low, kind-high}
 use Rattle.laws.specs.Frame.Rest.{q-file}
 use Rattle.laws.specs.Frame.Still.{Still, still-trans}
@@ -91,9 +91,6 @@ module _ {img : List ℕ} {u f : ℕ} {h : Head} (g : Growing img u f h) where
   abbrev v₃ : Vol
   v₃ = taken₃ (lowestFree P) P v u f
 
-  G0 : Good P v (λ p. 0)
-  G0 = good P v (g .at .ready .sound)
-
   dOk : Finds P v
   dOk = space-data img u f (g .at .ready .whole) args (g .at .ready .sound) has (g .kind) (g .room)
 
@@ -101,14 +98,14 @@ module _ {img : List ℕ} {u f : ℕ} {h : Head} (g : Growing img u f h) where
   abbrev d : ℕ
   d = lowestFree P v
 
-  G1 : Good P v₁ (λ p. 0 + hit d p)
-  G1 = claim-good P v (λ p. 0) G0 d (dOk .0) (dOk .1)
+  data-free : FreePage P v (λ p. 0) d
+  data-free = record { good = good P v (g .at .ready .sound); below = dOk .0; clear = dOk .1 }
 
   still₁ : Still P v v₁
-  still₁ = claim-still P v (λ p. 0) G0 d (dOk .0) (dOk .1)
+  still₁ = claim-still data-free
 
   bits₁ : BitsAt P v₁ (h .bits)
-  bits₁ = bits-claim P v (h .bits) d (free-pos P v (λ p. 0) G0 d (dOk .0) (dOk .1)) (dOk .0) (g .at .head .bitsAt)
+  bits₁ = bits-claim P v (h .bits) d (free-pos data-free) (dOk .0) (g .at .head .bitsAt)
 
   -- the index block
   abbrev b : ℕ
@@ -118,14 +115,14 @@ module _ {img : List ℕ} {u f : ℕ} {h : Head} (g : Growing img u f h) where
     bOk : Finds P v₁
     bOk = space-index img u f (g .at .ready .whole) args (g .at .ready .sound) has (g .kind) (g .room) more
 
-    G2 : Good P v₂ (λ p. 0 + hit d p + hit b p)
-    G2 = claim-good P v₁ (λ p. 0 + hit d p) G1 b (bOk .0) (bOk .1)
+    index-free : FreePage P v₁ (λ p. 0 + hit d p) b
+    index-free = record { good = claim-good data-free; below = bOk .0; clear = bOk .1 }
 
     still₂ : Still P v v₂
-    still₂ = still-trans P v v₁ v₂ still₁ (claim-still P v₁ (λ p. 0 + hit d p) G1 b (bOk .0) (bOk .1))
+    still₂ = still-trans P v v₁ v₂ still₁ (claim-still index-free)
 
     bits₂ : BitsAt P v₂ (h .bits)
-    bits₂ = bits-claim P v₁ (h .bits) b (free-pos P v₁ (λ p. 0 + hit d p) G1 b (bOk .0) (bOk .1)) (bOk .0) bits₁
+    bits₂ = bits-claim P v₁ (h .bits) b (free-pos index-free) (bOk .0) bits₁
 
   -- the subindex block
   abbrev s : ℕ
@@ -135,8 +132,11 @@ module _ {img : List ℕ} {u f : ℕ} {h : Head} (g : Growing img u f h) where
     sOk : Finds P v₂
     sOk = space-subindex img u f (g .at .ready .whole) args (g .at .ready .sound) has (g .kind) (g .room) most
 
+    top-free : FreePage P v₂ (λ p. 0 + hit d p + hit b p) s
+    top-free = record { good = claim-good (index-free (omega arith)); below = sOk .0; clear = sOk .1 }
+
     still₃ : Still P v v₃
-    still₃ = still-trans P v v₂ v₃ (still₂ (omega arith)) (claim-still P v₂ (λ p. 0 + hit d p + hit b p) (G2 (omega arith)) s (sOk .0) (sOk .1))
+    still₃ = still-trans P v v₂ v₃ (still₂ (omega arith)) (claim-still top-free)
 
   -- ---- what code took is what the book takes
 
@@ -192,7 +192,7 @@ module _ {img : List ℕ} {u f : ℕ} {h : Head} (g : Growing img u f h) where
 
   quiet : weighR v (rootBy (h .flags) (h .top) (h .count)) C ≡ 0
   quiet = ap (λ (r : Root). weighR v r C) (sym (file-root (g .at)))
-      ∙ q-file v v₁ (claim-roots P v (λ p. 0) G0 d (dOk .0) (dOk .1)) C (claim-none P v (λ p. 0) G0 d (dOk .0) (dOk .1)) (claim-agree P v (λ p. 0) G0 d (dOk .0) (dOk .1)) (claim-quiet P v (λ p. 0) G0 d (dOk .0) (dOk .1)) u f (g .at .user) (g .at .file)
+      ∙ q-file v v₁ (claim-roots data-free) C (claim-none data-free) (claim-agree data-free) (claim-quiet data-free) u f (g .at .user) (g .at .file)
 
   index-kept : (m : ℕ) → indexOf v₁ (h .flags) (h .top) m ≡ indexOf v (h .flags) (h .top) m
   unfolding indexOf rootBy weighR weigh Agree Shape
@@ -201,7 +201,7 @@ module _ {img : List ℕ} {u f : ℕ} {h : Head} (g : Growing img u f h) where
       go : (x : ℕ) → weighR v (rootBy x (h .top) (h .count)) C ≡ 0 → Shape P v x (h .top) (h .count) → indexOf v₁ x (h .top) m ≡ indexOf v x (h .top) m
       go zero q s = refl
       go (suc zero) q s = refl
-      go (suc (suc zero)) q s = slot-same v v₁ (h .top) (claim-agree P v (λ p. 0) G0 d (dOk .0) (dOk .1) (h .top) (omega (arith, q))) (m / 512)
+      go (suc (suc zero)) q s = slot-same v v₁ (h .top) (claim-agree data-free (h .top) (omega (arith, q))) (m / 512)
       go (suc (suc (suc x))) q s = absurd s
 
   -- ---- the phases

@@ -14,9 +14,8 @@ use Rattle.book.specs.Holders.{hit}
 use Rattle.book.specs.Rules.{Sound}
 use Rattle.book.specs.Create.{extend, objectIndex, fileNeed, filePlace}
 use Rattle.book.specs.Image.{mostPages, pages, Ready}
-use Rattle.laws.specs.Bits.Choose.{lowest-chooser}
-use Rattle.laws.specs.Bits.Claim.{bitPage-rest, claim-bit, claim-bit-other}
-use Rattle.laws.specs.Count.Good.{good}
+use Rattle.laws.specs.Bits.Choose.{lowest-stock}
+use Rattle.laws.specs.Bits.Claim.{FreePage, bitPage-rest, claim-bit, claim-bit-other}
 use Rattle.laws.specs.Create.Join.{pay-page}
 use Rattle.laws.specs.Create.Placed.{extend-free, extend-pos, extend-master}
 use Rattle.laws.specs.Create.Vacant.{Reached, Vacant, index-vacant, object-none, top-vacant}
@@ -63,24 +62,24 @@ module _ (P : ℕ) (most : P ≤ mostPages) (v : Vol) (S : Sound P v) (pos : 0 <
   abbrev v′ : Vol
   v′ = extend (lowestFree P) P v X k
 
-  free : (d < P) × (bit P v d ≡ 0)
-  free = extend-free (lowestFree P) P (lowest-chooser P) v S pos X k N have
+  free : FreePage P v (λ p. 0) d
+  free = extend-free (lowest-stock S pos) N have
 
   B₀ : BitsAt P v b
   B₀ = bits-at P v most (S .r1)
 
   B₁ : BitsAt P v₁ b
-  B₁ = bits-claim P v b d (extend-pos (lowestFree P) P (lowest-chooser P) v S pos X k N have) (free .0) B₀
+  B₁ = bits-claim P v b d (extend-pos (lowest-stock S pos) N have) (free .below) B₀
 
   B₂ : BitsAt P v′ b
-  B₂ = bits-kept P v v′ b (extend-master (lowestFree P) P (lowest-chooser P) v S pos X k N have bitPointer (omega arith))
-      (extend-master (lowestFree P) P (lowest-chooser P) v S pos X k N have (suc bitPointer) (omega arith)) B₀
+  B₂ = bits-kept P v v′ b (extend-master (lowest-stock S pos) N have bitPointer (omega arith))
+      (extend-master (lowest-stock S pos) N have (suc bitPointer) (omega arith)) B₀
 
   -- the bit page is no block
   apart : b ≢ X
   unfolding rest
   apart e =
-      let z : rest v (hit b) ≡ 0 = subst (λ (q : ℕ). rest v (hit q) ≡ 0) (bit-page P v b B₀ d (free .0)) (bitPage-rest P v (λ p. 0) (good P v S) d (free .0) .0) in
+      let z : rest v (hit b) ≡ 0 = subst (λ (q : ℕ). rest v (hit q) ≡ 0) (bit-page P v b B₀ d (free .below)) (bitPage-rest P v (λ p. 0) (free .good) d (free .below) .0) in
       omega (arith, N .block, blocksR-le v (userFile v) (hit X), blocksR-le v (objectFile v) (hit X), subst (λ (q : ℕ). rest v (hit q) ≡ 0) e z)
 
   same : (j : ℕ) → v′ b j ≡ v₁ b j
@@ -91,10 +90,10 @@ module _ (P : ℕ) (most : P ≤ mostPages) (v : Vol) (S : Sound P v) (pos : 0 <
   bits p h = bit-at P v′ b B₂ p h ∙ ap (digit (p % 16)) (same (p / 16)) ∙ sym (bit-at P v₁ b B₁ p h)
 
   pub extend-beside : Beside P v (extend (lowestFree P) P v X k) (lowestFree P v) (lowestFree P v)
-  extend-beside = record { taken = both; other = λ p h a c. bits p h ∙ claim-bit-other P v (λ p. 0) (good P v S) d (free .0) (free .1) p h a }
+  extend-beside = record { taken = both; other = λ p h a c. bits p h ∙ claim-bit-other free p h a }
     where
       one : (p : ℕ) → p < P → p ≡ d → bit P v′ p ≡ 1
-      one p h e = bits p h ∙ ap (bit P v₁) e ∙ claim-bit P v (λ p. 0) (good P v S) d (free .0) (free .1)
+      one p h e = bits p h ∙ ap (bit P v₁) e ∙ claim-bit free
 
       both : (p : ℕ) → p < P → (p ≡ d) ⊎ (p ≡ d) → bit P v′ p ≡ 1
       both p h (inl e) = one p h e

@@ -15,7 +15,7 @@ use Rattle.book.specs.Bits.{lowestFree}
 use Rattle.book.specs.Entries.{userPage, objectPage, entryPage, unreserved}
 use Rattle.book.specs.Rules.{Rule2, Sound}
 use Rattle.book.specs.Create.{extend, started, raised, raises, withUserPage, withSubindex, userPlace, objectIndex, fileNeed, withIndex, withObjectPage, filePlace}
-use Rattle.laws.specs.Bits.Choose.{lowest-chooser}
+use Rattle.laws.specs.Bits.Choose.{lowest-stock}
 use Rattle.laws.specs.Create.Join.{SlotWords}
 use Rattle.laws.specs.Create.Placed.{Placed, extend-pos, extend-master, extend-slot, extend-bare, extend-placed}
 use Rattle.laws.specs.Create.Vacant.{Reached, Vacant, object-none, object-one, object-slot, object-two, reached-kept, top-vacant, user-vacant}
@@ -57,10 +57,10 @@ module _ (P : ℕ) (v : Vol) (S : Sound P v) (pos : 0 < P) (u : ℕ) (hu : u < 2
         absent z =
             let h : 1 ≤ unreserved v = omega (arith, have) in
             let w : Vol = extend (lowestFree P) P v (page (v 0) userPointer) (entryPage u) in
-            let T = extend-placed (lowestFree P) P (lowest-chooser P) v S pos (page (v 0) userPointer) (entryPage u) (user-room z) h in
+            let T = extend-placed (lowest-stock S pos) (user-room z) h in
             record {
               sound = T .sound;
-              asks = raises-same v w u (extend-master (lowestFree P) P (lowest-chooser P) v S pos (page (v 0) userPointer) (entryPage u) (user-room z) h objectPointer (omega arith));
+              asks = raises-same v w u (extend-master (lowest-stock S pos) (user-room z) h objectPointer (omega arith));
               left = omega (arith, T .taking .paid);
             }
 
@@ -140,10 +140,10 @@ module _ (P : ℕ) (v : Vol) (e : ℕ) where
       N = top-vacant P v S e R z
 
       T : Placed P v w (Either (SlotWords o i) UnreservedWords) 1
-      T = extend-placed (lowestFree P) P (lowest-chooser P) v S pos o i N (need-one z)
+      T = extend-placed (lowest-stock S pos) N (need-one z)
 
       mast : (k : ℕ) → k < unreservedCount → w 0 k ≡ v 0 k
-      mast = extend-master (lowestFree P) P (lowest-chooser P) v S pos o i N (need-one z)
+      mast = extend-master (lowest-stock S pos) N (need-one z)
 
       R₁ : Reached P w e
       R₁ = reached-kept P v w e (mast objectPointer (omega arith)) (mast (suc objectPointer) (omega arith)) R
@@ -158,18 +158,18 @@ module _ (P : ℕ) (v : Vol) (e : ℕ) where
       index₁ : objectIndex w e ≡ lowestFree P v
       index₁ = object-two P w (T .sound) e R₁ (flags-ext (w 0) (v 0) objectPointer (mast objectPointer (omega arith)) ∙ two)
           ∙ ap (λ (t : ℕ). slot w t i) (page-ext (w 0) (v 0) objectPointer (mast objectPointer (omega arith)) (mast (suc objectPointer) (omega arith)))
-          ∙ extend-slot (lowestFree P) P (lowest-chooser P) v S pos o i N (need-one z)
+          ∙ extend-slot (lowest-stock S pos) N (need-one z)
 
       pub page-unmade : objectPage (extend (lowestFree P) P v (page (v 0) objectPointer) (entryPage e / 512)) e ≡ 0
       page-unmade = object-slot P w (T .sound) e R₁ ∙ ap (λ (x : ℕ). slot w x (entryPage e % 512)) index₁
-          ∙ extend-bare (lowestFree P) P (lowest-chooser P) v S pos o i N (need-one z) (entryPage e % 512)
+          ∙ extend-bare (lowest-stock S pos) N (need-one z) (entryPage e % 512)
 
       pub index-made : Indexed (extend (lowestFree P) P v (page (v 0) objectPointer) (entryPage e / 512))
       unfolding fileNeed
       index-made = record {
         sound = T .sound;
         reached = R₁;
-        index = omega (arith, index₁, extend-pos (lowestFree P) P (lowest-chooser P) v S pos o i N (need-one z));
+        index = omega (arith, index₁, extend-pos (lowest-stock S pos) N (need-one z));
         room = omega (arith, have, z, object-none P v S e R z, T .taking .paid);
       }
 

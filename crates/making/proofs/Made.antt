@@ -10,7 +10,7 @@ use Rattle.book.specs.Entries.{Table, user, used, usedPages, spare, unreserved,
 use Rattle.book.specs.Image.{pages, mostPages, Ready}
 use Rattle.book.specs.Rules.{Rule4}
 use Rattle.book.specs.Create.{userEntry, objectEntry, userNeed, fileNeed, userPlace, filePlace, createUser, createIndexed, createContiguous}
-use Rattle.laws.specs.Bits.Choose.{FreeRun, lowest-chooser, run-found}
+use Rattle.laws.specs.Bits.Choose.{FreeRun, lowest-stock, run-found}
 use Rattle.laws.specs.Count.Room.{given-room}
 use Rattle.laws.specs.Create.FilePlace.{FilePlaced, file-placed}
 use Rattle.laws.specs.Create.User.{new-first}
@@ -25,7 +25,7 @@ pub user-ready : (img img′ : List ℕ) → Ready img → (u : ℕ) → u ≡ n
     → vol img′ ≡ userPlace (lowestFree (pages img)) (pages img) (vol img) u → length img′ ≡ length img → Ready img′
 user-ready img img′ d u eu hu have q l =
     let v : Vol = vol img in
-    ready-next img img′ d _ q (user-placed (lowestFree (pages img)) (pages img) (lowest-chooser (pages img)) v (d .sound) (omega (arith, d .whole .least)) (omega (arith, d .whole .most)) u hu have
+    ready-next img img′ d _ q (user-placed (lowest-stock (d .sound) (omega (arith, d .whole .least))) (omega (arith, d .whole .most)) u hu have
     (λ z. omega (arith, eu, new-first (pages img) v (d .sound .r2) z)) .placed .sound) l
 
 pub create-user-is : (P : ℕ) (v : Vol) (u : ℕ) (name : List ℕ) → u ≡ newUser v → (w₁ w : Vol) (q : ℕ) → w₁ ≡ userPlace (lowestFree P) P v u → q ≡ userPage w₁ u
@@ -52,7 +52,7 @@ module _ {img : List ℕ} {u f e : ℕ} (d : Ready img) (hu : u < 256) (hf : f <
     entry-room = subst (λ (x : ℕ). fileNeed v x ≤ unreserved v) (sym is) have
 
     placed : FilePlaced P v (filePlace (lowestFree P) P v e) e
-    placed = file-placed (lowestFree P) P (lowest-chooser P) e v (d .sound) (omega (arith, d .whole .least)) entry-reached entry-room
+    placed = file-placed (lowest-stock (d .sound) (omega (arith, d .whole .least))) entry-reached entry-room
 
     -- ready again after its place is made
     pub file-ready : (img′ : List ℕ) → vol img′ ≡ filePlace (lowestFree (pages img)) (pages img) (vol img) e → length img′ ≡ length img → Ready img′

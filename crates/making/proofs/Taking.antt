@@ -5,14 +5,15 @@ use native.Mathlib.Omega.{arith}
 use Rattle.book.specs.Words.{Vol, put2}
 use Rattle.book.specs.Written.{put2-page, put2-word}
 use Rattle.book.specs.Pointers.{page, pointer, setSlot, objectPointer, unreservedCount, userPointer}
-use Rattle.book.specs.Bits.{bit, lowestFree, claim}
+use Rattle.book.specs.Bits.{lowestFree, claim}
 use Rattle.book.specs.Entries.{unreserved}
 use Rattle.book.specs.Holders.{hit}
 use Rattle.book.specs.Rules.{Sound}
 use Rattle.book.specs.Create.{pay, extend, started, raised}
-use Rattle.laws.specs.Bits.Choose.{chosen, lowest-chooser}
-use Rattle.laws.specs.Bits.Claim.{free-pos, claim-good, claim-master, claim-free}
-use Rattle.laws.specs.Count.Good.{Good, good, free}
+use Rattle.laws.specs.Bits.Choose.{lowest-chooser, lowest-stock}
+use Rattle.laws.specs.Bits.Claim.{FreePage, free-pos, claim-good, claim-master, claim-free}
+use Rattle.laws.specs.Bits.Claims.{chosen-free, stock-free}
+use Rattle.laws.specs.Count.Good.{free}
 use Rattle.laws.specs.Count.Room.{system-room}
 use Rattle.laws.specs.Tree.Slot.{two-ext}
 use Rattle.bits.specs.File.{BitsAt}
@@ -28,9 +29,9 @@ unreserved-below : (v : Vol) (q j x : ℕ) → suc j < unreservedCount → unres
 unfolding unreserved
 unreserved-below v q j x h = two-ext (put2 v q j x 0) (v 0) unreservedCount (put2-word v q j x 0 unreservedCount (omega arith) (omega arith)) (put2-word v q j x 0 (suc unreservedCount) (omega arith) (omega arith))
 
-unreserved-claim : (P : ℕ) (v : Vol) (hand : ℕ → ℕ) → Good P v hand → (d : ℕ) → d < P → bit P v d ≡ 0 → unreserved (claim P v d) ≡ unreserved v
+unreserved-claim : {P : ℕ} {v : Vol} {hand : ℕ → ℕ} {d : ℕ} → FreePage P v hand d → unreserved (claim P v d) ≡ unreserved v
 unfolding unreserved
-unreserved-claim P v hand G d h f = two-ext (claim P v d 0) (v 0) unreservedCount (claim-master P v hand G d h f unreservedCount) (claim-master P v hand G d h f (suc unreservedCount))
+unreserved-claim {P} {v} {hand} {d} here = two-ext (claim P v d 0) (v 0) unreservedCount (claim-master here unreservedCount) (claim-master here (suc unreservedCount))
 
 pay-is : (w : Vol) (s n : ℕ) → s ≡ unreserved w → put2 w 0 unreservedCount (s - n) ≡ pay w n
 unfolding pay
@@ -46,17 +47,14 @@ module _ {P : ℕ} {v : Vol} (S : Sound P v) (pos : 0 < P) (have : 1 ≤ unreser
   abbrev D : ℕ
   D = lowestFree P v
 
-  pub lowest-there : (lowestFree P v < P) × (bit P v (lowestFree P v) ≡ 0)
-  lowest-there = chosen (lowestFree P) P (lowest-chooser P) v (omega (arith, have, system-room P v S pos))
-
-  G : Good P v (λ p. 0)
-  G = good P v S
+  pub lowest-there : FreePage P v (λ p. 0) (lowestFree P v)
+  lowest-there = stock-free (lowest-stock S pos) have
 
   pub lowest-pos : 0 < lowestFree P v
-  lowest-pos = free-pos P v (λ p. 0) G D (lowest-there .0) (lowest-there .1)
+  lowest-pos = free-pos lowest-there
 
   pub unreserved-taken : unreserved (claim P v (lowestFree P v)) ≡ unreserved v
-  unreserved-taken = unreserved-claim P v (λ p. 0) G D (lowest-there .0) (lowest-there .1)
+  unreserved-taken = unreserved-claim lowest-there
 
   pub extend-is : (X k : ℕ) → 0 < X → (v₁ v₂ w : Vol) (d s : ℕ) → d ≡ lowestFree P v → s ≡ unreserved v → v₁ ≡ claim P v (lowestFree P v)
       → v₂ ≡ put2 v₁ X (2 * k) d → w ≡ put2 v₂ 0 unreservedCount (s - 1) → w ≡ extend (lowestFree P) P v X k
@@ -102,44 +100,30 @@ module _ {P : ℕ} {v : Vol} (S : Sound P v) (pos : 0 < P) (have : 3 ≤ unreser
   rooms : 3 ≤ free P v
   rooms = omega (arith, have, system-room P v S pos)
 
-  pub first-there : (lowestFree P v < P) × (bit P v (lowestFree P v) ≡ 0)
+  pub first-there : FreePage P v (λ p. 0) (lowestFree P v)
   first-there = lowest-there S pos (omega (arith, have))
 
-  H₀ : Good P v (λ p. 0)
-  H₀ = good P v S
+  second-there : FreePage P V₁ (λ p. 0 + hit D₁ p) D₂
+  second-there = chosen-free (lowestFree P) (lowest-chooser P) (claim-good first-there) (omega (arith, rooms, claim-free first-there))
 
-  H₁ : Good P V₁ (λ p. 0 + hit D₁ p)
-  H₁ = claim-good P v (λ p. 0) H₀ D₁ (first-there .0) (first-there .1)
-
-  second-there : (D₂ < P) × (bit P V₁ D₂ ≡ 0)
-  second-there = chosen (lowestFree P) P (lowest-chooser P) V₁ (omega (arith, rooms, claim-free P v (λ p. 0) H₀ D₁ (first-there .0) (first-there .1)))
-
-  H₂ : Good P V₂ (λ p. 0 + hit D₁ p + hit D₂ p)
-  H₂ = claim-good P V₁ (λ p. 0 + hit D₁ p) H₁ D₂ (second-there .0) (second-there .1)
-
-  third-there : (D₃ < P) × (bit P V₂ D₃ ≡ 0)
-  third-there = chosen (lowestFree P) P (lowest-chooser P) V₂ (omega (
-    arith,
-    rooms,
-    claim-free P v (λ p. 0) H₀ D₁ (first-there .0) (first-there .1),
-    claim-free P V₁ (λ p. 0 + hit D₁ p) H₁ D₂ (second-there .0) (second-there .1),
-  ))
+  third-there : FreePage P V₂ (λ p. 0 + hit D₁ p + hit D₂ p) D₃
+  third-there = chosen-free (lowestFree P) (lowest-chooser P) (claim-good second-there) (omega (arith, rooms, claim-free first-there, claim-free second-there))
 
   pos₁ : 0 < D₁
-  pos₁ = free-pos P v (λ p. 0) H₀ D₁ (first-there .0) (first-there .1)
+  pos₁ = free-pos first-there
 
   pos₂ : 0 < D₂
-  pos₂ = free-pos P V₁ (λ p. 0 + hit D₁ p) H₁ D₂ (second-there .0) (second-there .1)
+  pos₂ = free-pos second-there
 
   pub second-take : (b : ℕ) → BitsAt P v b → (w : Vol) → w ≡ claim P v (lowestFree P v) → BitsAt P w b × (lowestFree P w < P)
-  second-take b B w e = subst (λ (x : Vol). BitsAt P x b × (lowestFree P x < P)) (sym e) (bits-claim P v b D₁ pos₁ (first-there .0) B, second-there .0)
+  second-take b B w e = subst (λ (x : Vol). BitsAt P x b × (lowestFree P x < P)) (sym e) (bits-claim P v b D₁ pos₁ (first-there .below) B, second-there .below)
 
   again : (w x : Vol) → w ≡ V₁ → x ≡ claim P w (lowestFree P w) → x ≡ V₂
   again w x e f = f ∙ ap (taken P) e
 
   pub third-take : (b : ℕ) → BitsAt P v b → (w x : Vol) → w ≡ claim P v (lowestFree P v) → x ≡ claim P w (lowestFree P w) → BitsAt P x b × (lowestFree P x < P)
   third-take b B w x e f = subst (λ (y : Vol). BitsAt P y b × (lowestFree P y < P)) (sym (again w x e f))
-      (bits-claim P V₁ b D₂ pos₂ (second-there .0) (bits-claim P v b D₁ pos₁ (first-there .0) B), third-there .0)
+      (bits-claim P V₁ b D₂ pos₂ (second-there .below) (bits-claim P v b D₁ pos₁ (first-there .below) B), third-there .below)
 
   pub start-is : (w₁ w₂ w₃ x₁ x₂ x₃ w : Vol) (i q o s p r : ℕ) → i ≡ lowestFree P v → q ≡ lowestFree P w₁ → o ≡ lowestFree P w₂ → s ≡ unreserved v → p ≡ pointer 1 i → r ≡ pointer 1 o
       → w₁ ≡ claim P v (lowestFree P v) → w₂ ≡ claim P w₁ (lowestFree P w₁) → w₃ ≡ claim P w₂ (lowestFree P w₂)
@@ -154,8 +138,8 @@ module _ {P : ℕ} {v : Vol} (S : Sound P v) (pos : 0 < P) (have : 3 ≤ unreser
       let b₁ : x₁ ≡ y₁ = f₁ ∙ ap₂ (λ (x : Vol) (z : ℕ). put2 x 0 userPointer z) a₃ (ep ∙ ap (pointer 1) ei) in
       let b₂ : x₂ ≡ y₂ = f₂ ∙ ap₂ (λ (x : Vol) (z : ℕ). put2 x 0 objectPointer z) b₁ (er ∙ ap (pointer 1) (eo ∙ ap (lowestFree P) a₂)) in
       let b₃ : x₃ ≡ y₃ = f₃ ∙ ap (λ (x : Vol). put2 x i 0 q) b₂ ∙ ap₂ (λ (a c : ℕ). put2 y₂ a 0 c) ei (eq ∙ ap (lowestFree P) e₁) in
-      let u₁ : unreserved V₁ ≡ unreserved v = unreserved-claim P v (λ p. 0) H₀ D₁ (first-there .0) (first-there .1) in
-      let u₂ : unreserved V₂ ≡ unreserved V₁ = unreserved-claim P V₁ (λ p. 0 + hit D₁ p) H₁ D₂ (second-there .0) (second-there .1) in
-      let u₃ : unreserved V₃ ≡ unreserved V₂ = unreserved-claim P V₂ (λ p. 0 + hit D₁ p + hit D₂ p) H₂ D₃ (third-there .0) (third-there .1) in
+      let u₁ : unreserved V₁ ≡ unreserved v = unreserved-claim first-there in
+      let u₂ : unreserved V₂ ≡ unreserved V₁ = unreserved-claim second-there in
+      let u₃ : unreserved V₃ ≡ unreserved V₂ = unreserved-claim third-there in
       f₄ ∙ ap (λ (x : Vol). put2 x 0 unreservedCount (s - 3)) b₃
       ∙ pay-is y₃ s 3 (es ∙ sym (unreserved-page y₂ D₁ 0 D₂ pos₁ ∙ unreserved-below y₁ 0 objectPointer (pointer 1 D₃) (omega arith) ∙ unreserved-below V₃ 0 userPointer (pointer 1 D₁) (omega arith) ∙ u₃ ∙ u₂ ∙ u₁))

@@ -33,6 +33,16 @@ pub chosen : (choose : Vol → ℕ) (P : ℕ) → Chooser P choose → (v : Vol)
 unfolding Chooser
 chosen choose P ch = ch
 
+-- a sound volume, and a choice of its free pages
+pub record Stock (choose : Vol → ℕ) (P : ℕ) (v : Vol) : Type 0 where
+  pub choice : Chooser P choose
+  pub sound : Sound P v
+  pub pos : 0 < P
+
+-- the lowest free page is chosen
+pub lowest-stock : {P : ℕ} {v : Vol} → Sound P v → 0 < P → Stock (lowestFree P) P v
+lowest-stock {P} {v} S pos = record { choice = lowest-chooser P; sound = S; pos = pos }
+
 -- pages s to s + n - 1 lie below P, and all are free
 unfoldable pub FreeRun : ℕ → Vol → ℕ → ℕ → Type 0
 FreeRun P v n s = (s + n ≤ P) × ((i : ℕ) → i < n → bit P v (s + i) ≡ 0)

@@ -48,19 +48,29 @@ module _ (P : ℕ) (v : Vol) (hand : ℕ → ℕ) (G : Good P v hand) where
         omega (arith, e, bit-le P v B, all-rest P v (hit B), bitPage-in P v (G .most .r1) p h),
       )
 
-  pub free-pos : (d : ℕ) → d < P → bit P v d ≡ 0 → 0 < d
-  free-pos zero h e = omega (arith, G .held 0 h, e, is-same 0)
-  free-pos (suc d) h e = omega arith
+-- page d of a good volume is free
+pub record FreePage (P : ℕ) (v : Vol) (hand : ℕ → ℕ) (d : ℕ) : Type 0 where
+  pub good : Good P v hand
+  pub below : d < P
+  pub clear : bit P v d ≡ 0
 
-  pub free-none : (d : ℕ) → d < P → bit P v d ≡ 0 → (all P v (hit d) ≡ 0) × (hand d ≡ 0)
-  free-none d h e = (omega (arith, G .held d h, e), omega (arith, G .held d h, e))
+-- page 0 never is
+above : (P : ℕ) (v : Vol) (hand : ℕ → ℕ) (d : ℕ) → FreePage P v hand d → 0 < d
+above P v hand zero h = omega (arith, h .good .held 0 (h .below), h .clear, is-same 0)
+above P v hand (suc d) h = omega arith
 
-module _ (P : ℕ) (v : Vol) (hand : ℕ → ℕ) (G : Good P v hand) (d : ℕ) (hd : d < P) (fd : bit P v d ≡ 0) where
+module _ {P : ℕ} {v : Vol} {hand : ℕ → ℕ} {d : ℕ} (here : FreePage P v hand d) where
+  pub free-pos : 0 < d
+  free-pos = above P v hand d here
+
+  pub free-none : (all P v (hit d) ≡ 0) × (hand d ≡ 0)
+  free-none = (omega (arith, here .good .held d (here .below), here .clear), omega (arith, here .good .held d (here .below), here .clear))
+
   abbrev B : ℕ → ℕ
   B p = bitPage P v p
 
   apart : (p : ℕ) → p < P → B p ≢ d
-  apart p h e = omega (arith, bitPage-in P v (G .most .r1) p h, subst (λ (x : ℕ). all P v (hit x) ≡ 0) (sym e) (free-none P v hand G d hd fd .0), all-rest P v (hit (bitPage P v p)))
+  apart p h e = omega (arith, bitPage-in P v (here .good .most .r1) p h, subst (λ (x : ℕ). all P v (hit x) ≡ 0) (sym e) (free-none .0), all-rest P v (hit (bitPage P v p)))
 
   abbrev C : ℕ → ℕ
   C x = hit (B d) x + hit d x
@@ -75,21 +85,21 @@ module _ (P : ℕ) (v : Vol) (hand : ℕ → ℕ) (G : Good P v hand) (d : ℕ) 
   claim-agree q e k = word-ext v (claim P v d) q k (λ h. claim-else q k (pair-zero (B d) d q h e .0) (pair-zero (B d) d q h e .1))
 
   pub claim-master : (k : ℕ) → claim P v d 0 k ≡ v 0 k
-  claim-master k = claim-else 0 k (λ e. omega (arith, e, bitPage-pos P v (G .most .r1) d hd)) (λ e. omega (arith, e, free-pos P v hand G d hd fd))
+  claim-master k = claim-else 0 k (λ e. omega (arith, e, bitPage-pos P v (here .good .most .r1) d (here .below))) (λ e. omega (arith, e, free-pos))
 
   pub claim-roots : Roots v (claim P v d)
   unfolding Roots
   claim-roots k i j = claim-master k
 
   pub claim-quiet : rest v C ≡ 0
-  claim-quiet = omega (arith, rest-add v (hit (bitPage P v d)) (hit d), bitPage-rest P v hand G d hd .0, free-none P v hand G d hd fd .0, all-rest P v (hit d))
+  claim-quiet = omega (arith, rest-add v (hit (bitPage P v d)) (hit d), bitPage-rest P v hand (here .good) d (here .below) .0, free-none .0, all-rest P v (hit d))
 
   pub claim-none : C 0 ≡ 0
   claim-none = omega (arith, hit-zero (B d), hit-zero d)
 
   pub claim-zero : (k : ℕ) → word (claim P v d) d k ≡ 0
   unfolding claim
-  claim-zero k = word-pos (wipe (mark P v d 1) d) d k (free-pos P v hand G d hd fd) ∙ wipe-here (mark P v d 1) d k
+  claim-zero k = word-pos (wipe (mark P v d 1) d) d k (free-pos) ∙ wipe-here (mark P v d 1) d k
 
   pub claim-all : (g : ℕ → ℕ) → all P (claim P v d) g ≡ all P v g
   claim-all g = all-calm v (claim P v d) claim-roots C claim-none claim-agree claim-quiet P g
@@ -105,8 +115,8 @@ module _ (P : ℕ) (v : Vol) (hand : ℕ → ℕ) (G : Good P v hand) (d : ℕ) 
   unfolding Agree
   claim-keeps q h k = claim-agree q (omega (
     arith,
-    hit-other (B d) q (λ e. omega (arith, h, subst (λ (x : ℕ). hand x ≡ 0) (sym e) (bitPage-rest P v hand G d hd .1))),
-    hit-other d q (λ e. omega (arith, h, subst (λ (x : ℕ). hand x ≡ 0) (sym e) (free-none P v hand G d hd fd .1))),
+    hit-other (B d) q (λ e. omega (arith, h, subst (λ (x : ℕ). hand x ≡ 0) (sym e) (bitPage-rest P v hand (here .good) d (here .below) .1))),
+    hit-other d q (λ e. omega (arith, h, subst (λ (x : ℕ). hand x ≡ 0) (sym e) (free-none .1))),
   )) k
 
   bit-page : (p : ℕ) → bitPage P (claim P v d) p ≡ B p
@@ -116,15 +126,15 @@ module _ (P : ℕ) (v : Vol) (hand : ℕ → ℕ) (G : Good P v hand) (d : ℕ) 
   read : (p : ℕ) → p < P → bit P (claim P v d) p ≡ digit (p % 16) (mark P v d 1 (B p) (bitWord p))
   unfolding bit claim
   read p h = ap (λ (b : ℕ). digit (p % 16) (word (claim P v d) b (bitWord p))) (bit-page p)
-      ∙ ap (digit (p % 16)) (word-pos (claim P v d) (B p) (bitWord p) (bitPage-pos P v (G .most .r1) p h) ∙ wipe-page (mark P v d 1) d (B p) (bitWord p) (apart p h))
+      ∙ ap (digit (p % 16)) (word-pos (claim P v d) (B p) (bitWord p) (bitPage-pos P v (here .good .most .r1) p h) ∙ wipe-page (mark P v d 1) d (B p) (bitWord p) (apart p h))
 
   pub claim-bit : bit P (claim P v d) d ≡ 1
   unfolding mark
-  claim-bit = read d hd ∙ ap (digit (d % 16)) (put-here v (bitPage P v d) (bitWord d) _) ∙ digit-same (d % 16) _ 1 (omega arith)
+  claim-bit = read d (here .below) ∙ ap (digit (d % 16)) (put-here v (bitPage P v d) (bitWord d) _) ∙ digit-same (d % 16) _ 1 (omega arith)
 
   old : (p : ℕ) → p < P → digit (p % 16) (v (B p) (bitWord p)) ≡ bit P v p
   unfolding bit
-  old p h = ap (digit (p % 16)) (sym (word-pos v (bitPage P v p) (bitWord p) (bitPage-pos P v (G .most .r1) p h)))
+  old p h = ap (digit (p % 16)) (sym (word-pos v (bitPage P v p) (bitWord p) (bitPage-pos P v (here .good .most .r1) p h)))
 
   pub claim-bit-other : (p : ℕ) → p < P → p ≢ d → bit P (claim P v d) p ≡ bit P v p
   unfolding mark
@@ -133,24 +143,24 @@ module _ (P : ℕ) (v : Vol) (hand : ℕ → ℕ) (G : Good P v hand) (d : ℕ) 
     | yes e ↦ elim (ℕ-discrete (bitWord p) (bitWord d)) [
       | no a ↦ ap (digit (p % 16)) (put-word v (B d) (bitWord d) _ (B p) (bitWord p) a) ∙ old p h
       | yes e′ ↦
-          let ne : p % 16 ≢ d % 16 = λ i. n (omega (arith, i, e′, e, bitPage-is P v (G .most .r1) p h, bitPage-is P v (G .most .r1) d hd)) in
+          let ne : p % 16 ≢ d % 16 = λ i. n (omega (arith, i, e′, e, bitPage-is P v (here .good .most .r1) p h, bitPage-is P v (here .good .most .r1) d (here .below))) in
           ap₂ (λ (b w : ℕ). digit (p % 16) (mark P v d 1 b w)) e e′
           ∙ ap (digit (p % 16)) (put-here v (B d) (bitWord d) _) ∙ digit-other (p % 16) (d % 16) _ 1 ne (omega arith)
-          ∙ ap (digit (p % 16)) (word-pos v (B d) (bitWord d) (bitPage-pos P v (G .most .r1) d hd))
+          ∙ ap (digit (p % 16)) (word-pos v (B d) (bitWord d) (bitPage-pos P v (here .good .most .r1) d (here .below)))
           ∙ ap₂ (λ (b w : ℕ). digit (p % 16) (v b w)) (sym e) (sym e′) ∙ old p h
     ]
   ]
 
   pub claim-good : Good P (claim P v d) (λ p. hand p + hit d p)
-  claim-good = record { most = most-calm v (claim P v d) claim-roots C claim-none claim-agree claim-quiet P (λ k i. claim-master k) (G .most); held = held }
+  claim-good = record { most = most-calm v (claim P v d) claim-roots C claim-none claim-agree claim-quiet P (λ k i. claim-master k) (here .good .most); held = held }
     where
       held : (p : ℕ) → p < P → bit P (claim P v d) p ≡ is p 0 + all P (claim P v d) (hit p) + (hand p + hit d p)
       held p h = elim (ℕ-discrete p d) [
         | yes e ↦ subst (λ (x : ℕ). bit P (claim P v d) x ≡ is x 0 + all P (claim P v d) (hit x) + (hand x + hit d x)) (sym e)
-            (omega (arith, G .held d hd, fd, claim-all (hit d), claim-bit, hit-same d (free-pos P v hand G d hd fd)))
-        | no n ↦ omega (arith, G .held p h, claim-all (hit p), claim-bit-other p h n, hit-other d p n)
+            (omega (arith, here .good .held d (here .below), here .clear, claim-all (hit d), claim-bit, hit-same d (free-pos)))
+        | no n ↦ omega (arith, here .good .held p h, claim-all (hit p), claim-bit-other p h n, hit-other d p n)
       ]
 
   pub claim-free : free P (claim P v d) + 1 ≡ free P v
   unfolding free
-  claim-free = omega (arith, fd, claim-bit, sum-change P (λ p. 1 - bit P v p) (λ p. 1 - bit P (claim P v d) p) d hd (λ p h n. ap (λ (x : ℕ). 1 - x) (claim-bit-other p h n)))
+  claim-free = omega (arith, here .clear, claim-bit, sum-change P (λ p. 1 - bit P v p) (λ p. 1 - bit P (claim P v d) p) d (here .below) (λ p h n. ap (λ (x : ℕ). 1 - x) (claim-bit-other p h n)))

@@ -10,7 +10,7 @@ use Rattle.book.specs.Holders.{hit}
 use Rattle.book.specs.Rules.{Rule1}
 use Rattle.book.specs.Words.{Vol, word, put}
 use Rattle.book.specs.Written.{word-pos, put-here, put-page, put-word}
-use Rattle.laws.specs.Bits.Claim.{claim-agree, claim-quiet, claim-none, claim-master, bitPage-rest, bitPage-pos}
+use Rattle.laws.specs.Bits.Claim.{FreePage, claim-agree, claim-quiet, claim-none, claim-master, bitPage-rest, bitPage-pos}
 use Rattle.laws.specs.Bits.Mark.{mark-agree, mark-master, mark-roots, mark-bit, mark-other}
 use Rattle.laws.specs.Count.Good.{Good, Most}
 use Rattle.laws.specs.Frame.Places.{Places, WordsOf, Apart, OnlyAt, only-put}
@@ -18,9 +18,8 @@ use Rattle.laws.specs.Frame.Rest.{rest, most-calm}
 use Rattle.laws.specs.Frame.Still.{Still, still-refl, still-trans, still-calm, bitPage-same, rest-same}
 use Rattle.laws.specs.Tree.Slot.{hit-zero}
 
-pub claim-still : (P : ℕ) (v : Vol) (hand : ℕ → ℕ) (G : Good P v hand) (d : ℕ) → d < P → bit P v d ≡ 0 → Still P v (claim P v d)
-claim-still P v hand G d hd fd =
-    still-calm P v (claim P v d) _ (claim-none P v hand G d hd fd) (claim-agree P v hand G d hd fd) (claim-quiet P v hand G d hd fd) (claim-master P v hand G d hd fd)
+pub claim-still : {P : ℕ} {v : Vol} {hand : ℕ → ℕ} {d : ℕ} → FreePage P v hand d → Still P v (claim P v d)
+claim-still {P} {v} {hand} {d} here = still-calm P v (claim P v d) _ (claim-none here) (claim-agree here) (claim-quiet here) (claim-master here)
 
 -- ---- the pages of bits are held by no other tree
 

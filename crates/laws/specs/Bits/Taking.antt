@@ -12,7 +12,7 @@ use Rattle.book.specs.Holders.{hit, some}
 use Rattle.book.specs.Trees.{Root, weighR, blocksR, pageAt}
 use Rattle.book.specs.Words.{Vol, word}
 use Rattle.book.specs.Written.{word-ext}
-use Rattle.laws.specs.Bits.Claim.{bitPage-rest, claim-agree, claim-quiet, claim-none, claim-bit, claim-bit-other, claim-free, claim-master}
+use Rattle.laws.specs.Bits.Claim.{FreePage, bitPage-rest, claim-agree, claim-quiet, claim-none, claim-bit, claim-bit-other, claim-free, claim-master}
 use Rattle.laws.specs.Count.Good.{Good, free, bit-le}
 use Rattle.laws.specs.Create.Settled.{Settled, file-same, bits-kept}
 use Rattle.laws.specs.Frame.Places.{Places, PageOf, WordsOf, Either, OnlyAt, only-wider, only-then, only-put, only-wipe}
@@ -132,7 +132,7 @@ module _ (P : ℕ) (v w : Vol) (m : (k : ℕ) → w 0 k ≡ v 0 k) (C : ℕ → 
       S = still-calm P v w C c0 A q m
 
 -- a page is taken
-module _ (P : ℕ) (v : Vol) (hand : ℕ → ℕ) (G : Good P v hand) (d : ℕ) (hd : d < P) (fd : bit P v d ≡ 0) where
+module _ {P : ℕ} {v : Vol} {hand : ℕ → ℕ} {d : ℕ} (here : FreePage P v hand d) where
   abbrev w : Vol
   w = claim P v d
 
@@ -141,18 +141,18 @@ module _ (P : ℕ) (v : Vol) (hand : ℕ → ℕ) (G : Good P v hand) (d : ℕ) 
   claim-words = only-then _ (PageOf d) v (mark P v d 1) w (only-put v (bitPage P v d) (bitWord d) _) (only-wipe (mark P v d 1) d)
 
   pub claim-taking : Taking P v w NoWords 1 0
-  claim-taking = calm-taking P v w (claim-master P v hand G d hd fd) (λ x. hit (bitPage P v d) x + hit d x) (claim-none P v hand G d hd fd) (claim-agree P v hand G d hd fd)
-      (claim-quiet P v hand G d hd fd) NoWords 1 more (claim-free P v hand G d hd fd) (only-wider _ (Either (TakenWords P v w) NoWords) v w wide claim-words)
+  claim-taking = calm-taking P v w (claim-master here) (λ x. hit (bitPage P v d) x + hit d x) (claim-none here) (claim-agree here)
+      (claim-quiet here) NoWords 1 more (claim-free here) (only-wider _ (Either (TakenWords P v w) NoWords) v w wide claim-words)
     where
       more : (p : ℕ) → p < P → bit P v p ≤ bit P w p
       more p h = elim (ℕ-discrete p d) [
-        | yes e ↦ subst (λ (x : ℕ). bit P v x ≤ bit P w x) (sym e) (omega (arith, fd))
-        | no n ↦ omega (arith, claim-bit-other P v hand G d hd fd p h n)
+        | yes e ↦ subst (λ (x : ℕ). bit P v x ≤ bit P w x) (sym e) (omega (arith, here .clear))
+        | no n ↦ omega (arith, claim-bit-other here p h n)
       ]
 
       wide : (p k : ℕ) → Either (WordsOf (bitPage P v d) (bitWord d) 1) (PageOf d) p k → Either (TakenWords P v w) NoWords p k
-      wide p k (inl h) = inl (d, (hd, fd, claim-bit P v hand G d hd fd), inr h)
-      wide p k (inr h) = inl (d, (hd, fd, claim-bit P v hand G d hd fd), inl h)
+      wide p k (inl h) = inl (d, (here .below, here .clear, claim-bit here), inr h)
+      wide p k (inr h) = inl (d, (here .below, here .clear, claim-bit here), inl h)
 
 -- a page in hand is written
 module _ (P : ℕ) (v : Vol) (hand : ℕ → ℕ) (G : Good P v hand) (s : ℕ) (hs : s < P) (ps : 0 < s) (held : 1 ≤ hand s) (w : Vol) (else : (q j : ℕ) → q ≢ s → w q j ≡ v q j) where

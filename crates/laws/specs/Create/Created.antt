@@ -15,7 +15,7 @@ use Rattle.book.specs.Names.{NameText, TypeText, Named, Typed}
 use Rattle.book.specs.Rules.{Sound}
 use Rattle.book.specs.Trees.{run, pageAt}
 use Rattle.book.specs.Words.{Vol, Words, two}
-use Rattle.laws.specs.Bits.Choose.{Chooser}
+use Rattle.laws.specs.Bits.Choose.{Stock}
 use Rattle.laws.specs.Bits.Taking.{TakenWords, NoWords, Taking, taking-then}
 use Rattle.laws.specs.Count.Good.{Good, good, sound, free}
 use Rattle.laws.specs.Create.FilePlace.{FilePlaceWords, FilePlaced, file-placed}
@@ -60,7 +60,7 @@ pub record Created (P : ℕ) (v v′ : Vol) (u e : ℕ) (E : Words) (n s k : ℕ
   pub bits : (p : ℕ) → p < P → bit P v p ≤ bit P v′ p
   pub only : OnlyAt (Either (TakenWords P v v′) (Either (FilePlaceWords v e) F)) v v′
 
-module _ (choose : Vol → ℕ) (P : ℕ) (ch : Chooser P choose) (v : Vol) (S : Sound P v) (pos : 0 < P) (u : ℕ) (name type : List ℕ) (created : ℕ) (A : FileWanted P v u name type) where
+module _ {choose : Vol → ℕ} {P : ℕ} {v : Vol} (stock : Stock choose P v) {u : ℕ} {name type : List ℕ} (A : FileWanted P v u name type) where
   abbrev f : ℕ
   f = newFile v u
 
@@ -71,7 +71,7 @@ module _ (choose : Vol → ℕ) (P : ℕ) (ch : Chooser P choose) (v : Vol) (S :
   w = filePlace choose P v e
 
   pub file-place : FilePlaced P v w e
-  file-place = file-placed choose P ch e v S pos (used-reached P v S u f (A .index) (A .entry) (A .owner)) (A .room)
+  file-place = file-placed stock (used-reached P v (stock .sound) u f (A .index) (A .entry) (A .owner)) (A .room)
 
   -- the owner's page was there before
   pub owner-page : (userPage w u ≡ userPage v u) × (0 < userPage w u)
@@ -82,7 +82,7 @@ module _ (choose : Vol → ℕ) (P : ℕ) (ch : Chooser P choose) (v : Vol) (S :
       (q, omega (arith, h, q))
 
   -- x has the file's pages in hand, and v′ is x with the entry E, and words 16 and 17 of the owner
-  module _ (n s : ℕ) (x : Vol) (hand : ℕ → ℕ) (G : Good P x hand) (X : Taking P w x NoWords n 0) (small : s < 1073741824) (form : Empty s n ⊎ Contiguous P s n)
+  module _ (created n s : ℕ) (x : Vol) (hand : ℕ → ℕ) (G : Good P x hand) (X : Taking P w x NoWords n 0) (small : s < 1073741824) (form : Empty s n ⊎ Contiguous P s n)
       (hands : (p : ℕ) → p < P → hand p ≡ sum n (λ i. hit p (s + i))) (within : usedPages (user v) u + n ≤ given (user v) u) where
     abbrev E : Words
     E = objectEntry u e name type created n s
@@ -108,7 +108,7 @@ module _ (choose : Vol → ℕ) (P : ℕ) (ch : Chooser P choose) (v : Vol) (S :
     isU = omega (arith, userPage-is, owner-page .1)
 
     spot : Spot P x hand u f
-    spot = record { good = G; pos = pos; ha = A .index; hf = A .entry }
+    spot = record { good = G; pos = stock .pos; ha = A .index; hf = A .entry }
 
     module _ (v′ : Vol)
         (else : (p k : ℕ) → (p ≡ userPage x u → (k ≢ entryWord u + 16) × (k ≢ entryWord u + 17)) → v′ p k ≡ putEntry x (objectPage x e) e E p k)

@@ -17,7 +17,7 @@ use Rattle.book.specs.Outcome.{Outcome, call, asking, judged}
 use Rattle.book.specs.Rows.{Lowest, Clear}
 use Rattle.book.specs.Rules.{Sound}
 use Rattle.book.specs.Words.{Vol, vol}
-use Rattle.laws.specs.Bits.Choose.{lowest-chooser, FreeRun, run-found, run-none, run-exact}
+use Rattle.laws.specs.Bits.Choose.{lowest-stock, FreeRun, run-found, run-none, run-exact}
 use Rattle.laws.specs.Call.Done.{clear-done, Asks, number-exact}
 use Rattle.laws.specs.Count.Good.{free}
 use Rattle.laws.specs.Count.Room.{system-room}
@@ -90,7 +90,7 @@ module _ (img : List ℕ) (u : ℕ) (name type : List ℕ) (created : ℕ) (W : 
       -- with the system pages there: 11 exactly if no run is left
       module _ (have : fileNeed v e ≤ unreserved v) where
         sound-w : Sound P w
-        sound-w = file-place (lowestFree P) P (lowest-chooser P) v S (omega (arith, W .least)) u name type created (wanted img u name type created U N T owner fresh lt have) .placed .sound
+        sound-w = file-place (lowest-stock S (omega (arith, W .least))) (wanted img u name type created U N T owner fresh lt have) .placed .sound
 
         pub eleven-create-contiguous : (r .number ≡ 11) ↔ ((s : ℕ) → FreeRun P w n s → ⊥)
         unfolding createContiguousCall call asking judged Lowest Asks

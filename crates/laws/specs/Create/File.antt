@@ -13,7 +13,7 @@ use Rattle.book.specs.Holders.{hit}
 use Rattle.book.specs.Rules.{Rule4, Sound}
 use Rattle.book.specs.Words.{Vol, Words, two}
 use Rattle.book.specs.Written.{put2-two}
-use Rattle.laws.specs.Bits.Choose.{Chooser, FreeRun, run-found}
+use Rattle.laws.specs.Bits.Choose.{Stock, FreeRun, run-found}
 use Rattle.laws.specs.Bits.Runs.{run-taking, taken}
 use Rattle.laws.specs.Bits.Taking.{NoWords, Taking, taking-none}
 use Rattle.laws.specs.Count.Good.{Good, good}
@@ -24,7 +24,7 @@ use Rattle.laws.specs.Frame.Fields.{entry-page}
 use Rattle.laws.specs.Frame.Places.{EntryOf, FieldOf, Either, OnlyAt, only-then, only-putWords, only-put2}
 use Rattle.laws.specs.Tree.Slot.{hit-sym, two-ext}
 
-module _ (choose : Vol → ℕ) (P : ℕ) (ch : Chooser P choose) (v : Vol) (S : Sound P v) (pos : 0 < P) (u : ℕ) (name type : List ℕ) (created : ℕ) (A : FileWanted P v u name type) where
+module _ {choose : Vol → ℕ} {P : ℕ} {v : Vol} (stock : Stock choose P v) {u : ℕ} {name type : List ℕ} (created : ℕ) (A : FileWanted P v u name type) where
   abbrev f : ℕ
   f = newFile v u
 
@@ -35,14 +35,14 @@ module _ (choose : Vol → ℕ) (P : ℕ) (ch : Chooser P choose) (v : Vol) (S :
   w = filePlace choose P v e
 
   sound-w : Sound P w
-  sound-w = file-place choose P ch v S pos u name type created A .placed .sound
+  sound-w = file-place stock A .placed .sound
 
   Gw : Good P w (λ p. 0)
   Gw = good P w sound-w
 
   within : usedPages (user v) u ≤ given (user v) u
   unfolding Rule4
-  within = S .r4 .0 u (A .index) (A .owner) .within
+  within = stock .sound .r4 .0 u (A .index) (A .owner) .within
 
   -- ---- an indexed file has no page yet
 
@@ -53,20 +53,20 @@ module _ (choose : Vol → ℕ) (P : ℕ) (ch : Chooser P choose) (v : Vol) (S :
   E₀ = objectEntry u e name type created 0 0
 
   isO : 0 < objectPage w e
-  isO = file-place choose P ch v S pos u name type created A .there
+  isO = file-place stock A .there
 
   isU : 0 < userPage w u
-  isU = owner-page choose P ch v S pos u name type created A .1
+  isU = owner-page stock A .1
 
   same : usedPages (user w) u ≡ usedPages (user v) u
-  same = ap (λ (U : Table). usedPages U u) (file-place choose P ch v S pos u name type created A .placed .taking .users)
+  same = ap (λ (U : Table). usedPages U u) (file-place stock A .placed .taking .users)
 
   else₀ : (p k : ℕ) → (p ≡ userPage w u → (k ≢ entryWord u + 16) × (k ≢ entryWord u + 17)) → v₀ p k ≡ putEntry w (objectPage w e) e E₀ p k
   unfolding createIndexed
   else₀ p k h = refl
 
   spot₀ : Spot P w (λ p. 0) u f
-  spot₀ = record { good = Gw; pos = pos; ha = A .index; hf = A .entry }
+  spot₀ = record { good = Gw; pos = stock .pos; ha = A .index; hf = A .entry }
 
   -- its owner's entry stays as it is
   owner₀ : (k : ℕ) → user v₀ u k ≡ user w u k
@@ -84,13 +84,13 @@ module _ (choose : Vol → ℕ) (P : ℕ) (ch : Chooser P choose) (v : Vol) (S :
   only₀ = subst (λ (q : ℕ). OnlyAt (EntryOf q e) w v₀) (sym (write-beside spot₀ isO isU E₀ v₀ else₀ .places .ofObject e)) (only-putWords w (objectPage w e) (entryWord e) 32 E₀)
 
   pub indexed-created : Created P v v₀ u e E₀ 0 0 (fileNeed v e) (EntryOf (objectPage v₀ e) e)
-  indexed-created = file-created choose P ch v S pos u name type created A 0 0 w (λ p. 0) Gw (taking-none P w) (omega arith) (inl (refl, refl))
+  indexed-created = file-created stock A created 0 0 w (λ p. 0) Gw (taking-none P w) (omega arith) (inl (refl, refl))
       (λ p h. sym (sum-zero (λ i. hit p (0 + i)))) (omega (arith, within)) v₀ else₀ more₀ (EntryOf (objectPage v₀ e) e) only₀
 
   -- no user's entry changes
   pub indexed-users : (z k : ℕ) → k < 32 → user v₀ z k ≡ user v z k
   indexed-users z k h = elim (ℕ-discrete z u) [
-    | yes q ↦ subst (λ (y : ℕ). user v₀ y k ≡ user v y k) (sym q) (owner₀ k ∙ ap (λ (U : Table). U u k) (file-place choose P ch v S pos u name type created A .placed .taking .users))
+    | yes q ↦ subst (λ (y : ℕ). user v₀ y k ≡ user v y k) (sym q) (owner₀ k ∙ ap (λ (U : Table). U u k) (file-place stock A .placed .taking .users))
     | no n ↦ indexed-created .beside .users z n k h
   ]
 
@@ -157,16 +157,16 @@ module _ (choose : Vol → ℕ) (P : ℕ) (ch : Chooser P choose) (v : Vol) (S :
     more = ap (λ (q : ℕ). two (v′ q) (entryWord u + 16)) U-is ∙ put2-two y (userPage w u) (entryWord u + 16) (usedPages (user w) u + n) ∙ ap (λ (z : ℕ). z + n) same
 
     spot : Spot P x hand u f
-    spot = record { good = G; pos = pos; ha = A .index; hf = A .entry }
+    spot = record { good = G; pos = stock .pos; ha = A .index; hf = A .entry }
 
     only : OnlyAt (Either (EntryOf (objectPage v′ e) e) (FieldOf (userPage v u) u 16 2)) x v′
     unfolding createContiguous
     only = subst₂ (λ (q r : ℕ). OnlyAt (Either (EntryOf q e) (FieldOf r u 16 2)) x v′)
         (sym (write-beside spot (omega (arith, isO, O-is)) (omega (arith, isU, U-is)) E v′ else .places .ofObject e ∙ O-is))
-        (owner-page choose P ch v S pos u name type created A .0)
+        (owner-page stock A .0)
         (only-then (EntryOf (objectPage w e) e) (FieldOf (userPage w u) u 16 2) x y v′ (only-putWords x (objectPage w e) (entryWord e) 32 E)
         (only-put2 y (userPage w u) (entryWord u + 16) (usedPages (user w) u + n)))
 
     pub contiguous-created : Created P v v′ u e E n s (fileNeed v e) (Either (EntryOf (objectPage v′ e) e) (FieldOf (userPage v u) u 16 2))
-    contiguous-created = file-created choose P ch v S pos u name type created A n s x hand G X (omega (arith, fits, some)) (inr (some, there, fits)) hands left v′ else more
+    contiguous-created = file-created stock A created n s x hand G X (omega (arith, fits, some)) (inr (some, there, fits)) hands left v′ else more
         (Either (EntryOf (objectPage v′ e) e) (FieldOf (userPage v u) u 16 2)) only

@@ -14,7 +14,7 @@ use Rattle.book.specs.Outcome.{Outcome, DoneAs, call, asking, judged}
 use Rattle.book.specs.Rows.{Clear, Counted}
 use Rattle.book.specs.Rules.{Sound}
 use Rattle.book.specs.Words.{Vol, vol}
-use Rattle.laws.specs.Bits.Choose.{lowest-chooser}
+use Rattle.laws.specs.Bits.Choose.{lowest-stock}
 use Rattle.laws.specs.Bits.Taking.{TakenWords}
 use Rattle.laws.specs.Call.After.{after-call, kept-call}
 use Rattle.laws.specs.Call.Done.{done}
@@ -49,7 +49,7 @@ module _ (img : List ℕ) (u : ℕ) (name type : List ℕ) (created : ℕ) where
   i = createIndexed (lowestFree P) P v u name type created
 
   indexed-step : Whole img → Sound P v → FileWanted P v u name type → Created P v i u e (objectEntry u e name type created 0 0) 0 0 (fileNeed v e) (EntryOf (objectPage i e) e)
-  indexed-step W S A = indexed-created (lowestFree P) P (lowest-chooser P) v S (omega (arith, W .least)) u name type created A
+  indexed-step W S A = indexed-created (lowest-stock S (omega (arith, W .least))) created A
 
   module _ (r : Numbers ℕ) (img′ : List ℕ) (o : Outcome (createIndexedCall img u name type created) img r img′) where
     abbrev v′ : Vol
@@ -66,7 +66,7 @@ module _ (img : List ℕ) (u : ℕ) (name type : List ℕ) (created : ℕ) where
         ((λ p k h. refl), beside-new-same v u e, (λ z k h. refl))
         (λ W A S c.
         let a : FileWanted P v u name type = wanted (A .0) (A .1) (A .2) (c .0) (c .1 .0) (c .1 .1 .0) (c .1 .1 .1 .0) in
-        let s = indexed-step W S a in (s .only, s .beside, indexed-users (lowestFree P) P (lowest-chooser P) v S (omega (arith, W .least)) u name type created a))
+        let s = indexed-step W S a in (s .only, s .beside, indexed-users (lowest-stock S (omega (arith, W .least))) created a))
 
     pub frame-create-indexed : OnlyAt (IndexedWords P v v′ e) v v′
     frame-create-indexed = indexed-left .0
@@ -109,7 +109,7 @@ module _ (img : List ℕ) (u : ℕ) (name type : List ℕ) (created : ℕ) where
     contiguous-step : Whole img → Sound P v → CountArg n → FileWanted P v u name type → n ≤ spare v u → 0 < s
         → Created P v x u e (objectEntry u e name type created n s) n s (fileNeed v e) (Either (EntryOf (objectPage x e) e) (FieldOf (userPage v u) u 16 2))
     contiguous-step W S N A le there =
-        contiguous-created (lowestFree P) P (lowest-chooser P) v S (omega (arith, W .least)) u name type created A n (N .0) le there (omega (arith, W .most))
+        contiguous-created (lowest-stock S (omega (arith, W .least))) created A n (N .0) le there (omega (arith, W .most))
 
     module _ (r : Numbers ℕ) (img′ : List ℕ) (o : Outcome (createContiguousCall img u name type created n) img r img′) where
       abbrev y : Vol

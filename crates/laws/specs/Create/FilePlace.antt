@@ -9,9 +9,8 @@ use Rattle.book.specs.Create.{extend, objectIndex, fileNeed, withIndex, withObj
 use Rattle.book.specs.Entries.{objectPage, entryPage, unreserved}
 use Rattle.book.specs.Holders.{hit}
 use Rattle.book.specs.Pointers.{slot, flags, page, objectPointer, unreservedCount}
-use Rattle.book.specs.Rules.{Sound}
 use Rattle.book.specs.Words.{Vol}
-use Rattle.laws.specs.Bits.Choose.{Chooser}
+use Rattle.laws.specs.Bits.Choose.{Stock}
 use Rattle.laws.specs.Bits.Taking.{TakenWords, NoWords}
 use Rattle.laws.specs.Count.Good.{bit-le}
 use Rattle.laws.specs.Create.Join.{SlotWords}
@@ -34,9 +33,9 @@ pub record FilePlaced (P : ℕ) (v w : Vol) (e : ℕ) : Type 0 where
   pub placed : Placed P v w (FilePlaceWords v e) (fileNeed v e)
   pub there : 0 < objectPage w e
 
-module _ (choose : Vol → ℕ) (P : ℕ) (ch : Chooser P choose) (e : ℕ) where
+module _ {choose : Vol → ℕ} {P : ℕ} {e : ℕ} where
   -- an absent page under an index block that is there
-  module _ (v : Vol) (S : Sound P v) (pos : 0 < P) (R : Reached P v e) (p : 0 < objectIndex v e) (z : objectPage v e ≡ 0) (have : 1 ≤ unreserved v) where
+  module _ {v : Vol} (stock : Stock choose P v) (R : Reached P v e) (p : 0 < objectIndex v e) (z : objectPage v e ≡ 0) (have : 1 ≤ unreserved v) where
     abbrev X : ℕ
     X = objectIndex v e
 
@@ -47,42 +46,42 @@ module _ (choose : Vol → ℕ) (P : ℕ) (ch : Chooser P choose) (e : ℕ) wher
     v′ = extend choose P v X j
 
     N : Vacant P v X j
-    N = index-vacant P v S e R p z
+    N = index-vacant P v (stock .sound) e R p z
 
     page-placed : Placed P v v′ (Either (SlotWords X j) UnreservedWords) 1
-    page-placed = extend-placed choose P ch v S pos X j N have
+    page-placed = extend-placed stock N have
 
     R′ : Reached P v′ e
-    R′ = reached-kept P v v′ e (extend-master choose P ch v S pos X j N have objectPointer (omega arith)) (extend-master choose P ch v S pos X j N have (suc objectPointer) (omega arith)) R
+    R′ = reached-kept P v v′ e (extend-master stock N have objectPointer (omega arith)) (extend-master stock N have (suc objectPointer) (omega arith)) R
 
     top-same : page (v′ 0) objectPointer ≡ page (v 0) objectPointer
-    top-same = page-ext (v′ 0) (v 0) objectPointer (extend-master choose P ch v S pos X j N have objectPointer (omega arith)) (extend-master choose P ch v S pos X j N have (suc objectPointer) (omega arith))
+    top-same = page-ext (v′ 0) (v 0) objectPointer (extend-master stock N have objectPointer (omega arith)) (extend-master stock N have (suc objectPointer) (omega arith))
 
     flags-same : flags (v′ 0) objectPointer ≡ flags (v 0) objectPointer
-    flags-same = flags-ext (v′ 0) (v 0) objectPointer (extend-master choose P ch v S pos X j N have objectPointer (omega arith))
+    flags-same = flags-ext (v′ 0) (v 0) objectPointer (extend-master stock N have objectPointer (omega arith))
 
     index-same : objectIndex v′ e ≡ X
     index-same = go (R .kind)
       where
         go : Reaches v e → objectIndex v′ e ≡ objectIndex v e
-        go (inl h) = object-one P v′ (page-placed .sound) e R′ (flags-same ∙ h .0) ∙ top-same ∙ sym (object-one P v S e R (h .0))
+        go (inl h) = object-one P v′ (page-placed .sound) e R′ (flags-same ∙ h .0) ∙ top-same ∙ sym (object-one P v (stock .sound) e R (h .0))
         go (inr h) =
-            let b = under P v S e R (h .0) (h .1) p in
+            let b = under P v (stock .sound) e R (h .0) (h .1) p in
             let o : ℕ = page (v 0) objectPointer in
             object-two P v′ (page-placed .sound) e R′ (flags-same ∙ h .0) ∙ ap (λ (t : ℕ). slot v′ t (entryPage e / 512)) top-same
-            ∙ slot-same v v′ o (extend-keeps choose P ch v S pos X j N have o
-            (λ q. omega (arith, b .1, once P v S (objectIndex v e) (b .0), subst (λ (y : ℕ). hit (objectIndex v e) y ≡ 1) (sym q) (hit-same (objectIndex v e) p)))
-            (top-held P v S e R (h .0))) (entryPage e / 512)
-            ∙ sym (object-two P v S e R (h .0))
+            ∙ slot-same v v′ o (extend-keeps stock N have o
+            (λ q. omega (arith, b .1, once P v (stock .sound) (objectIndex v e) (b .0), subst (λ (y : ℕ). hit (objectIndex v e) y ≡ 1) (sym q) (hit-same (objectIndex v e) p)))
+            (top-held P v (stock .sound) e R (h .0))) (entryPage e / 512)
+            ∙ sym (object-two P v (stock .sound) e R (h .0))
 
     page-there : 0 < objectPage v′ e
     page-there = omega (
       arith,
-      extend-pos choose P ch v S pos X j N have,
-      object-slot P v′ (page-placed .sound) e R′ ∙ ap (λ (x : ℕ). slot v′ x j) index-same ∙ extend-slot choose P ch v S pos X j N have,
+      extend-pos stock N have,
+      object-slot P v′ (page-placed .sound) e R′ ∙ ap (λ (x : ℕ). slot v′ x j) index-same ∙ extend-slot stock N have,
     )
 
-  module _ (v : Vol) (S : Sound P v) (pos : 0 < P) (R : Reached P v e) (have : fileNeed v e ≤ unreserved v) where
+  module _ {v : Vol} (stock : Stock choose P v) (R : Reached P v e) (have : fileNeed v e ≤ unreserved v) where
     abbrev o : ℕ
     o = page (v 0) objectPointer
 
@@ -93,7 +92,7 @@ module _ (choose : Vol → ℕ) (P : ℕ) (ch : Chooser P choose) (e : ℕ) wher
     both : 0 < objectIndex v e → 0 < objectPage v e → FilePlaced P v (filePlace choose P v e) e
     unfolding filePlace withIndex withObjectPage fileNeed
     both p q = subst (λ (w : Vol). FilePlaced P v w e) (sym is) (record {
-      placed = placed-wider P v v NoWords (FilePlaceWords v e) 0 (fileNeed v e) (placed-none P v S) (omega arith) (λ p k h. absurd h);
+      placed = placed-wider P v v NoWords (FilePlaceWords v e) 0 (fileNeed v e) (placed-none P v (stock .sound)) (omega arith) (λ p k h. absurd h);
       there = q;
     })
       where
@@ -104,9 +103,9 @@ module _ (choose : Vol → ℕ) (P : ℕ) (ch : Chooser P choose) (e : ℕ) wher
     page-absent : 0 < objectIndex v e → objectPage v e ≡ 0 → FilePlaced P v (filePlace choose P v e) e
     unfolding filePlace withIndex withObjectPage fileNeed
     page-absent p z = subst (λ (w : Vol). FilePlaced P v w e) (sym is) (record {
-      placed = placed-wider P v (v′ v S pos R p z (omega (arith, have))) (Either (SlotWords (objectIndex v e) (entryPage e % 512)) UnreservedWords) (FilePlaceWords v e) 1 (fileNeed v e)
-          (page-placed v S pos R p z (omega (arith, have))) (omega arith) wide;
-      there = page-there v S pos R p z (omega (arith, have));
+      placed = placed-wider P v (v′ stock R p z (omega (arith, have))) (Either (SlotWords (objectIndex v e) (entryPage e % 512)) UnreservedWords) (FilePlaceWords v e) 1 (fileNeed v e)
+          (page-placed stock R p z (omega (arith, have))) (omega arith) wide;
+      there = page-there stock R p z (omega (arith, have));
     })
       where
         is : filePlace choose P v e ≡ extend choose P v (objectIndex v e) (entryPage e % 512)
@@ -120,48 +119,51 @@ module _ (choose : Vol → ℕ) (P : ℕ) (ch : Chooser P choose) (e : ℕ) wher
     module _ (z : objectIndex v e ≡ 0) where
       need : fileNeed v e ≡ 2
       unfolding fileNeed
-      need = omega (arith, z, object-none P v S e R z)
+      need = omega (arith, z, object-none P v (stock .sound) e R z)
 
       have₁ : 1 ≤ unreserved v
       have₁ = omega (arith, have, need)
 
       N₁ : Vacant P v o i
-      N₁ = top-vacant P v S e R z
+      N₁ = top-vacant P v (stock .sound) e R z
 
       abbrev w : Vol
       w = extend choose P v o i
 
       T₁ : Placed P v w (Either (SlotWords o i) UnreservedWords) 1
-      T₁ = extend-placed choose P ch v S pos o i N₁ have₁
+      T₁ = extend-placed stock N₁ have₁
+
+      next : Stock choose P w
+      next = record { choice = stock .choice; sound = T₁ .sound; pos = stock .pos }
 
       two : flags (v 0) objectPointer ≡ 2
       two = go (R .kind)
         where
           go : Reaches v e → flags (v 0) objectPointer ≡ 2
-          go (inl h) = absurd (let r : ⊥ = omega (arith, z, object-one P v S e R (h .0), R .real) in r)
+          go (inl h) = absurd (let r : ⊥ = omega (arith, z, object-one P v (stock .sound) e R (h .0), R .real) in r)
           go (inr h) = h .0
 
       mast : (k : ℕ) → k < unreservedCount → w 0 k ≡ v 0 k
-      mast = extend-master choose P ch v S pos o i N₁ have₁
+      mast = extend-master stock N₁ have₁
 
       R₁ : Reached P w e
       R₁ = reached-kept P v w e (mast objectPointer (omega arith)) (mast (suc objectPointer) (omega arith)) R
 
       index₁ : objectIndex w e ≡ choose v
       index₁ = object-two P w (T₁ .sound) e R₁ (flags-ext (w 0) (v 0) objectPointer (mast objectPointer (omega arith)) ∙ two)
-          ∙ ap (λ (t : ℕ). slot w t i) (page-ext (w 0) (v 0) objectPointer (mast objectPointer (omega arith)) (mast (suc objectPointer) (omega arith))) ∙ extend-slot choose P ch v S pos o i N₁ have₁
+          ∙ ap (λ (t : ℕ). slot w t i) (page-ext (w 0) (v 0) objectPointer (mast objectPointer (omega arith)) (mast (suc objectPointer) (omega arith))) ∙ extend-slot stock N₁ have₁
 
       p₁ : 0 < objectIndex w e
-      p₁ = omega (arith, index₁, extend-pos choose P ch v S pos o i N₁ have₁)
+      p₁ = omega (arith, index₁, extend-pos stock N₁ have₁)
 
       z₁ : objectPage w e ≡ 0
-      z₁ = object-slot P w (T₁ .sound) e R₁ ∙ ap (λ (x : ℕ). slot w x (entryPage e % 512)) index₁ ∙ extend-bare choose P ch v S pos o i N₁ have₁ (entryPage e % 512)
+      z₁ = object-slot P w (T₁ .sound) e R₁ ∙ ap (λ (x : ℕ). slot w x (entryPage e % 512)) index₁ ∙ extend-bare stock N₁ have₁ (entryPage e % 512)
 
       have₂ : 1 ≤ unreserved w
       have₂ = omega (arith, have, need, T₁ .taking .paid)
 
       T₂ : Placed P w (extend choose P w (objectIndex w e) (entryPage e % 512)) (Either (SlotWords (objectIndex w e) (entryPage e % 512)) UnreservedWords) 1
-      T₂ = page-placed w (T₁ .sound) pos R₁ p₁ z₁ have₂
+      T₂ = page-placed next R₁ p₁ z₁ have₂
 
       is : filePlace choose P v e ≡ extend choose P w (objectIndex w e) (entryPage e % 512)
       unfolding filePlace withIndex withObjectPage
@@ -171,7 +173,7 @@ module _ (choose : Vol → ℕ) (P : ℕ) (ch : Chooser P choose) (e : ℕ) wher
       both-absent = subst (λ (w : Vol). FilePlaced P v w e) (sym is) (record {
         placed = placed-then P v w (extend choose P w (objectIndex w e) (entryPage e % 512)) (Either (SlotWords o i) UnreservedWords)
             (Either (SlotWords (objectIndex w e) (entryPage e % 512)) UnreservedWords) (FilePlaceWords v e) 1 1 (fileNeed v e) T₁ T₂ need wide;
-        there = page-there w (T₁ .sound) pos R₁ p₁ z₁ have₂;
+        there = page-there next R₁ p₁ z₁ have₂;
       })
         where
           paid : 0 < fileNeed v e
@@ -182,7 +184,7 @@ module _ (choose : Vol → ℕ) (P : ℕ) (ch : Chooser P choose) (e : ℕ) wher
           wide q k (inl (inl h)) = inr (inr (inl (z, h)))
           wide q k (inl (inr h)) = inr (inl (paid, h))
           wide q k (inr (inl h)) =
-              let t = extend-taken choose P ch v S pos o i N₁ have₁ in
+              let t = extend-taken stock N₁ have₁ in
               inl (choose v, (t .0, t .1, omega (arith, t .2, T₂ .taking .bits (choose v) (t .0), bit-le P (extend choose P w (objectIndex w e) (entryPage e % 512)) (choose v))), inl (h .0 ∙ index₁))
           wide q k (inr (inr h)) = inr (inl (paid, h))
 

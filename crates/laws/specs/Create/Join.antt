@@ -71,52 +71,63 @@ module _ (v v′ : Vol) (X k d : ℕ) (L : Link v v′ X k d) where
   ]
   pageAt-there (run s m) n h = refl
 
-module _ (P : ℕ) (v : Vol) (hand : ℕ → ℕ) (G : Good P v hand) (pos : 0 < P) (v′ : Vol) (X k d : ℕ) (N : Vacant P v X k)
-    (hd : d < P) (pd : 0 < d) (held : 1 ≤ hand d) (bare : (j : ℕ) → word v d j ≡ 0)
-    (read : (q j : ℕ) → 0 < q → v′ q j ≡ setSlot v X k d q j) (M : Master v v′) (paid : two (v′ 0) unreservedCount + 1 ≡ two (v 0) unreservedCount) where
+-- page d in hand, all zeros, is put into the empty slot k of block X, and paid
+pub record Joining (P : ℕ) (v v′ : Vol) (hand : ℕ → ℕ) (X k d : ℕ) : Type 0 where
+  pub good : Good P v hand
+  pub pos : 0 < P
+  pub vacant : Vacant P v X k
+  pub below : d < P
+  pub real : 0 < d
+  pub held : 1 ≤ hand d
+  pub bare : (j : ℕ) → word v d j ≡ 0
+  pub read : (q j : ℕ) → 0 < q → v′ q j ≡ setSlot v X k d q j
+  pub master : Master v v′
+  pub paid : two (v′ 0) unreservedCount + 1 ≡ two (v 0) unreservedCount
+
+module _ {P : ℕ} {v v′ : Vol} {hand : ℕ → ℕ} {X k d : ℕ} (join : Joining P v v′ hand X k d) where
   abbrev w : Vol
   w = setSlot v X k d
 
   same : (q j : ℕ) → word v′ q j ≡ word w q j
-  same q j = word-ext w v′ q j (λ h. read q j h)
+  same q j = word-ext w v′ q j (λ h. join .read q j h)
 
   apart : d ≢ X
   unfolding rest
   apart e = omega (
     arith,
-    G .held X (N .below),
+    join .good .held X (join .vacant .below),
     bit-le P v X,
     all-rest P v (hit X),
     blocksR-le v (userFile v) (hit X),
     blocksR-le v (objectFile v) (hit X),
-    N .block,
-    subst (λ (x : ℕ). 1 ≤ hand x) e held,
+    join .vacant .block,
+    subst (λ (x : ℕ). 1 ≤ hand x) e (join .held),
   )
 
   pub join-bare : (j : ℕ) → word v′ d j ≡ 0
-  join-bare j = same d j ∙ word-ext v w d j (λ h. setSlot-page v X k d d j apart) ∙ bare j
+  join-bare j = same d j ∙ word-ext v w d j (λ h. setSlot-page v X k d d j apart) ∙ join .bare j
 
   link : Link v v′ X k d
   link = record {
     rest = λ q n j. same q j ∙ word-ext v w q j (λ h. setSlot-page v X k d q j n);
-    room = N .room;
-    was = N .was;
-    now = slot-same w v′ X (same X) k ∙ slot-here v X k d (N .real);
-    others = λ j n. slot-same w v′ X (same X) j ∙ slot-other v X k d (N .real) j n;
+    room = join .vacant .room;
+    was = join .vacant .was;
+    now = slot-same w v′ X (same X) k ∙ slot-here v X k d (join .vacant .real);
+    others = λ j n. slot-same w v′ X (same X) j ∙ slot-other v X k d (join .vacant .real) j n;
     bare = λ j h. slot-bare v′ d join-bare j;
-    real = N .real;
+    real = join .vacant .real;
   }
 
   settled : Settled P v v′ (hit X) (λ g. g d)
-  settled = linked P v hand G pos v′ X k d link join-bare (slot-bare v′ d join-bare) M paid (N .below) (N .block) hd pd (N .eight) (N .four)
+  settled = linked P v hand (join .good) (join .pos) v′ X k d link join-bare (slot-bare v′ d join-bare) (join .master) (join .paid) (join .vacant .below) (join .vacant .block) (join .below) (join .real) (join .vacant .eight) (join .vacant .four)
 
   pub join-good : (hand′ : ℕ → ℕ) → ((p : ℕ) → p < P → hand′ p + hit p d ≡ hand p) → Good P v′ hand′
-  join-good = system-good P v hand G v′ (hit X) (λ g. g d) settled
+  join-good = system-good P v hand (join .good) v′ (hit X) (λ g. g d) settled
 
   pub join-slot : slot v′ X k ≡ d
   join-slot = link .now
 
   pub join-taking : (F : Places) → OnlyAt F v v′ → Taking P v v′ F 0 1
-  join-taking F o = subst (λ (x : ℕ). Taking P v v′ F 0 x) (some-pos d pd) (settled-taking P v hand G v′ (hit X) (λ g. g d) settled
-      (λ i h. ap (λ (r : Root). pageAt v′ r i) (users-root v v′ (master-roots P v v′ M)) ∙ pageAt-there v v′ X k d link (userFile v) i h)
-      (λ i h. ap (λ (r : Root). pageAt v′ r i) (objs-root v v′ (master-roots P v v′ M)) ∙ pageAt-there v v′ X k d link (objectFile v) i h) F o)
+  join-taking F o = subst (λ (x : ℕ). Taking P v v′ F 0 x) (some-pos d (join .real)) (settled-taking P v hand (join .good) v′ (hit X) (λ g. g d) settled
+      (λ i h. ap (λ (r : Root). pageAt v′ r i) (users-root v v′ (master-roots P v v′ (join .master))) ∙ pageAt-there v v′ X k d link (userFile v) i h)
+      (λ i h. ap (λ (r : Root). pageAt v′ r i) (objs-root v v′ (master-roots P v v′ (join .master))) ∙ pageAt-there v v′ X k d link (objectFile v) i h) F o)

@@ -13,12 +13,12 @@ use Rattle.book.specs.Rules.{Sound, Rule10}
 use Rattle.book.specs.Trees.{Root, blocksR}
 use Rattle.book.specs.Words.{Vol, two, word}
 use Rattle.book.specs.Written.{word-ext}
-use Rattle.laws.specs.Bits.Choose.{chosen, Chooser}
-use Rattle.laws.specs.Bits.Claim.{bitPage-rest, free-none, free-pos, claim-agree, claim-roots, claim-quiet, claim-none, claim-good, claim-master, claim-zero, claim-bit}
+use Rattle.laws.specs.Bits.Choose.{Stock}
+use Rattle.laws.specs.Bits.Claim.{FreePage, bitPage-rest, free-none, free-pos, claim-agree, claim-roots, claim-quiet, claim-none, claim-good, claim-master, claim-zero, claim-bit}
+use Rattle.laws.specs.Bits.Claims.{stock-free}
 use Rattle.laws.specs.Bits.Taking.{Taken, TakenWords, NoWords, no-words, Taking, taking-none, taking-then, taking-wider, claim-taking, calm-blocks}
-use Rattle.laws.specs.Count.Good.{Good, good, bit-le, sound}
-use Rattle.laws.specs.Count.Room.{system-room}
-use Rattle.laws.specs.Create.Join.{only-pay, pay-page, pay-below, pay-less, SlotWords, join-bare, join-good, join-slot, join-taking}
+use Rattle.laws.specs.Count.Good.{bit-le, sound}
+use Rattle.laws.specs.Create.Join.{only-pay, pay-page, pay-below, pay-less, SlotWords, Joining, join-bare, join-good, join-slot, join-taking}
 use Rattle.laws.specs.Create.Vacant.{Vacant}
 use Rattle.laws.specs.Frame.Places.{Places, UnreservedWords, Either, OnlyAt, only-then, only-put2}
 use Rattle.laws.specs.Frame.Renewed.{Master}
@@ -44,7 +44,7 @@ placed-wider P v w F K a n S e wide = record { sound = S .sound; taking = taking
 
 -- ---- a claim leaves the blocks
 
-module _ (P : ℕ) (v : Vol) (hand : ℕ → ℕ) (G : Good P v hand) (d : ℕ) (hd : d < P) (fd : bit P v d ≡ 0) where
+module _ {P : ℕ} {v : Vol} {hand : ℕ → ℕ} {d : ℕ} (here : FreePage P v hand d) where
   abbrev w : Vol
   w = claim P v d
 
@@ -53,10 +53,10 @@ module _ (P : ℕ) (v : Vol) (hand : ℕ → ℕ) (G : Good P v hand) (d : ℕ) 
 
   pub claim-word : (X : ℕ) → 1 ≤ rest v (hit X) → (j : ℕ) → word w X j ≡ word v X j
   unfolding Agree
-  claim-word X h j = claim-agree P v hand G d hd fd X (omega (
+  claim-word X h j = claim-agree here X (omega (
     arith,
-    hit-other (bitPage P v d) X (λ e. omega (arith, h, subst (λ (x : ℕ). rest v (hit x) ≡ 0) (sym e) (bitPage-rest P v hand G d hd .0))),
-    hit-other d X (λ e. omega (arith, h, all-rest P v (hit X), subst (λ (x : ℕ). all P v (hit x) ≡ 0) (sym e) (free-none P v hand G d hd fd .0))),
+    hit-other (bitPage P v d) X (λ e. omega (arith, h, subst (λ (x : ℕ). rest v (hit x) ≡ 0) (sym e) (bitPage-rest P v hand (here .good) d (here .below) .0))),
+    hit-other d X (λ e. omega (arith, h, all-rest P v (hit X), subst (λ (x : ℕ). all P v (hit x) ≡ 0) (sym e) (free-none here .0))),
   )) j
 
   pub claim-vacant : (X k : ℕ) → Vacant P v X k → Vacant P w X k
@@ -67,8 +67,8 @@ module _ (P : ℕ) (v : Vol) (hand : ℕ → ℕ) (G : Good P v hand) (d : ℕ) 
     block = omega (
       arith,
       N .block,
-      ap (λ (r : Root). blocksR w r (hit X)) (users-root v w R) ∙ blocksR-frame v w C (claim-agree P v hand G d hd fd) (userFile v) (calm .0) (hit X),
-      ap (λ (r : Root). blocksR w r (hit X)) (objs-root v w R) ∙ blocksR-frame v w C (claim-agree P v hand G d hd fd) (objectFile v) (calm .1) (hit X),
+      ap (λ (r : Root). blocksR w r (hit X)) (users-root v w R) ∙ blocksR-frame v w C (claim-agree here) (userFile v) (calm .0) (hit X),
+      ap (λ (r : Root). blocksR w r (hit X)) (objs-root v w R) ∙ blocksR-frame v w C (claim-agree here) (objectFile v) (calm .1) (hit X),
     );
     room = N .room;
     was = slot-same v w X (claim-word X (omega (arith, N .block, blocksR-le v (userFile v) (hit X), blocksR-le v (objectFile v) (hit X)))) k ∙ N .was;
@@ -77,38 +77,26 @@ module _ (P : ℕ) (v : Vol) (hand : ℕ → ℕ) (G : Good P v hand) (d : ℕ) 
   }
     where
       R : Roots v w
-      R = claim-roots P v hand G d hd fd
+      R = claim-roots here
 
       m : (k : ℕ) → w 0 k ≡ v 0 k
-      m = claim-master P v hand G d hd fd
+      m = claim-master here
 
       calm : (blocksR v (userFile v) C ≡ 0) × (blocksR v (objectFile v) C ≡ 0)
-      calm = calm-blocks P v w m C (claim-none P v hand G d hd fd) (claim-agree P v hand G d hd fd) (claim-quiet P v hand G d hd fd)
+      calm = calm-blocks P v w m C (claim-none here) (claim-agree here) (claim-quiet here)
 
-module _ (choose : Vol → ℕ) (P : ℕ) (ch : Chooser P choose) (v : Vol) (S : Sound P v) (pos : 0 < P) (X k : ℕ) (N : Vacant P v X k) (have : 1 ≤ unreserved v) where
+module _ {choose : Vol → ℕ} {P : ℕ} {v : Vol} (stock : Stock choose P v) {X k : ℕ} (N : Vacant P v X k) (have : 1 ≤ unreserved v) where
   abbrev d : ℕ
   d = choose v
 
   abbrev v₁ : Vol
   v₁ = claim P v d
 
-  G : Good P v (λ p. 0)
-  G = good P v S
-
-  pub extend-free : (d < P) × (bit P v d ≡ 0)
-  extend-free = chosen choose P ch v (omega (arith, have, system-room P v S pos))
-
-  hd : d < P
-  hd = extend-free .0
-
-  fd : bit P v d ≡ 0
-  fd = extend-free .1
-
-  G1 : Good P v₁ (λ p. 0 + hit d p)
-  G1 = claim-good P v (λ p. 0) G d hd fd
+  pub extend-free : FreePage P v (λ p. 0) (choose v)
+  extend-free = stock-free stock have
 
   pub extend-pos : 0 < d
-  extend-pos = free-pos P v (λ p. 0) G d hd fd
+  extend-pos = free-pos extend-free
 
   abbrev v′ : Vol
   v′ = extend choose P v X k
@@ -119,7 +107,7 @@ module _ (choose : Vol → ℕ) (P : ℕ) (ch : Chooser P choose) (v : Vol) (S :
 
   -- the master page's words but those of unreserved stay
   pub extend-master : (j : ℕ) → j < unreservedCount → v′ 0 j ≡ v 0 j
-  extend-master j h = below j h ∙ claim-master P v (λ p. 0) G d hd fd j
+  extend-master j h = below j h ∙ claim-master extend-free j
 
   read : (q j : ℕ) → 0 < q → v′ q j ≡ setSlot v₁ X k d q j
   unfolding extend
@@ -129,7 +117,7 @@ module _ (choose : Vol → ℕ) (P : ℕ) (ch : Chooser P choose) (v : Vol) (S :
   unfolding extend unreserved
   paid =
       let same : two (setSlot v₁ X k d 0) unreservedCount ≡ two (v₁ 0) unreservedCount = two-ext (setSlot v₁ X k d 0) (v₁ 0) unreservedCount (setSlot-page v₁ X k d 0 unreservedCount (omega (arith, N .real))) (setSlot-page v₁ X k d 0 (suc unreservedCount) (omega (arith, N .real))) in
-      let were : two (v₁ 0) unreservedCount ≡ two (v 0) unreservedCount = two-ext (v₁ 0) (v 0) unreservedCount (claim-master P v (λ p. 0) G d hd fd unreservedCount) (claim-master P v (λ p. 0) G d hd fd (suc unreservedCount)) in
+      let were : two (v₁ 0) unreservedCount ≡ two (v 0) unreservedCount = two-ext (v₁ 0) (v 0) unreservedCount (claim-master extend-free unreservedCount) (claim-master extend-free (suc unreservedCount)) in
       omega (arith, have, pay-less (setSlot v₁ X k d) 1 (omega (arith, have)))
 
   only : OnlyAt (Either (SlotWords X k) UnreservedWords) v₁ v′
@@ -140,34 +128,42 @@ module _ (choose : Vol → ℕ) (P : ℕ) (ch : Chooser P choose) (v : Vol) (S :
   unfolding Master
   M j a b = below j b
 
-  N1 : Vacant P v₁ X k
-  N1 = claim-vacant P v (λ p. 0) G d hd fd X k N
-
-  held : 1 ≤ 0 + hit d d
-  held = omega (arith, hit-same d extend-pos)
+  join : Joining P v₁ v′ (λ p. 0 + hit d p) X k d
+  join = record {
+    good = claim-good extend-free;
+    pos = stock .pos;
+    vacant = claim-vacant extend-free X k N;
+    below = extend-free .below;
+    real = extend-pos;
+    held = omega (arith, hit-same d extend-pos);
+    bare = claim-zero extend-free;
+    read = read;
+    master = M;
+    paid = paid;
+  }
 
   pub extend-slot : slot v′ X k ≡ d
-  extend-slot = join-slot P v₁ (λ p. 0 + hit d p) G1 pos v′ X k d N1 hd extend-pos held (claim-zero P v (λ p. 0) G d hd fd) read M paid
+  extend-slot = join-slot join
 
   -- the new page has no pointers
   pub extend-bare : (j : ℕ) → slot v′ d j ≡ 0
-  extend-bare = slot-bare v′ d (join-bare P v₁ (λ p. 0 + hit d p) G1 pos v′ X k d N1 hd extend-pos held (claim-zero P v (λ p. 0) G d hd fd) read M paid)
+  extend-bare = slot-bare v′ d (join-bare join)
 
   -- other blocks keep their words
   pub extend-keeps : (q : ℕ) → q ≢ X → 1 ≤ rest v (hit q) → (j : ℕ) → word v′ q j ≡ word v q j
-  extend-keeps q n h j = word-ext v₁ v′ q j (λ p. read q j p ∙ setSlot-page v₁ X k d q j n) ∙ claim-word P v (λ p. 0) G d hd fd q h j
+  extend-keeps q n h j = word-ext v₁ v′ q j (λ p. read q j p ∙ setSlot-page v₁ X k d q j n) ∙ claim-word extend-free q h j
 
   joined : Taking P v₁ v′ (Either (SlotWords X k) UnreservedWords) 0 1
-  joined = join-taking P v₁ (λ p. 0 + hit d p) G1 pos v′ X k d N1 hd extend-pos held (claim-zero P v (λ p. 0) G d hd fd) read M paid (Either (SlotWords X k) UnreservedWords) only
+  joined = join-taking join (Either (SlotWords X k) UnreservedWords) only
 
   pub extend-taken : Taken P v v′ d
-  extend-taken = (hd, fd, omega (arith, joined .bits d hd, claim-bit P v (λ p. 0) G d hd fd, bit-le P v′ d))
+  extend-taken = (extend-free .below, extend-free .clear, omega (arith, joined .bits d (extend-free .below), claim-bit extend-free, bit-le P v′ d))
 
   pub extend-placed : Placed P v v′ (Either (SlotWords X k) UnreservedWords) 1
   extend-placed = record {
-    sound = sound P v′ (λ p. 0) (join-good P v₁ (λ p. 0 + hit d p) G1 pos v′ X k d N1 hd extend-pos held (claim-zero P v (λ p. 0) G d hd fd) read M paid (λ p. 0)
+    sound = sound P v′ (λ p. 0) (join-good join (λ p. 0)
         (λ p h. omega (arith, hit-sym p d))) (λ p h. refl);
-    taking = taking-then P v v₁ v′ NoWords (Either (SlotWords X k) UnreservedWords) (Either (SlotWords X k) UnreservedWords) 1 0 0 1 1 1 (claim-taking P v (λ p. 0) G d hd fd) joined
+    taking = taking-then P v v₁ v′ NoWords (Either (SlotWords X k) UnreservedWords) (Either (SlotWords X k) UnreservedWords) 1 0 0 1 1 1 (claim-taking extend-free) joined
         refl refl (λ p j h. inr (no-words (Either (SlotWords X k) UnreservedWords) p j h));
   }
 

@@ -3,20 +3,19 @@ use mathlib.Core.Path.{_≡_, refl, sym, ap, _∙_, subst}
 use mathlib.Core.Logic.{_≢_, inl, inr}
 use Prim.Native.Nat.{ℕ, suc, _+_, _*_, _≤_, _<_}
 use native.Mathlib.Omega.{arith}
-use Rattle.book.specs.Bits.{bit, claim}
+use Rattle.book.specs.Bits.{claim}
 use Rattle.book.specs.Create.{raised}
 use Rattle.book.specs.Entries.{userFile, objectFile, unreserved}
 use Rattle.book.specs.Holders.{hit}
 use Rattle.book.specs.Pointers.{slot, flags, page, pointer, setSlot, objectPointer, unreservedCount, userPointer, volumeName}
-use Rattle.book.specs.Rules.{Sound}
 use Rattle.book.specs.Trees.{Root, tree, pageAt}
 use Rattle.book.specs.Words.{Vol, two, word, put2}
 use Rattle.book.specs.Written.{word-ext, put2-page, put2-word}
-use Rattle.laws.specs.Bits.Choose.{chosen, Chooser}
-use Rattle.laws.specs.Bits.Claim.{free-pos, claim-good, claim-master, claim-zero, claim-bit}
+use Rattle.laws.specs.Bits.Choose.{Stock}
+use Rattle.laws.specs.Bits.Claim.{FreePage, free-pos, claim-good, claim-master, claim-zero, claim-bit}
+use Rattle.laws.specs.Bits.Claims.{stock-free}
 use Rattle.laws.specs.Bits.Taking.{TakenWords, NoWords, Taking, taking-then, claim-taking, hand-good, hand-taking, settled-taking}
-use Rattle.laws.specs.Count.Good.{Good, good, sound, bit-le}
-use Rattle.laws.specs.Count.Room.{system-room}
+use Rattle.laws.specs.Count.Good.{Good, sound, bit-le}
 use Rattle.laws.specs.Create.Join.{only-pay, pay-page, pay-below, pay-less, SlotWords}
 use Rattle.laws.specs.Create.Placed.{Placed}
 use Rattle.laws.specs.Create.Settled.{Settled, leaves, system-good}
@@ -25,7 +24,7 @@ use Rattle.laws.specs.Frame.Roots.{pageAt-frame, no-blocks}
 use Rattle.laws.specs.Tree.Pointer.{root-1, root-2, flags-ext, page-ext, rootAt-ext, pointer-flags, pointer-page}
 use Rattle.laws.specs.Tree.Slot.{setSlot-page, slot-here, slot-other, hit-sym, slot-bare, two-ext, hit-same, some-pos}
 
-module _ (choose : Vol → ℕ) (P : ℕ) (ch : Chooser P choose) (v : Vol) (S : Sound P v) (pos : 0 < P) (big : P ≤ 1073741824) (one : flags (v 0) objectPointer ≡ 1) (have : 1 ≤ unreserved v) where
+module _ {choose : Vol → ℕ} {P : ℕ} {v : Vol} (stock : Stock choose P v) (big : P ≤ 1073741824) (one : flags (v 0) objectPointer ≡ 1) (have : 1 ≤ unreserved v) where
   abbrev s : ℕ
   s = choose v
 
@@ -35,23 +34,17 @@ module _ (choose : Vol → ℕ) (P : ℕ) (ch : Chooser P choose) (v : Vol) (S :
   abbrev t : ℕ
   t = page (v 0) objectPointer
 
-  G : Good P v (λ p. 0)
-  G = good P v S
-
-  ok : (s < P) × (bit P v s ≡ 0)
-  ok = chosen choose P ch v (omega (arith, have, system-room P v S pos))
+  here : FreePage P v (λ p. 0) s
+  here = stock-free stock have
 
   hs : s < P
-  hs = ok .0
-
-  fs : bit P v s ≡ 0
-  fs = ok .1
+  hs = here .below
 
   ps : 0 < s
-  ps = free-pos P v (λ p. 0) G s hs fs
+  ps = free-pos here
 
   G1 : Good P v₁ (λ p. 0 + hit s p)
-  G1 = claim-good P v (λ p. 0) G s hs fs
+  G1 = claim-good here
 
   held : 1 ≤ 0 + hit s s
   held = omega (arith, hit-same s ps)
@@ -64,7 +57,7 @@ module _ (choose : Vol → ℕ) (P : ℕ) (ch : Chooser P choose) (v : Vol) (S :
   G2 = hand-good P v₁ (λ p. 0 + hit s p) G1 s hs ps held w (λ q j n. setSlot-page v₁ s 0 t q j n)
 
   master : (k : ℕ) → w 0 k ≡ v 0 k
-  master k = setSlot-page v₁ s 0 t 0 k (omega (arith, ps)) ∙ claim-master P v (λ p. 0) G s hs fs k
+  master k = setSlot-page v₁ s 0 t 0 k (omega (arith, ps)) ∙ claim-master here k
 
   -- the pointer has it
   abbrev x : Vol
@@ -98,7 +91,7 @@ module _ (choose : Vol → ℕ) (P : ℕ) (ch : Chooser P choose) (v : Vol) (S :
   s0 = slot-here v₁ s 0 t ps ∙ sym (page-ext (w 0) (v 0) objectPointer (master objectPointer) (master (suc objectPointer)))
 
   so : (j : ℕ) → j ≢ 0 → slot w s j ≡ 0
-  so j n = slot-other v₁ s 0 t ps j n ∙ slot-bare v₁ s (claim-zero P v (λ p. 0) G s hs fs) j
+  so j n = slot-other v₁ s 0 t ps j n ∙ slot-bare v₁ s (claim-zero here) j
 
   mast : (k : ℕ) → volumeName ≤ k → k < unreservedCount → k ≢ objectPointer → k ≢ (suc objectPointer) → v′ 0 k ≡ w 0 k
   mast k a b c d = raised-master k b c d ∙ sym (master k)
@@ -111,7 +104,7 @@ module _ (choose : Vol → ℕ) (P : ℕ) (ch : Chooser P choose) (v : Vol) (S :
       omega (arith, have, pay-less x 1 (omega (arith, have)))
 
   T : Settled P w v′ (λ x. 0) (λ g. g s)
-  T = Rattle.laws.specs.Create.Settled.raised P w (λ p. 0 + hit s p) G2 pos v′ s hs ps words one′ raised-flags top s0 so mast paid
+  T = Rattle.laws.specs.Create.Settled.raised P w (λ p. 0 + hit s p) G2 (stock .pos) v′ s hs ps words one′ raised-flags top s0 so mast paid
 
   users : (i : ℕ) → pageAt v′ (userFile v′) i ≡ pageAt w (userFile w) i
   unfolding userFile
@@ -121,7 +114,7 @@ module _ (choose : Vol → ℕ) (P : ℕ) (ch : Chooser P choose) (v : Vol) (S :
   objs : (i : ℕ) → pageAt v′ (objectFile v′) i ≡ pageAt w (objectFile w) i
   unfolding objectFile
   objs i = ap (λ (r : Root). pageAt v′ r i) (root-2 (v′ 0) objectPointer 0 raised-flags ∙ ap (tree 2) top)
-      ∙ leaves P w (λ p. 0 + hit s p) G2 pos v′ s hs ps words one′ raised-flags top s0 so mast paid i
+      ∙ leaves P w (λ p. 0 + hit s p) G2 (stock .pos) v′ s hs ps words one′ raised-flags top s0 so mast paid i
       ∙ sym (ap (λ (r : Root). pageAt w r i) (root-1 (w 0) objectPointer 0 one′))
 
   -- the words that change on page 0
@@ -142,10 +135,10 @@ module _ (choose : Vol → ℕ) (P : ℕ) (ch : Chooser P choose) (v : Vol) (S :
   pub raised-placed : Placed P v v′ (Either (WordsOf 0 objectPointer 2) UnreservedWords) 1
   raised-placed = record {
     sound = sound P v′ (λ p. 0) (system-good P w (λ p. 0 + hit s p) G2 v′ (λ x. 0) (λ g. g s) T (λ p. 0) (λ p h. omega (arith, hit-sym p s))) (λ p h. refl);
-    taking = taking-then P v v₁ v′ NoWords (Either (SlotWords s 0) F) F 1 0 0 1 1 1 (claim-taking P v (λ p. 0) G s hs fs) rest refl refl wide;
+    taking = taking-then P v v₁ v′ NoWords (Either (SlotWords s 0) F) F 1 0 0 1 1 1 (claim-taking here) rest refl refl wide;
   }
     where
       wide : (p k : ℕ) → Either NoWords (Either (SlotWords s 0) F) p k → Either (TakenWords P v v′) F p k
       wide p k (inl h) = absurd h
-      wide p k (inr (inl h)) = inl (s, (hs, fs, omega (arith, rest .bits s hs, claim-bit P v (λ p. 0) G s hs fs, bit-le P v′ s)), inl (h .0))
+      wide p k (inr (inl h)) = inl (s, (hs, here .clear, omega (arith, rest .bits s hs, claim-bit here, bit-le P v′ s)), inl (h .0))
       wide p k (inr (inr h)) = inr h

@@ -8,18 +8,17 @@ use Rattle.book.specs.Create.{pay, started}
 use Rattle.book.specs.Entries.{userFile, objectFile, unreserved}
 use Rattle.book.specs.Holders.{hit}
 use Rattle.book.specs.Pointers.{slot, flags, page, pointer, setSlot, Zero, bitPointer, objectPointer, unreservedCount, userPointer, volumeName}
-use Rattle.book.specs.Rules.{Sound}
 use Rattle.book.specs.Trees.{Root, tree, pageAt, blocksR, blocks}
 use Rattle.book.specs.Words.{Vol, two, word, put2}
 use Rattle.book.specs.Written.{word-ext, put2-page, put2-word}
-use Rattle.laws.specs.Bits.Choose.{Chooser}
+use Rattle.laws.specs.Bits.Choose.{Stock}
 use Rattle.laws.specs.Bits.Claims.{claims, newPage, Claimed, claimed, found, claims-taking}
 use Rattle.laws.specs.Bits.Taking.{TakenWords, NoWords, Taking, taking-then, settled-taking}
-use Rattle.laws.specs.Count.Good.{Good-ext, Good, good, sound, free, bit-le}
+use Rattle.laws.specs.Count.Good.{Good-ext, Good, sound, free, bit-le}
 use Rattle.laws.specs.Count.Room.{system-room}
 use Rattle.laws.specs.Count.Sums.{sum-3}
 use Rattle.laws.specs.Create.First.{first-user}
-use Rattle.laws.specs.Create.Join.{only-pay, pay-page, pay-below, pay-less, SlotWords, join-good, join-slot, join-taking}
+use Rattle.laws.specs.Create.Join.{only-pay, pay-page, pay-below, pay-less, SlotWords, Joining, join-good, join-slot, join-taking}
 use Rattle.laws.specs.Create.Placed.{Placed}
 use Rattle.laws.specs.Create.Settled.{Settled, system-good}
 use Rattle.laws.specs.Create.Vacant.{Vacant}
@@ -29,15 +28,12 @@ use Rattle.laws.specs.Frame.Roots.{zero-none}
 use Rattle.laws.specs.Tree.Pointer.{root-1, pointer-flags, pointer-page, flags-ext, page-ext}
 use Rattle.laws.specs.Tree.Slot.{setSlot-page, hit-sym, slot-bare, two-ext, hit-same, some-pos, slot-same, put2-same}
 
-module _ (choose : Vol → ℕ) (P : ℕ) (ch : Chooser P choose) (v : Vol) (S : Sound P v) (pos : 0 < P) (big : P ≤ 1073741824)
+module _ {choose : Vol → ℕ} {P : ℕ} {v : Vol} (stock : Stock choose P v) (big : P ≤ 1073741824)
     (zu : Zero (v 0) userPointer) (zo : Zero (v 0) objectPointer) (have : 3 ≤ unreserved v) where
   -- ---- the three pages
 
-  G : Good P v (λ p. 0)
-  G = good P v S
-
   rooms : 3 ≤ free P v
-  rooms = omega (arith, have, system-room P v S pos)
+  rooms = omega (arith, have, system-room P v (stock .sound) (stock .pos))
 
   abbrev i : ℕ
   i = choose v
@@ -58,7 +54,7 @@ module _ (choose : Vol → ℕ) (P : ℕ) (ch : Chooser P choose) (v : Vol) (S :
   v₃ = claim P v₂ o
 
   C : Claimed choose P v 3
-  C = claimed choose P ch v S 3 rooms
+  C = claimed stock 3 rooms
 
   G3 : Good P v₃ (λ p. hit i p + hit u p + hit o p)
   unfolding claims
@@ -66,11 +62,11 @@ module _ (choose : Vol → ℕ) (P : ℕ) (ch : Chooser P choose) (v : Vol) (S :
 
   T3 : Taking P v v₃ NoWords 3 0
   unfolding claims
-  T3 = claims-taking choose P ch v S 3 rooms
+  T3 = claims-taking stock 3 rooms
 
   free-i : bit P v i ≡ 0
   unfolding claims
-  free-i = found choose P ch v S 3 0 rooms (omega arith) .1
+  free-i = found stock 3 0 rooms (omega arith) .1
 
   iOk : (0 < i) × (i < P)
   unfolding claims
@@ -153,7 +149,7 @@ module _ (choose : Vol → ℕ) (P : ℕ) (ch : Chooser P choose) (v : Vol) (S :
   paid = omega (arith, have, x-pay, pay-less x 2 (omega (arith, have, x-pay)), two-ext (v₃ 0) (v 0) unreservedCount (master unreservedCount) (master (suc unreservedCount)))
 
   T : Settled P v₃ w (λ x. 0) (λ g. g i + g o)
-  T = first-user P v₃ (λ p. hit i p + hit u p + hit o p) G3 pos w i o (iOk .1) (iOk .0) (oOk .1) (oOk .0) words (zero₃ userPointer zu) (zero₃ objectPointer zo) fu tu fo to
+  T = first-user P v₃ (λ p. hit i p + hit u p + hit o p) G3 (stock .pos) w i o (iOk .1) (iOk .0) (oOk .1) (oOk .0) words (zero₃ userPointer zu) (zero₃ objectPointer zo) fu tu fo to
       (slot-bare v₃ i zero-i) (slot-bare v₃ o zero-o) mast paid
 
   Gw : Good P w (λ p. hit p u)
@@ -223,8 +219,19 @@ module _ (choose : Vol → ℕ) (P : ℕ) (ch : Chooser P choose) (v : Vol) (S :
   zero-w : (j : ℕ) → word w u j ≡ 0
   zero-w j = words u j ∙ zero-u j
 
-  held : 1 ≤ hit u u
-  held = omega (arith, hit-same u (uOk .0))
+  join : Joining P w v′ (λ p. hit p u) i 0 u
+  join = record {
+    good = Gw;
+    pos = stock .pos;
+    vacant = vacant;
+    below = uOk .1;
+    real = uOk .0;
+    held = omega (arith, hit-same u (uOk .0));
+    bare = zero-w;
+    read = read;
+    master = M;
+    paid = paid′;
+  }
 
   -- the user index, its flags and its first page; the object file is indexed
   pub started-flags : flags (v′ 0) userPointer ≡ 1
@@ -233,7 +240,7 @@ module _ (choose : Vol → ℕ) (P : ℕ) (ch : Chooser P choose) (v : Vol) (S :
   pub started-slot : (slot v′ (page (v′ 0) userPointer) 0 ≡ u) × (0 < u)
   started-slot = (
     ap (λ (t : ℕ). slot v′ t 0) (page-ext (v′ 0) (w 0) userPointer (below userPointer (omega arith)) (below (suc userPointer) (omega arith)) ∙ tu)
-        ∙ join-slot P w (λ p. hit p u) Gw pos v′ i 0 u vacant (uOk .1) (uOk .0) held zero-w read M paid′,
+        ∙ join-slot join,
     (uOk .0),
   )
 
@@ -248,7 +255,7 @@ module _ (choose : Vol → ℕ) (P : ℕ) (ch : Chooser P choose) (v : Vol) (S :
 
   after₃ : Taking P v₃ v′ K 0 3
   after₃ = taking-then P v₃ w v′ F (Either (SlotWords i 0) UnreservedWords) K 0 2 0 1 0 3 Sw
-      (join-taking P w (λ p. hit p u) Gw pos v′ i 0 u vacant (uOk .1) (uOk .0) held zero-w read M paid′ (Either (SlotWords i 0) UnreservedWords) only) refl refl wide
+      (join-taking join (Either (SlotWords i 0) UnreservedWords) only) refl refl wide
     where
       wide : (p k : ℕ) → Either F (Either (SlotWords i 0) UnreservedWords) p k → Either (TakenWords P v₃ v′) K p k
       wide p k (inl h) = inr (inr h)
@@ -257,7 +264,7 @@ module _ (choose : Vol → ℕ) (P : ℕ) (ch : Chooser P choose) (v : Vol) (S :
 
   pub started-placed : Placed P v v′ (Either (WordsOf 0 objectPointer 4) UnreservedWords) 3
   started-placed = record {
-    sound = sound P v′ (λ p. 0) (join-good P w (λ p. hit p u) Gw pos v′ i 0 u vacant (uOk .1) (uOk .0) held zero-w read M paid′ (λ p. 0) (λ p h. omega arith)) (λ p h. refl);
+    sound = sound P v′ (λ p. 0) (join-good join (λ p. 0) (λ p h. omega arith)) (λ p h. refl);
     taking = taking-then P v v₃ v′ NoWords K F 3 0 0 3 3 3 T3 after₃ refl refl wide;
   }
     where

@@ -18,7 +18,7 @@ use Rattle.book.specs.Pointers.{page, Inside, unreservedCount, userPointer}
 use Rattle.book.specs.Rules.{Rule2, Sound}
 use Rattle.book.specs.Trees.{pageAt}
 use Rattle.book.specs.Words.{Vol, two, word}
-use Rattle.laws.specs.Bits.Choose.{Chooser}
+use Rattle.laws.specs.Bits.Choose.{Stock}
 use Rattle.laws.specs.Bits.Taking.{TakenWords}
 use Rattle.laws.specs.Count.Good.{Good, good, sound, free, mine-unused, most}
 use Rattle.laws.specs.Create.NewEntry.{user-used, user-name, user-own, user-zero}
@@ -70,7 +70,7 @@ pub record UserCreated (P : ℕ) (v v′ : Vol) (u : ℕ) (name : List ℕ) : Ty
   pub bits : (p : ℕ) → p < P → bit P v p ≤ bit P v′ p
   pub only : OnlyAt (UserCreateWords P v v′ u) v v′
 
-module _ (choose : Vol → ℕ) (P : ℕ) (ch : Chooser P choose) (v : Vol) (S : Sound P v) (pos : 0 < P) (big : P ≤ 1073741824) (name : List ℕ) (T : NameText name)
+module _ {choose : Vol → ℕ} {P : ℕ} {v : Vol} (stock : Stock choose P v) (big : P ≤ 1073741824) (name : List ℕ) (T : NameText name)
     (fresh : (u : ℕ) → IsUser v name u → ⊥) (lt : newUser v < 256) (have : userNeed v (newUser v) ≤ unreserved v) where
   abbrev u : ℕ
   u = newUser v
@@ -80,7 +80,7 @@ module _ (choose : Vol → ℕ) (P : ℕ) (ch : Chooser P choose) (v : Vol) (S :
 
   -- his place: pages taken and paid
   user-place : UserPlaced P v w u
-  user-place = user-placed choose P ch v S pos big u lt have (λ z. omega (arith, new-first P v (S .r2) z))
+  user-place = user-placed stock big u lt have (λ z. omega (arith, new-first P v (stock .sound .r2) z))
 
   abbrev v′ : Vol
   v′ = createUser choose P v name
@@ -106,18 +106,18 @@ module _ (choose : Vol → ℕ) (P : ℕ) (ch : Chooser P choose) (v : Vol) (S :
   -- the entry reads as written
   new-user-entry : (k : ℕ) → k < 32 → user v′ u k ≡ userEntry u name k
   unfolding createUser userPage
-  new-user-entry k h = user-there P w (λ p. 0) G pos u lt v′ agree (λ k i. master k) onU k ∙ entry-here w U u (userEntry u name) (user-place .there) k h
+  new-user-entry k h = user-there P w (λ p. 0) G (stock .pos) u lt v′ agree (λ k i. master k) onU k ∙ entry-here w U u (userEntry u name) (user-place .there) k h
 
   -- every other user's stays, and every file's
   other-users : (x : ℕ) → x ≢ u → (k : ℕ) → k < 32 → user v′ x k ≡ user v x k
-  other-users x n k h = users-else P w (λ p. 0) G pos u lt v′ agree (λ k i. master k) onU x n k h ∙ ap (λ (U : Table). U x k) (user-place .placed .taking .users)
+  other-users x n k h = users-else P w (λ p. 0) G (stock .pos) u lt v′ agree (λ k i. master k) onU x n k h ∙ ap (λ (U : Table). U x k) (user-place .placed .taking .users)
 
   roots : Roots w v′
   unfolding Roots
   roots k i j = master k
 
   same-objects : object v′ ≡ object w
-  same-objects = objects-still w v′ roots (hit _) (hit-zero _) agree (user-page P w (λ p. 0) G pos (u / 32) .1)
+  same-objects = objects-still w v′ roots (hit _) (hit-zero _) agree (user-page P w (λ p. 0) G (stock .pos) (u / 32) .1)
 
   unused : used (user w u) ≡ 0
   unused = ap (λ (U : Table). used (U u)) (user-place .placed .taking .users) ∙ new-unused v lt
@@ -156,7 +156,7 @@ module _ (choose : Vol → ℕ) (P : ℕ) (ch : Chooser P choose) (v : Vol) (S :
   new-grant = pick-yes (used (user v′ u)) (given (user v′) u) 0 (omega (arith, now-used)) ∙ none .0
 
   create-user-sound : Sound P v′
-  create-user-sound = sound P v′ (λ p. 0) (user-good P w (λ p. 0) G pos u lt v′ agree (λ k i. master k) onU new (λ h i q. omega (arith, now-used))
+  create-user-sound = sound P v′ (λ p. 0) (user-good P w (λ p. 0) G (stock .pos) u lt v′ agree (λ k i. master k) onU new (λ h i q. omega (arith, now-used))
       (λ x i. absurd (let r : ⊥ = omega (arith, user-place .high x) in r))
       (omega (arith, new-grant, no-grant w unused, two-ext (v′ 0) (w 0) unreservedCount (master unreservedCount) (master (suc unreservedCount))))
       (λ h. omega (arith, none .1, mine-unused P w (most P w (user-place .placed .sound)) u lt unused some))) (λ p h. refl)
@@ -165,16 +165,16 @@ module _ (choose : Vol → ℕ) (P : ℕ) (ch : Chooser P choose) (v : Vol) (S :
 
   all-addresses : (x : ℕ) → x < 65536 → (m : ℕ) → pageAt v′ (fileAt v′ x) m ≡ pageAt v (fileAt v x) m
   all-addresses x h m = address-still w v′ roots (hit _) (hit-zero _) agree x (kept-words (object v′ x) (object w x) (λ k i n. ap (λ (O : Table). O x k) same-objects))
-      (blocks-nobody w _ (user-page P w (λ p. 0) G pos (u / 32) .3) x h) m ∙ user-place .placed .taking .address x h m
+      (blocks-nobody w _ (user-page P w (λ p. 0) G (stock .pos) (u / 32) .3) x h) m ∙ user-place .placed .taking .address x h m
 
   -- ---- no other word changes
 
   same-bits : (p : ℕ) → p < P → bit P v′ p ≡ bit P w p
-  same-bits p h = bits-else P w (λ p. 0) G pos u lt v′ agree (λ k i. master k) onU p h
+  same-bits p h = bits-else P w (λ p. 0) G (stock .pos) u lt v′ agree (λ k i. master k) onU p h
 
   same-places : SamePlaces w v′
-  same-places = places-frame w v′ (hit _) agree master (user-page P w (λ p. 0) G pos (u / 32) .2)
-      (omega (arith, blocksR-le w (objectFile w) (hit (pageAt w (userFile w) (u / 32))), user-page P w (λ p. 0) G pos (u / 32) .1))
+  same-places = places-frame w v′ (hit _) agree master (user-page P w (λ p. 0) G (stock .pos) (u / 32) .2)
+      (omega (arith, blocksR-le w (objectFile w) (hit (pageAt w (userFile w) (u / 32))), user-page P w (λ p. 0) G (stock .pos) (u / 32) .1))
 
   only : OnlyAt (UserCreateWords P v v′ u) v v′
   unfolding createUser

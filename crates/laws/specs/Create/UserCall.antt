@@ -17,7 +17,7 @@ use Rattle.book.specs.Rows.{Clear, Counted}
 use Rattle.book.specs.Rules.{Sound}
 use Rattle.book.specs.Trees.{pageAt}
 use Rattle.book.specs.Words.{Vol, vol}
-use Rattle.laws.specs.Bits.Choose.{lowest-chooser}
+use Rattle.laws.specs.Bits.Choose.{lowest-stock}
 use Rattle.laws.specs.Call.After.{after-call, kept-call}
 use Rattle.laws.specs.Call.Done.{done}
 use Rattle.laws.specs.Create.User.{UserCreateWords, UserCreated, create-user}
@@ -35,7 +35,7 @@ module _ (img : List ℕ) (name : List ℕ) where
 
   -- the step that the call takes
   step : Whole img → NameText name → Sound P v → ((x : ℕ) → IsUser v name x → ⊥) → u < 256 → userNeed v u ≤ unreserved v → UserCreated P v (createUser (lowestFree P) P v name) u name
-  step W T S fresh lt have = create-user (lowestFree P) P (lowest-chooser P) v S (omega (arith, W .least)) (omega (arith, W .most)) name T fresh lt have
+  step W T S fresh lt have = create-user (lowest-stock S (omega (arith, W .least))) (omega (arith, W .most)) name T fresh lt have
 
   module _ (r : Numbers ℕ) (img′ : List ℕ) (o : Outcome (createUserCall img name) img r img′) where
     abbrev v′ : Vol

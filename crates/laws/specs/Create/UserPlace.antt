@@ -10,10 +10,10 @@ use Rattle.sums.specs.Sum.{is, is-same, is-other}
 use Rattle.book.specs.Create.{extend, raises, userNeed, started, withUserPage, raised, withSubindex, userPlace}
 use Rattle.book.specs.Entries.{userFile, userPage, entryPage, unreserved}
 use Rattle.book.specs.Pointers.{slot, flags, page, Zero, Inside, objectPointer, unreservedCount, userPointer}
-use Rattle.book.specs.Rules.{Rule2, Sound}
+use Rattle.book.specs.Rules.{Rule2}
 use Rattle.book.specs.Trees.{rootAt}
 use Rattle.book.specs.Words.{Vol}
-use Rattle.laws.specs.Bits.Choose.{Chooser}
+use Rattle.laws.specs.Bits.Choose.{Stock}
 use Rattle.laws.specs.Bits.Taking.{TakenWords, NoWords}
 use Rattle.laws.specs.Create.FilePlace.{When}
 use Rattle.laws.specs.Create.Join.{SlotWords}
@@ -44,7 +44,7 @@ pub record UserPlaced (P : ℕ) (v w : Vol) (u : ℕ) : Type 0 where
   pub there : 0 < userPage w u
   pub high : flags (w 0) objectPointer ≡ 1 → u < 64
 
-module _ (choose : Vol → ℕ) (P : ℕ) (ch : Chooser P choose) (v : Vol) (S : Sound P v) (pos : 0 < P) (big : P ≤ 1073741824) (u : ℕ) (hu : u < 256) (have : userNeed v u ≤ unreserved v) where
+module _ {choose : Vol → ℕ} {P : ℕ} {v : Vol} (stock : Stock choose P v) (big : P ≤ 1073741824) (u : ℕ) (hu : u < 256) (have : userNeed v u ≤ unreserved v) where
   abbrev t : ℕ
   t = page (v 0) userPointer
 
@@ -67,14 +67,14 @@ module _ (choose : Vol → ℕ) (P : ℕ) (ch : Chooser P choose) (v : Vol) (S :
     w = started choose P v
 
     T : Placed P v w (Either (WordsOf 0 objectPointer 4) UnreservedWords) 3
-    T = started-placed choose P ch v S pos big (zeros (S .r2) .0) (zeros (S .r2) .1) have₃
+    T = started-placed stock big (zeros (stock .sound .r2) .0) (zeros (stock .sound .r2) .1) have₃
 
     first-there : 0 < userPage w u
     unfolding userPage userFile rootAt
     first-there =
-        let s = started-slot choose P ch v S pos big (zeros (S .r2) .0) (zeros (S .r2) .1) have₃ in
+        let s = started-slot stock big (zeros (stock .sound .r2) .0) (zeros (stock .sound .r2) .1) have₃ in
         let k : u / 32 ≡ 0 = omega arith in
-        omega (arith, s .0, s .1, root-one w (flags (w 0) userPointer) (page (w 0) userPointer) 0 (u / 32) (started-flags choose P ch v S pos big (zeros (S .r2) .0) (zeros (S .r2) .1) have₃) (omega arith), ap (slot w (page (w 0) userPointer)) k)
+        omega (arith, s .0, s .1, root-one w (flags (w 0) userPointer) (page (w 0) userPointer) 0 (u / 32) (started-flags stock big (zeros (stock .sound .r2) .0) (zeros (stock .sound .r2) .1) have₃) (omega arith), ap (slot w (page (w 0) userPointer)) k)
 
     first-placed : UserPlaced P v (userPlace choose P v u) u
     unfolding userPlace
@@ -113,7 +113,7 @@ module _ (choose : Vol → ℕ) (P : ℕ) (ch : Chooser P choose) (v : Vol) (S :
     unfolding withUserPage userPage userFile rootAt
     with-page = elim (eq-zero-or-pos (userPage v u)) [
       | inr q ↦ subst WithPage (sym (pick-yes (userPage v u) v _ q)) (record {
-        placed = placed-wider P v v NoWords K 0 (1 - userPage v u) (placed-none P v S) (omega arith) (λ p k h. absurd h);
+        placed = placed-wider P v v NoWords K 0 (1 - userPage v u) (placed-none P v (stock .sound)) (omega arith) (λ p k h. absurd h);
         there = q;
         master = λ k h. refl;
       })
@@ -122,19 +122,19 @@ module _ (choose : Vol → ℕ) (P : ℕ) (ch : Chooser P choose) (v : Vol) (S :
       where
         absent : userPage v u ≡ 0 → WithPage (extend choose P v t (entryPage u))
         absent z =
-            let N : Vacant P v t (entryPage u) = user-vacant P v S (indexed (S .r2) .0) p (indexed (S .r2) .1) u hu z in
+            let N : Vacant P v t (entryPage u) = user-vacant P v (stock .sound) (indexed (stock .sound .r2) .0) p (indexed (stock .sound .r2) .1) u hu z in
             let h : 1 ≤ unreserved v = omega (arith, have, later) in
             let w : Vol = extend choose P v t (entryPage u) in
-            let T : Placed P v w (Either (SlotWords t (entryPage u)) UnreservedWords) 1 = extend-placed choose P ch v S pos t (entryPage u) N h in
-            let m : (k : ℕ) → k < unreservedCount → w 0 k ≡ v 0 k = extend-master choose P ch v S pos t (entryPage u) N h in
-            let f : flags (w 0) userPointer ≡ 1 = flags-ext (w 0) (v 0) userPointer (m userPointer (omega arith)) ∙ indexed (S .r2) .0 in
+            let T : Placed P v w (Either (SlotWords t (entryPage u)) UnreservedWords) 1 = extend-placed stock N h in
+            let m : (k : ℕ) → k < unreservedCount → w 0 k ≡ v 0 k = extend-master stock N h in
+            let f : flags (w 0) userPointer ≡ 1 = flags-ext (w 0) (v 0) userPointer (m userPointer (omega arith)) ∙ indexed (stock .sound .r2) .0 in
             record {
               placed = placed-wider P v w (Either (SlotWords t (entryPage u)) UnreservedWords) K 1 (1 - userPage v u) T (omega arith) (wide z);
               there = omega (
                 arith,
-                extend-pos choose P ch v S pos t (entryPage u) N h,
+                extend-pos stock N h,
                 root-one w (flags (w 0) userPointer) (page (w 0) userPointer) 0 (u / 32) f (omega arith) ∙ ap (λ (x : ℕ). slot w x (u / 32)) (page-ext (w 0) (v 0) userPointer (m userPointer (omega arith)) (m (suc userPointer) (omega arith)))
-                    ∙ extend-slot choose P ch v S pos t (entryPage u) N h,
+                    ∙ extend-slot stock N h,
               );
               master = m;
             }
@@ -176,8 +176,11 @@ module _ (choose : Vol → ℕ) (P : ℕ) (ch : Chooser P choose) (v : Vol) (S :
       have₁ : 1 ≤ unreserved w₁
       have₁ = omega (arith, have, later, one, with-page .placed .taking .paid)
 
+      next : Stock choose P w₁
+      next = record { choice = stock .choice; sound = with-page .placed .sound; pos = stock .pos }
+
       T₂ : Placed P w₁ (raised choose P w₁) (Either (WordsOf 0 objectPointer 2) UnreservedWords) 1
-      T₂ = raised-placed choose P ch w₁ (with-page .placed .sound) pos big (flags₁ ∙ was) have₁
+      T₂ = raised-placed next big (flags₁ ∙ was) have₁
 
       high-there : 0 < userPage (raised choose P w₁) u
       unfolding userPage
@@ -187,7 +190,7 @@ module _ (choose : Vol → ℕ) (P : ℕ) (ch : Chooser P choose) (v : Vol) (S :
       raise = record {
         placed = placed-then P v w₁ (raised choose P w₁) K (Either (WordsOf 0 objectPointer 2) UnreservedWords) (UserPlaceWords v u) (1 - userPage v u) 1 (userNeed v u) (with-page .placed) T₂ (omega (arith, later, one)) wide;
         there = high-there;
-        high = λ x. absurd (let r : ⊥ = omega (arith, x, raised-flags choose P ch w₁ (with-page .placed .sound) pos big (flags₁ ∙ was) have₁) in r);
+        high = λ x. absurd (let r : ⊥ = omega (arith, x, raised-flags next big (flags₁ ∙ was) have₁) in r);
       }
         where
           wide : (x k : ℕ) → Either K (Either (WordsOf 0 objectPointer 2) UnreservedWords) x k → Either (TakenWords P v (raised choose P w₁)) (UserPlaceWords v u) x k

@@ -17,7 +17,7 @@ use Rattle.book.specs.Rows.{Clear, Counted}
 use Rattle.book.specs.Rules.{Rule4, Sound}
 use Rattle.book.specs.Trees.{pageAt}
 use Rattle.book.specs.Words.{Vol, vol}
-use Rattle.laws.specs.Bits.Choose.{lowest-chooser}
+use Rattle.laws.specs.Bits.Choose.{lowest-stock}
 use Rattle.laws.specs.Call.After.{after-call, kept-call}
 use Rattle.laws.specs.Call.Done.{done}
 use Rattle.laws.specs.Count.Good.{Good, good, sound, free}
@@ -48,7 +48,7 @@ module _ (img : List ℕ) (u f : ℕ) where
   unfolding spare Rule4
   grow-step W A S h g l =
       let hu : u < 256 = omega (arith, A .0) in let hf : f < 256 = omega (arith, A .1) in
-      grown (lowestFree P) P (lowest-chooser P) v S (omega (arith, W .least)) (omega (arith, W .most)) u f hu hf (h .1)
+      grown (lowest-stock S (omega (arith, W .least))) (omega (arith, W .most)) u f hu hf (h .1)
       (grows-kind (flags (object v e) 30) n g) (omega (arith, l, S .r4 .0 u hu (h .0) .within))
 
   module _ (r : Numbers ℕ) (img′ : List ℕ) (o : Outcome (growCall img u f) img r img′) where

@@ -17,7 +17,7 @@ use Rattle.book.specs.Pointers.{flags}
 use Rattle.book.specs.Rows.{Lowest, Clear, lowest-one, clear-none, lowest-applies}
 use Rattle.book.specs.Rules.{Rule4, Sound}
 use Rattle.book.specs.Words.{Vol, vol}
-use Rattle.laws.specs.Bits.Choose.{lowest-chooser}
+use Rattle.laws.specs.Bits.Choose.{Stock, lowest-stock}
 use Rattle.laws.specs.Call.Done.{clear-done}
 use Rattle.laws.specs.Count.Good.{free}
 use Rattle.laws.specs.File.Kinds.{grows-kind}
@@ -87,8 +87,8 @@ module _ (img : List ℕ) (u f : ℕ) (W : Whole img) (A : IndexArg u × IndexAr
     unfolding Rule4 spare
     le = omega (arith, l, S .r4 .0 u hu (H .0) .within)
 
-    pos : 0 < P
-    pos = omega (arith, W .least)
+    stock : Stock (lowestFree P) P v
+    stock = lowest-stock S (omega (arith, W .least))
 
     big : P < 262144
     big = omega (arith, W .most)
@@ -97,13 +97,13 @@ module _ (img : List ℕ) (u f : ℕ) (W : Whole img) (A : IndexArg u × IndexAr
     kind = grows-kind (flags (object v (fileEntry u f)) 30) n K
 
     pub space-room : need n ≤ free P v
-    space-room = rooms (lowestFree P) P (lowest-chooser P) v S pos big u f hu hf (H .1) kind le
+    space-room = rooms stock big u f hu hf (H .1) kind le
 
     pub space-data : Finds P v
-    space-data = dOk (lowestFree P) P (lowest-chooser P) v S pos big u f hu hf (H .1) kind le
+    space-data = dOk stock big u f hu hf (H .1) kind le
 
     pub space-index : 2 ≤ need n → Finds P (taken₁ (lowestFree P) P v u f)
-    space-index = bOk (lowestFree P) P (lowest-chooser P) v S pos big u f hu hf (H .1) kind le
+    space-index = bOk stock big u f hu hf (H .1) kind le
 
     pub space-subindex : 3 ≤ need n → Finds P (taken₂ (lowestFree P) P v u f)
-    space-subindex h = sOk (lowestFree P) P (lowest-chooser P) v S pos big u f hu hf (H .1) kind le (omega arith) h
+    space-subindex h = sOk stock big u f hu hf (H .1) kind le (omega arith) h

@@ -15,7 +15,7 @@ use Rattle.book.specs.Pointers.{flags, page, pointer, setSlot}
 use Rattle.book.specs.Rules.{Rule6, Sound}
 use Rattle.book.specs.Trees.{Root, weighR, rootBy, Fill}
 use Rattle.book.specs.Words.{Vol, two}
-use Rattle.laws.specs.Bits.Choose.{Chooser}
+use Rattle.laws.specs.Bits.Choose.{Stock}
 use Rattle.laws.specs.Bits.Claims.{claims, newPage, Claimed, claimed, found}
 use Rattle.laws.specs.Count.Good.{Good, good, sound, free, free-count, room}
 use Rattle.laws.specs.Count.Sums.{sum-1, sum-2, sum-3}
@@ -32,7 +32,7 @@ use Rattle.laws.specs.Tree.Levels.{need-mid, need-block, need-raise}
 use Rattle.laws.specs.Tree.Slot.{hit-same, slot-bare}
 use Rattle.laws.specs.Tree.Weigh.{full-count}
 
-module _ (choose : Vol → ℕ) (P : ℕ) (ch : Chooser P choose) (v : Vol) (S : Sound P v) (pos : 0 < P) (big : P < 262144) (a f : ℕ) (ha : a < 256) (hf : f < 256)
+module _ {choose : Vol → ℕ} {P : ℕ} {v : Vol} (stock : Stock choose P v) (big : P < 262144) (a f : ℕ) (ha : a < 256) (hf : f < 256)
     (uf : 0 < used (object v (256 * a + f))) where
   abbrev e : ℕ
   e = 256 * a + f
@@ -41,16 +41,16 @@ module _ (choose : Vol → ℕ) (P : ℕ) (ch : Chooser P choose) (v : Vol) (S :
   n = two (object v e) 26
 
   G0 : Good P v (λ p. 0)
-  G0 = good P v S
+  G0 = good P v (stock .sound)
 
   here : Owned P v (λ p. 0) a f
-  here = record { spot = record { good = G0; pos = pos; ha = ha; hf = hf }; big = omega arith; uf = uf }
+  here = record { spot = record { good = G0; pos = stock .pos; ha = ha; hf = hf }; big = omega arith; uf = uf }
 
   -- the file is not contiguous
   module _ (kind : flags (object v e) 30 ≡ 0 → n ≡ 0) (le : usedPages (user v) a + need n ≤ given (user v) a) where
     owner : 0 < used (user v a)
     unfolding Rule6
-    owner = S .r6 .0 a f ha hf uf .owner
+    owner = stock .sound .r6 .0 a f ha hf uf .owner
 
     -- the flags by the page count
     shape : Shape P v (flags (object v e) 30) (page (object v e) 30) n
@@ -76,7 +76,7 @@ module _ (choose : Vol → ℕ) (P : ℕ) (ch : Chooser P choose) (v : Vol) (S :
         ap (λ (r : Root). weighR v r some) (root-is here 2 (flag-high z)),
         file-le v some a f ha hf,
         all-rest P v some,
-        free-count P v (λ p. 0) G0 pos,
+        free-count P v (λ p. 0) G0 (stock .pos),
       ) in r)
     ]
       where
@@ -84,7 +84,7 @@ module _ (choose : Vol → ℕ) (P : ℕ) (ch : Chooser P choose) (v : Vol) (S :
         S2 = subst (λ (x : ℕ). Shape P v x (page (object v e) 30) n) (flag-high z) shape
 
     pub rooms : need n ≤ free P v
-    rooms = omega (arith, room P v S pos a (need n) ha owner le)
+    rooms = omega (arith, room P v (stock .sound) (stock .pos) a (need n) ha owner le)
 
     need-pos : 1 ≤ need n
     unfolding need
@@ -99,7 +99,7 @@ module _ (choose : Vol → ℕ) (P : ℕ) (ch : Chooser P choose) (v : Vol) (S :
     new i = newPage choose P v i
 
     free-at : (j : ℕ) → j < need n → (new j < P) × (bit P (w j) (new j) ≡ 0)
-    free-at j h = found choose P ch v S (need n) j rooms h
+    free-at j h = found stock (need n) j rooms h
 
     pub dOk : (choose v < P) × (bit P v (choose v) ≡ 0)
     unfolding claims
@@ -117,13 +117,13 @@ module _ (choose : Vol → ℕ) (P : ℕ) (ch : Chooser P choose) (v : Vol) (S :
 
     module _ (i : ℕ) (enough : need n ≡ i) where
       C : Claimed choose P v i
-      C = claimed choose P ch v S i (omega (arith, rooms, enough))
+      C = claimed stock i (omega (arith, rooms, enough))
 
       abbrev hand : ℕ → ℕ
       hand p = sum i (λ j. hit (new j) p)
 
       there : Owned P (w i) hand a f
-      there = record { spot = record { good = C .good; pos = pos; ha = ha; hf = hf }; big = omega arith; uf = subst (λ (O : Table). 0 < used (O e)) (sym (C .still .objects)) uf }
+      there = record { spot = record { good = C .good; pos = stock .pos; ha = ha; hf = hf }; big = omega arith; uf = subst (λ (O : Table). 0 < used (O e)) (sym (C .still .objects)) uf }
 
       count-now : two (object (w i) e) 26 ≡ n
       count-now = ap (λ (O : Table). two (O e) 26) (C .still .objects)

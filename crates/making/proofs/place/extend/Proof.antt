@@ -9,7 +9,7 @@ use Rattle.making.proofs.place.extend.Tie as tie
 take-requires : tie.Need-take-requires
 take-requires c κs =
     let bp = c .before .before .before in let s = bp .before .before .before in
-    (omega arith, bp .bit-page .ensures, lowest-there (s .pre .0 .sound) (ready-some _ (s .pre .0)) (s .pre .2) .0)
+    (omega arith, bp .bit-page .ensures, lowest-there (s .pre .0 .sound) (ready-some _ (s .pre .0)) (s .pre .2) .below)
 
 mul-put-two : tie.Need-mul-put-two
 mul-put-two c =

@@ -9,7 +9,7 @@ use Rattle.making.proofs.place.raise.Tie as tie
 take-requires : tie.Need-take-requires
 take-requires c κs =
     let bp = c .before .before .before .before .before in let s = bp .before .before .before in
-    (omega arith, bp .bit-page .ensures, lowest-there (s .pre .0 .sound) (ready-some _ (s .pre .0)) (s .pre .1) .0)
+    (omega arith, bp .bit-page .ensures, lowest-there (s .pre .0 .sound) (ready-some _ (s .pre .0)) (s .pre .1) .below)
 
 sub-put-two : tie.Need-sub-put-two
 sub-put-two c =

@@ -9,7 +9,7 @@ use Rattle.making.proofs.place.start.Tie as tie
 take-requires : tie.Need-take-requires
 take-requires c κs =
     let bp = c .before .before .before in let s = bp .before .before .before in
-    (omega arith, bp .bit-page .ensures, first-there (s .pre .0 .sound) (ready-some _ (s .pre .0)) (s .pre .1) .0)
+    (omega arith, bp .bit-page .ensures, first-there (s .pre .0 .sound) (ready-some _ (s .pre .0)) (s .pre .1) .below)
 
 take-requires-2 : tie.Need-take-requires-2
 take-requires-2 c κs =
