@@ -54,14 +54,28 @@ pub record FreePage (P : ℕ) (v : Vol) (hand : ℕ → ℕ) (d : ℕ) : Type 0 
   pub below : d < P
   pub clear : bit P v d ≡ 0
 
--- page 0 never is
-above : (P : ℕ) (v : Vol) (hand : ℕ → ℕ) (d : ℕ) → FreePage P v hand d → 0 < d
-above P v hand zero h = omega (arith, h .good .held 0 (h .below), h .clear, is-same 0)
-above P v hand (suc d) h = omega arith
+-- page d of a good volume is in hand
+pub record InHand (P : ℕ) (v : Vol) (hand : ℕ → ℕ) (d : ℕ) : Type 0 where
+  pub good : Good P v hand
+  pub below : d < P
+  pub held : 1 ≤ hand d
+
+-- page 0 is reserved and nobody's: never free, never in hand
+module _ (P : ℕ) (v : Vol) (hand : ℕ → ℕ) where
+  free-above : (d : ℕ) → FreePage P v hand d → 0 < d
+  free-above zero h = omega (arith, h .good .held 0 (h .below), h .clear, is-same 0)
+  free-above (suc d) h = omega arith
+
+  hand-above : (d : ℕ) → InHand P v hand d → 0 < d
+  hand-above zero h = omega (arith, h .good .held 0 (h .below), bit-le P v 0, h .held, is-same 0)
+  hand-above (suc d) h = omega arith
+
+pub hand-pos : {P : ℕ} {v : Vol} {hand : ℕ → ℕ} {d : ℕ} → InHand P v hand d → 0 < d
+hand-pos {P} {v} {hand} {d} here = hand-above P v hand d here
 
 module _ {P : ℕ} {v : Vol} {hand : ℕ → ℕ} {d : ℕ} (here : FreePage P v hand d) where
   pub free-pos : 0 < d
-  free-pos = above P v hand d here
+  free-pos = free-above P v hand d here
 
   pub free-none : (all P v (hit d) ≡ 0) × (hand d ≡ 0)
   free-none = (omega (arith, here .good .held d (here .below), here .clear), omega (arith, here .good .held d (here .below), here .clear))
@@ -160,6 +174,10 @@ module _ {P : ℕ} {v : Vol} {hand : ℕ → ℕ} {d : ℕ} (here : FreePage P v
             (omega (arith, here .good .held d (here .below), here .clear, claim-all (hit d), claim-bit, hit-same d (free-pos)))
         | no n ↦ omega (arith, here .good .held p h, claim-all (hit p), claim-bit-other p h n, hit-other d p n)
       ]
+
+  -- it is in hand now
+  pub claim-hand : InHand P (claim P v d) (λ p. hand p + hit d p) d
+  claim-hand = record { good = claim-good; below = here .below; held = omega (arith, hit-same d free-pos) }
 
   pub claim-free : free P (claim P v d) + 1 ≡ free P v
   unfolding free

@@ -12,7 +12,7 @@ use Rattle.book.specs.Holders.{hit, some}
 use Rattle.book.specs.Trees.{Root, weighR, blocksR, pageAt}
 use Rattle.book.specs.Words.{Vol, word}
 use Rattle.book.specs.Written.{word-ext}
-use Rattle.laws.specs.Bits.Claim.{FreePage, bitPage-rest, claim-agree, claim-quiet, claim-none, claim-bit, claim-bit-other, claim-free, claim-master}
+use Rattle.laws.specs.Bits.Claim.{FreePage, InHand, hand-pos, bitPage-rest, claim-agree, claim-quiet, claim-none, claim-bit, claim-bit-other, claim-free, claim-master}
 use Rattle.laws.specs.Count.Good.{Good, free, bit-le}
 use Rattle.laws.specs.Create.Settled.{Settled, file-same, bits-kept}
 use Rattle.laws.specs.Frame.Places.{Places, PageOf, WordsOf, Either, OnlyAt, only-wider, only-then, only-put, only-wipe}
@@ -155,25 +155,25 @@ module _ {P : ℕ} {v : Vol} {hand : ℕ → ℕ} {d : ℕ} (here : FreePage P v
       wide p k (inr h) = inl (d, (here .below, here .clear, claim-bit here), inl h)
 
 -- a page in hand is written
-module _ (P : ℕ) (v : Vol) (hand : ℕ → ℕ) (G : Good P v hand) (s : ℕ) (hs : s < P) (ps : 0 < s) (held : 1 ≤ hand s) (w : Vol) (else : (q j : ℕ) → q ≢ s → w q j ≡ v q j) where
+module _ {P : ℕ} {v : Vol} {hand : ℕ → ℕ} {s : ℕ} (here : InHand P v hand s) {w : Vol} (else : (q j : ℕ) → q ≢ s → w q j ≡ v q j) where
   master : (k : ℕ) → w 0 k ≡ v 0 k
-  master k = else 0 k (omega arith)
+  master k = else 0 k (omega (arith, hand-pos here))
 
   agree : Agree (hit s) v w
   unfolding Agree
   agree q z k = word-ext v w q k (λ h. else q k (λ e. omega (arith, z, subst (λ (x : ℕ). hit x q ≡ 1) e (hit-same q h))))
 
   quiet : rest v (hit s) ≡ 0
-  quiet = omega (arith, G .held s hs, bit-le P v s, held, all-rest P v (hit s))
+  quiet = omega (arith, here .good .held s (here .below), bit-le P v s, here .held, all-rest P v (hit s))
 
   bits : (p : ℕ) → p < P → bit P w p ≡ bit P v p
   unfolding bit Agree
   bits p h =
       ap (λ (x : ℕ). digit (bitPlace p) (word w x (bitWord p))) (bitPage-same P v w (still-calm P v w (hit s) (hit-zero s) agree quiet master .places) p)
-      ∙ ap (digit (bitPlace p)) (agree (bitPage P v p) (hit-other s (bitPage P v p) (λ e. omega (arith, held, subst (λ (x : ℕ). hand x ≡ 0) e (bitPage-rest P v hand G p h .1)))) (bitWord p))
+      ∙ ap (digit (bitPlace p)) (agree (bitPage P v p) (hit-other s (bitPage P v p) (λ e. omega (arith, here .held, subst (λ (x : ℕ). hand x ≡ 0) e (bitPage-rest P v hand (here .good) p h .1)))) (bitWord p))
 
   pub hand-good : Good P w hand
-  hand-good = bits-good P v w hand hand (hit s) G (hit-zero s) agree quiet master (λ p h. omega (arith, bits p h))
+  hand-good = bits-good P v w hand hand (hit s) (here .good) (hit-zero s) agree quiet master (λ p h. omega (arith, bits p h))
 
   pub hand-taking : (F : Places) → OnlyAt F v w → Taking P v w F 0 0
   unfolding free
@@ -183,21 +183,21 @@ module _ (P : ℕ) (v : Vol) (hand : ℕ → ℕ) (G : Good P v hand) (s : ℕ) 
 
 -- ---- a page in hand becomes the system's, and is paid
 
-pub settled-taking : (P : ℕ) (v : Vol) (hand : ℕ → ℕ) (G : Good P v hand) (v′ : Vol) (C : ℕ → ℕ) (new : (ℕ → ℕ) → ℕ) → Settled P v v′ C new
+pub settled-taking : {P : ℕ} {v v′ : Vol} {hand C : ℕ → ℕ} {new : (ℕ → ℕ) → ℕ} → Good P v hand → Settled P v v′ C new
     → ((i : ℕ) → 0 < pageAt v (userFile v) i → pageAt v′ (userFile v′) i ≡ pageAt v (userFile v) i)
     → ((i : ℕ) → 0 < pageAt v (objectFile v) i → pageAt v′ (objectFile v′) i ≡ pageAt v (objectFile v) i)
     → (F : Places) → OnlyAt F v v′ → Taking P v v′ F 0 (new some)
 unfolding unreserved bitPage bitFile pageAt free
-settled-taking P v hand G v′ C new T ua oa F o = record {
+settled-taking {P} {v} {v′} {hand} {C} {new} G T ua oa F o = record {
   users = T .users;
   objects = T .objs;
   userAt = ua;
   objectAt = oa;
-  address = λ e h i. ap (λ (r : Root). pageAt v′ r i) (file-same P v hand G v′ C new T e) ∙ pageAt-frame v v′ C (T .agree) (fileAt v e) (blocks-nobody v C (T .noFiles) e h) i;
-  holding = λ e h g. ap (λ (r : Root). weighR v′ r g) (file-same P v hand G v′ C new T e) ∙ weighR-frame v v′ C (T .agree) (fileAt v e) (blocks-nobody v C (T .noFiles) e h) g;
-  bits = λ p h. omega (arith, bits-kept P v hand G v′ C new T p);
+  address = λ e h i. ap (λ (r : Root). pageAt v′ r i) (file-same G T e) ∙ pageAt-frame v v′ C (T .agree) (fileAt v e) (blocks-nobody v C (T .noFiles) e h) i;
+  holding = λ e h g. ap (λ (r : Root). weighR v′ r g) (file-same G T e) ∙ weighR-frame v v′ C (T .agree) (fileAt v e) (blocks-nobody v C (T .noFiles) e h) g;
+  bits = λ p h. omega (arith, bits-kept G T p);
   places = λ p. ap (λ (r : Root). pageAt v r (p / pageBits)) (T .bits);
-  left = omega (arith, sum-ext P (λ p. 1 - bit P v′ p) (λ p. 1 - bit P v p) (λ p h. ap (λ (x : ℕ). 1 - x) (bits-kept P v hand G v′ C new T p)));
+  left = omega (arith, sum-ext P (λ p. 1 - bit P v′ p) (λ p. 1 - bit P v p) (λ p h. ap (λ (x : ℕ). 1 - x) (bits-kept G T p)));
   paid = T .pay;
   words = only-wider F (Either (TakenWords P v v′) F) v v′ (λ p k h. inr h) o;
 }

@@ -11,6 +11,7 @@ use Rattle.book.specs.Pointers.{slot, setSlot, unreservedCount}
 use Rattle.book.specs.Trees.{Root, tree, run, leaf, pageAt}
 use Rattle.book.specs.Words.{Vol, two, word}
 use Rattle.book.specs.Written.{word-ext, put2-page, put2-word, put2-two}
+use Rattle.laws.specs.Bits.Claim.{InHand, hand-pos}
 use Rattle.laws.specs.Bits.Taking.{Taking, settled-taking}
 use Rattle.laws.specs.Count.Good.{Good, bit-le}
 use Rattle.laws.specs.Create.Settled.{Settled, linked, system-good}
@@ -73,12 +74,8 @@ module _ (v v′ : Vol) (X k d : ℕ) (L : Link v v′ X k d) where
 
 -- page d in hand, all zeros, is put into the empty slot k of block X, and paid
 pub record Joining (P : ℕ) (v v′ : Vol) (hand : ℕ → ℕ) (X k d : ℕ) : Type 0 where
-  pub good : Good P v hand
-  pub pos : 0 < P
+  pub got : InHand P v hand d
   pub vacant : Vacant P v X k
-  pub below : d < P
-  pub real : 0 < d
-  pub held : 1 ≤ hand d
   pub bare : (j : ℕ) → word v d j ≡ 0
   pub read : (q j : ℕ) → 0 < q → v′ q j ≡ setSlot v X k d q j
   pub master : Master v v′
@@ -95,13 +92,13 @@ module _ {P : ℕ} {v v′ : Vol} {hand : ℕ → ℕ} {X k d : ℕ} (join : Joi
   unfolding rest
   apart e = omega (
     arith,
-    join .good .held X (join .vacant .below),
+    join .got .good .held X (join .vacant .below),
     bit-le P v X,
     all-rest P v (hit X),
     blocksR-le v (userFile v) (hit X),
     blocksR-le v (objectFile v) (hit X),
     join .vacant .block,
-    subst (λ (x : ℕ). 1 ≤ hand x) e (join .held),
+    subst (λ (x : ℕ). 1 ≤ hand x) e (join .got .held),
   )
 
   pub join-bare : (j : ℕ) → word v′ d j ≡ 0
@@ -119,15 +116,15 @@ module _ {P : ℕ} {v v′ : Vol} {hand : ℕ → ℕ} {X k d : ℕ} (join : Joi
   }
 
   settled : Settled P v v′ (hit X) (λ g. g d)
-  settled = linked P v hand (join .good) (join .pos) v′ X k d link join-bare (slot-bare v′ d join-bare) (join .master) (join .paid) (join .vacant .below) (join .vacant .block) (join .below) (join .real) (join .vacant .eight) (join .vacant .four)
+  settled = linked (join .got) (join .vacant) link join-bare (slot-bare v′ d join-bare) (join .master) (join .paid)
 
   pub join-good : (hand′ : ℕ → ℕ) → ((p : ℕ) → p < P → hand′ p + hit p d ≡ hand p) → Good P v′ hand′
-  join-good = system-good P v hand (join .good) v′ (hit X) (λ g. g d) settled
+  join-good = system-good (join .got .good) settled
 
   pub join-slot : slot v′ X k ≡ d
   join-slot = link .now
 
   pub join-taking : (F : Places) → OnlyAt F v v′ → Taking P v v′ F 0 1
-  join-taking F o = subst (λ (x : ℕ). Taking P v v′ F 0 x) (some-pos d (join .real)) (settled-taking P v hand (join .good) v′ (hit X) (λ g. g d) settled
+  join-taking F o = subst (λ (x : ℕ). Taking P v v′ F 0 x) (some-pos d (hand-pos (join .got))) (settled-taking (join .got .good) settled
       (λ i h. ap (λ (r : Root). pageAt v′ r i) (users-root v v′ (master-roots P v v′ (join .master))) ∙ pageAt-there v v′ X k d link (userFile v) i h)
       (λ i h. ap (λ (r : Root). pageAt v′ r i) (objs-root v v′ (master-roots P v v′ (join .master))) ∙ pageAt-there v v′ X k d link (objectFile v) i h) F o)

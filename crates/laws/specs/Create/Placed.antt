@@ -4,7 +4,7 @@ use mathlib.Core.Logic.{_≢_, inr}
 use Prim.Native.Nat.{ℕ, suc, _+_, _*_, _≤_, _<_, _-_}
 use native.Mathlib.Omega.{arith}
 use Rattle.sums.specs.Sum.{sum}
-use Rattle.book.specs.Bits.{bit, bitPage, claim}
+use Rattle.book.specs.Bits.{bitPage, claim}
 use Rattle.book.specs.Create.{extend}
 use Rattle.book.specs.Entries.{userFile, objectFile, unreserved, Table, grant}
 use Rattle.book.specs.Holders.{hit, all, systemPages}
@@ -14,7 +14,7 @@ use Rattle.book.specs.Trees.{Root, blocksR}
 use Rattle.book.specs.Words.{Vol, two, word}
 use Rattle.book.specs.Written.{word-ext}
 use Rattle.laws.specs.Bits.Choose.{Stock}
-use Rattle.laws.specs.Bits.Claim.{FreePage, bitPage-rest, free-none, free-pos, claim-agree, claim-roots, claim-quiet, claim-none, claim-good, claim-master, claim-zero, claim-bit}
+use Rattle.laws.specs.Bits.Claim.{FreePage, bitPage-rest, free-none, free-pos, claim-agree, claim-roots, claim-quiet, claim-none, claim-hand, claim-master, claim-zero, claim-bit}
 use Rattle.laws.specs.Bits.Claims.{stock-free}
 use Rattle.laws.specs.Bits.Taking.{Taken, TakenWords, NoWords, no-words, Taking, taking-none, taking-then, taking-wider, claim-taking, calm-blocks}
 use Rattle.laws.specs.Count.Good.{bit-le, sound}
@@ -25,7 +25,7 @@ use Rattle.laws.specs.Frame.Renewed.{Master}
 use Rattle.laws.specs.Frame.Rest.{rest, all-rest}
 use Rattle.laws.specs.Frame.Roots.{Roots, blocksR-le, blocksR-frame, users-root, objs-root}
 use Rattle.laws.specs.Tree.Pointer.{flags-ext, page-ext}
-use Rattle.laws.specs.Tree.Slot.{setSlot-page, hit-sym, slot-bare, Agree, two-ext, hit-same, hit-other, slot-same}
+use Rattle.laws.specs.Tree.Slot.{setSlot-page, hit-sym, slot-bare, Agree, two-ext, hit-other, slot-same}
 
 -- from v to w, n system pages were taken and paid: w is sound, and all entries and files stay
 pub record Placed (P : ℕ) (v w : Vol) (F : Places) (n : ℕ) : Type 0 where
@@ -129,18 +129,7 @@ module _ {choose : Vol → ℕ} {P : ℕ} {v : Vol} (stock : Stock choose P v) {
   M j a b = below j b
 
   join : Joining P v₁ v′ (λ p. 0 + hit d p) X k d
-  join = record {
-    good = claim-good extend-free;
-    pos = stock .pos;
-    vacant = claim-vacant extend-free X k N;
-    below = extend-free .below;
-    real = extend-pos;
-    held = omega (arith, hit-same d extend-pos);
-    bare = claim-zero extend-free;
-    read = read;
-    master = M;
-    paid = paid;
-  }
+  join = record { got = claim-hand extend-free; vacant = claim-vacant extend-free X k N; bare = claim-zero extend-free; read = read; master = M; paid = paid }
 
   pub extend-slot : slot v′ X k ≡ d
   extend-slot = join-slot join

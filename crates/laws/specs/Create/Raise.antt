@@ -12,17 +12,17 @@ use Rattle.book.specs.Trees.{Root, tree, pageAt}
 use Rattle.book.specs.Words.{Vol, two, word, put2}
 use Rattle.book.specs.Written.{word-ext, put2-page, put2-word}
 use Rattle.laws.specs.Bits.Choose.{Stock}
-use Rattle.laws.specs.Bits.Claim.{FreePage, free-pos, claim-good, claim-master, claim-zero, claim-bit}
+use Rattle.laws.specs.Bits.Claim.{FreePage, InHand, free-pos, claim-hand, claim-master, claim-zero, claim-bit}
 use Rattle.laws.specs.Bits.Claims.{stock-free}
 use Rattle.laws.specs.Bits.Taking.{TakenWords, NoWords, Taking, taking-then, claim-taking, hand-good, hand-taking, settled-taking}
-use Rattle.laws.specs.Count.Good.{Good, sound, bit-le}
+use Rattle.laws.specs.Count.Good.{sound, bit-le}
 use Rattle.laws.specs.Create.Join.{only-pay, pay-page, pay-below, pay-less, SlotWords}
 use Rattle.laws.specs.Create.Placed.{Placed}
 use Rattle.laws.specs.Create.Settled.{Settled, leaves, system-good}
 use Rattle.laws.specs.Frame.Places.{Places, WordsOf, UnreservedWords, Either, OnlyAt, only-then, only-put2}
 use Rattle.laws.specs.Frame.Roots.{pageAt-frame, no-blocks}
 use Rattle.laws.specs.Tree.Pointer.{root-1, root-2, flags-ext, page-ext, rootAt-ext, pointer-flags, pointer-page}
-use Rattle.laws.specs.Tree.Slot.{setSlot-page, slot-here, slot-other, hit-sym, slot-bare, two-ext, hit-same, some-pos}
+use Rattle.laws.specs.Tree.Slot.{setSlot-page, slot-here, slot-other, hit-sym, slot-bare, two-ext, some-pos}
 
 module _ {choose : Vol → ℕ} {P : ℕ} {v : Vol} (stock : Stock choose P v) (big : P ≤ 1073741824) (one : flags (v 0) objectPointer ≡ 1) (have : 1 ≤ unreserved v) where
   abbrev s : ℕ
@@ -43,18 +43,15 @@ module _ {choose : Vol → ℕ} {P : ℕ} {v : Vol} (stock : Stock choose P v) (
   ps : 0 < s
   ps = free-pos here
 
-  G1 : Good P v₁ (λ p. 0 + hit s p)
-  G1 = claim-good here
-
-  held : 1 ≤ 0 + hit s s
-  held = omega (arith, hit-same s ps)
+  got : InHand P v₁ (λ p. 0 + hit s p) s
+  got = claim-hand here
 
   -- the block has its first slot
   abbrev w : Vol
   w = setSlot v₁ s 0 t
 
-  G2 : Good P w (λ p. 0 + hit s p)
-  G2 = hand-good P v₁ (λ p. 0 + hit s p) G1 s hs ps held w (λ q j n. setSlot-page v₁ s 0 t q j n)
+  filled : InHand P w (λ p. 0 + hit s p) s
+  filled = record { good = hand-good got (λ q j n. setSlot-page v₁ s 0 t q j n); below = hs; held = got .held }
 
   master : (k : ℕ) → w 0 k ≡ v 0 k
   master k = setSlot-page v₁ s 0 t 0 k (omega (arith, ps)) ∙ claim-master here k
@@ -104,7 +101,7 @@ module _ {choose : Vol → ℕ} {P : ℕ} {v : Vol} (stock : Stock choose P v) (
       omega (arith, have, pay-less x 1 (omega (arith, have)))
 
   T : Settled P w v′ (λ x. 0) (λ g. g s)
-  T = Rattle.laws.specs.Create.Settled.raised P w (λ p. 0 + hit s p) G2 (stock .pos) v′ s hs ps words one′ raised-flags top s0 so mast paid
+  T = Rattle.laws.specs.Create.Settled.raised filled v′ words one′ raised-flags top s0 so mast paid
 
   users : (i : ℕ) → pageAt v′ (userFile v′) i ≡ pageAt w (userFile w) i
   unfolding userFile
@@ -114,7 +111,7 @@ module _ {choose : Vol → ℕ} {P : ℕ} {v : Vol} (stock : Stock choose P v) (
   objs : (i : ℕ) → pageAt v′ (objectFile v′) i ≡ pageAt w (objectFile w) i
   unfolding objectFile
   objs i = ap (λ (r : Root). pageAt v′ r i) (root-2 (v′ 0) objectPointer 0 raised-flags ∙ ap (tree 2) top)
-      ∙ leaves P w (λ p. 0 + hit s p) G2 (stock .pos) v′ s hs ps words one′ raised-flags top s0 so mast paid i
+      ∙ leaves filled v′ words one′ raised-flags top s0 so mast paid i
       ∙ sym (ap (λ (r : Root). pageAt w r i) (root-1 (w 0) objectPointer 0 one′))
 
   -- the words that change on page 0
@@ -128,13 +125,13 @@ module _ {choose : Vol → ℕ} {P : ℕ} {v : Vol} (stock : Stock choose P v) (
   rest : Taking P v₁ v′ (Either (SlotWords s 0) F) 0 1
   unfolding setSlot
   rest = taking-then P v₁ w v′ (SlotWords s 0) F (Either (SlotWords s 0) F) 0 0 0 1 0 1
-      (hand-taking P v₁ (λ p. 0 + hit s p) G1 s hs ps held w (λ q j n. setSlot-page v₁ s 0 t q j n) (SlotWords s 0) (only-put2 v₁ s (2 * 0) t))
-      (subst (λ (n : ℕ). Taking P w v′ F 0 n) (some-pos s ps) (settled-taking P w (λ p. 0 + hit s p) G2 v′ (λ x. 0) (λ g. g s) T (λ i h. users i) (λ i h. objs i) F only))
+      (hand-taking got (λ q j n. setSlot-page v₁ s 0 t q j n) (SlotWords s 0) (only-put2 v₁ s (2 * 0) t))
+      (subst (λ (n : ℕ). Taking P w v′ F 0 n) (some-pos s ps) (settled-taking (filled .good) T (λ i h. users i) (λ i h. objs i) F only))
       refl refl (λ p k h. inr h)
 
   pub raised-placed : Placed P v v′ (Either (WordsOf 0 objectPointer 2) UnreservedWords) 1
   raised-placed = record {
-    sound = sound P v′ (λ p. 0) (system-good P w (λ p. 0 + hit s p) G2 v′ (λ x. 0) (λ g. g s) T (λ p. 0) (λ p h. omega (arith, hit-sym p s))) (λ p h. refl);
+    sound = sound P v′ (λ p. 0) (system-good (filled .good) T (λ p. 0) (λ p h. omega (arith, hit-sym p s))) (λ p h. refl);
     taking = taking-then P v v₁ v′ NoWords (Either (SlotWords s 0) F) F 1 0 0 1 1 1 (claim-taking here) rest refl refl wide;
   }
     where

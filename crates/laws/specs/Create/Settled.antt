@@ -15,8 +15,10 @@ use Rattle.book.specs.Pointers.{slot, flags, page, Inside, bitPointer, objectPo
 use Rattle.book.specs.Rules.{Rule1, Rule2, Rule3, Rule4, Rule5, Rule5By, Rule6, Rule7, Rule10}
 use Rattle.book.specs.Trees.{Root, tree, run, weigh, blocks, leaf, weighR, blocksR, pageAt, upto, rootAt, Below}
 use Rattle.book.specs.Words.{Vol, two, word}
+use Rattle.laws.specs.Bits.Claim.{InHand, hand-pos}
 use Rattle.laws.specs.Count.Good.{Good, bit-le}
 use Rattle.laws.specs.Count.Sums.{sum-tight}
+use Rattle.laws.specs.Create.Vacant.{Vacant}
 use Rattle.laws.specs.File.Named.{Legal-ext}
 use Rattle.laws.specs.Frame.Renewed.{Master, master-roots, flags-at, page-at, rule1, rule2, shape-same}
 use Rattle.laws.specs.Frame.Rest.{rest, all-rest, file-le}
@@ -109,7 +111,7 @@ pub record Settled (P : ℕ) (v v′ : Vol) (C : ℕ → ℕ) (new : (ℕ → �
   pub weight : (g : ℕ → ℕ) → g 0 ≡ 0 → system P v′ g ≡ system P v g + new g
   pub pay : two (v′ 0) unreservedCount + new some ≡ two (v 0) unreservedCount
 
-module _ (P : ℕ) (v : Vol) (hand : ℕ → ℕ) (G : Good P v hand) (v′ : Vol) (C : ℕ → ℕ) (new : (ℕ → ℕ) → ℕ) (T : Settled P v v′ C new) where
+module _ {P : ℕ} {v v′ : Vol} {hand C : ℕ → ℕ} {new : (ℕ → ℕ) → ℕ} (G : Good P v hand) (T : Settled P v v′ C new) where
   pub file-same : (e : ℕ) → fileAt v′ e ≡ fileAt v e
   unfolding fileAt
   file-same e = ap (λ (O : Table). pick (used (O e)) (rootAt (O e) 30 (two (O e) 26)) (run 0 0)) (T .objs)
@@ -161,10 +163,8 @@ module _ (P : ℕ) (v : Vol) (hand : ℕ → ℕ) (G : Good P v hand) (v′ : Vo
 
 -- ---- a pointer to a page of zeros is stored in a block X of the user or the object file
 
-module _ (P : ℕ) (v : Vol) (hand : ℕ → ℕ) (G : Good P v hand) (pos : 0 < P) (v′ : Vol) (X k d : ℕ) (L : Link v v′ X k d)
-    (z : (j : ℕ) → word v′ d j ≡ 0) (zs : (j : ℕ) → slot v′ d j ≡ 0) (M : Master v v′) (pay : two (v′ 0) unreservedCount + 1 ≡ two (v 0) unreservedCount)
-    (hX : X < P) (isX : 1 ≤ blocksR v (userFile v) (hit X) + blocksR v (objectFile v) (hit X)) (hd : d < P) (pd : 0 < d)
-    (eight : page (v 0) userPointer ≡ X → k < 8) (four : flags (v 0) objectPointer ≡ 2 → page (v 0) objectPointer ≡ X → k < 4) where
+module _ {P : ℕ} {v v′ : Vol} {hand : ℕ → ℕ} {X k d : ℕ} (got : InHand P v hand d) (N : Vacant P v X k) (L : Link v v′ X k d)
+    (z : (j : ℕ) → word v′ d j ≡ 0) (zs : (j : ℕ) → slot v′ d j ≡ 0) (M : Master v v′) (pay : two (v′ 0) unreservedCount + 1 ≡ two (v 0) unreservedCount) where
   agree : Agree (hit X) v v′
   unfolding Agree
   agree q h j = elim (eq-zero-or-pos q) [
@@ -177,7 +177,7 @@ module _ (P : ℕ) (v : Vol) (hand : ℕ → ℕ) (G : Good P v hand) (pos : 0 <
       × (blocksR v (userFile v) (hit X) + blocksR v (objectFile v) (hit X) ≡ 1) × (sum 256 (λ u. mine v u (hit X)) ≡ 0)
   unfolding rest
   parts =
-      let h = G .held X hX in let b = bit-le P v X in let r = all-rest P v (hit X) in let l = blocksR-le v (objectFile v) (hit X) in let m = blocksR-le v (userFile v) (hit X) in
+      let h = got .good .held X (N .below) in let b = bit-le P v X in let r = all-rest P v (hit X) in let l = blocksR-le v (objectFile v) (hit X) in let m = blocksR-le v (userFile v) (hit X) in
       (omega arith, omega arith, omega arith, omega arith, omega arith)
 
   roots : Roots v v′
@@ -213,10 +213,10 @@ module _ (P : ℕ) (v : Vol) (hand : ℕ → ℕ) (G : Good P v hand) (pos : 0 <
       let t : ℕ = page (v 0) userPointer in
       let e : slot v′ (page (v′ 0) userPointer) n ≡ slot v′ t n = ap (λ (x : ℕ). slot v′ x n) (page-at P v v′ M userPointer (omega arith) (omega arith)) in
       elim (ℕ-discrete t X) [
-        | no ne ↦ let s : slot v′ t n ≡ slot v t n = slot-same v v′ t (L .rest t ne) n in (omega (arith, e, s, G .most .r3 n i .0), λ j. e ∙ s ∙ G .most .r3 n i .1 j)
+        | no ne ↦ let s : slot v′ t n ≡ slot v t n = slot-same v v′ t (L .rest t ne) n in (omega (arith, e, s, got .good .most .r3 n i .0), λ j. e ∙ s ∙ got .good .most .r3 n i .1 j)
         | yes q ↦ elim (ℕ-discrete n k) [
-          | no ne ↦ let s : slot v′ t n ≡ slot v t n = subst (λ (x : ℕ). slot v′ x n ≡ slot v x n) (sym q) (L .others n ne) in (omega (arith, e, s, G .most .r3 n i .0), λ j. e ∙ s ∙ G .most .r3 n i .1 j)
-          | yes w ↦ let s : slot v′ t n ≡ d = ap₂ (slot v′) q w ∙ L .now in (omega (arith, e, s), λ j. absurd (let r : ⊥ = omega (arith, eight q) in r))
+          | no ne ↦ let s : slot v′ t n ≡ slot v t n = subst (λ (x : ℕ). slot v′ x n ≡ slot v x n) (sym q) (L .others n ne) in (omega (arith, e, s, got .good .most .r3 n i .0), λ j. e ∙ s ∙ got .good .most .r3 n i .1 j)
+          | yes w ↦ let s : slot v′ t n ≡ d = ap₂ (slot v′) q w ∙ L .now in (omega (arith, e, s), λ j. absurd (let r : ⊥ = omega (arith, N .eight q) in r))
         ]
       ]
 
@@ -224,19 +224,19 @@ module _ (P : ℕ) (v : Vol) (hand : ℕ → ℕ) (G : Good P v hand) (pos : 0 <
   unfolding Rule5 Rule5By
   five =
       subst (λ (x : ℕ). Rule5By P v′ x (page (v′ 0) objectPointer)) (sym (flags-at P v v′ M objectPointer (omega arith) (omega arith)))
-      (subst (λ (t : ℕ). Rule5By P v′ (flags (v 0) objectPointer) t) (sym (page-at P v v′ M objectPointer (omega arith) (omega arith))) (go (flags (v 0) objectPointer) refl (G .most .r5)))
+      (subst (λ (t : ℕ). Rule5By P v′ (flags (v 0) objectPointer) t) (sym (page-at P v v′ M objectPointer (omega arith) (omega arith))) (go (flags (v 0) objectPointer) refl (got .good .most .r5)))
     where
       t : ℕ
       t = page (v 0) objectPointer
 
       go : (x : ℕ) → flags (v 0) objectPointer ≡ x → Rule5By P v x t → Rule5By P v′ x t
       go zero q a = tt
-      go (suc zero) q a = (Below-link v v′ X k d L z zs P hd pos 1 t (a .0), λ u i j. ap (λ (U : Table). used (U u)) same-users ∙ a .1 u i j)
+      go (suc zero) q a = (Below-link v v′ X k d L z zs P (got .below) (omega (arith, got .below)) 1 t (a .0), λ u i j. ap (λ (U : Table). used (U u)) same-users ∙ a .1 u i j)
       go (suc (suc zero)) q a = (
-        Below-link v v′ X k d L z zs P hd pos 2 t (a .0),
+        Below-link v v′ X k d L z zs P (got .below) (omega (arith, got .below)) 2 t (a .0),
         λ i j l. elim (ℕ-discrete t X) [
           | no ne ↦ slot-same v v′ t (L .rest t ne) i ∙ a .1 i j l
-          | yes e ↦ subst (λ (x : ℕ). slot v′ x i ≡ slot v x i) (sym e) (L .others i (λ w. omega (arith, w, four q e))) ∙ a .1 i j l
+          | yes e ↦ subst (λ (x : ℕ). slot v′ x i ≡ slot v x i) (sym e) (L .others i (λ w. omega (arith, w, N .four q e))) ∙ a .1 i j l
         ],
       )
       go (suc (suc (suc x))) q a = a
@@ -248,19 +248,19 @@ module _ (P : ℕ) (v : Vol) (hand : ℕ → ℕ) (G : Good P v hand) (pos : 0 <
     noBits = parts .0;
     noFiles = parts .4;
     bits = bits-root v v′ roots P;
-    rule-1 = rule1 P v v′ M (G .most .r1);
-    rule-2 = rule2 P v v′ M (G .most .r2);
+    rule-1 = rule1 P v v′ M (got .good .most .r1);
+    rule-2 = rule2 P v v′ M (got .good .most .r2);
     rule-3 = three;
     rule-5 = five;
     users = same-users;
     objs = same-objs;
     weight = weight;
-    pay = omega (arith, pay, some-pos d pd);
+    pay = omega (arith, pay, some-pos d (hand-pos got));
   }
 
 -- ---- the object file gets a second level: s in hand has the old index block in its first slot
 
-module _ (P : ℕ) (v : Vol) (hand : ℕ → ℕ) (G : Good P v hand) (pos : 0 < P) (v′ : Vol) (s : ℕ) (hs : s < P) (ps : 0 < s)
+module _ {P : ℕ} {v : Vol} {hand : ℕ → ℕ} {s : ℕ} (here : InHand P v hand s) (v′ : Vol)
     (pages : (q k : ℕ) → word v′ q k ≡ word v q k) (one : flags (v 0) objectPointer ≡ 1) (now : flags (v′ 0) objectPointer ≡ 2) (top : page (v′ 0) objectPointer ≡ s)
     (s0 : slot v s 0 ≡ page (v 0) objectPointer) (so : (j : ℕ) → j ≢ 0 → slot v s j ≡ 0)
     (mast : (k : ℕ) → volumeName ≤ k → k < unreservedCount → k ≢ objectPointer → k ≢ (suc objectPointer) → v′ 0 k ≡ v 0 k) (pay : two (v′ 0) unreservedCount + 1 ≡ two (v 0) unreservedCount) where
@@ -324,10 +324,10 @@ module _ (P : ℕ) (v : Vol) (hand : ℕ → ℕ) (G : Good P v hand) (pos : 0 <
       let B : Below v P 1 t = subst (λ (x : ℕ). Rule5By P v x t) one r .0 in
       subst₂ (λ (x y : ℕ). Rule5By P v′ x y) (sym now) (sym top) (
         (
-          hs,
+          here .below,
           λ k h. elim (ℕ-discrete k 0) [
             | yes e ↦ subst (λ (x : ℕ). Below v′ P 1 x) (sym (sl s k ∙ ap (slot v s) e ∙ s0)) (Below-frame v v′ C agree0 P 1 t (blocks0 1 t) B)
-            | no n ↦ subst (λ (x : ℕ). Below v′ P 1 x) (sym (sl s k ∙ so k n)) (below-zero v′ P 1 pos)
+            | no n ↦ subst (λ (x : ℕ). Below v′ P 1 x) (sym (sl s k ∙ so k n)) (below-zero v′ P 1 (omega (arith, here .below)))
           ],
         ),
         λ i j l. sl s i ∙ so i (omega arith),
@@ -354,15 +354,15 @@ module _ (P : ℕ) (v : Vol) (hand : ℕ → ℕ) (G : Good P v hand) (pos : 0 <
     noFiles = sum-none 256 (λ u. mine v u C) (λ u i. sum-none 256 (λ f. weighR v (fileAt v (256 * u + f)) C) (λ f j. none0 (fileAt v (256 * u + f))));
     bits = ap (λ (x : ℕ). run x (bitPages P)) page20;
     rule-1 = record {
-      name = Legal-ext (v′ 0) (v 0) volumeName 1 16 (λ i h. mast (volumeName + i / 2) (omega arith) (omega arith) (omega arith) (omega arith)) (G .most .r1 .name);
-      unflagged = flags-ext (v′ 0) (v 0) bitPointer (mast bitPointer (omega arith) (omega arith) (omega arith) (omega arith)) ∙ G .most .r1 .unflagged;
-      start = omega (arith, G .most .r1 .start, page20);
-      fits = omega (arith, G .most .r1 .fits, page20);
+      name = Legal-ext (v′ 0) (v 0) volumeName 1 16 (λ i h. mast (volumeName + i / 2) (omega arith) (omega arith) (omega arith) (omega arith)) (here .good .most .r1 .name);
+      unflagged = flags-ext (v′ 0) (v 0) bitPointer (mast bitPointer (omega arith) (omega arith) (omega arith) (omega arith)) ∙ here .good .most .r1 .unflagged;
+      start = omega (arith, here .good .most .r1 .start, page20);
+      fits = omega (arith, here .good .most .r1 .fits, page20);
     };
-    rule-2 = two-again (G .most .r2);
+    rule-2 = two-again (here .good .most .r2);
     rule-3 = λ n i. let e : slot v′ (page (v′ 0) userPointer) n ≡ slot v (page (v 0) userPointer) n = ap (λ (x : ℕ). slot v′ x n) page18 ∙ sl _ n in
-        (omega (arith, e, G .most .r3 n i .0), λ j. e ∙ G .most .r3 n i .1 j);
-    rule-5 = five′ (G .most .r5);
+        (omega (arith, e, here .good .most .r3 n i .0), λ j. e ∙ here .good .most .r3 n i .1 j);
+    rule-5 = five′ (here .good .most .r5);
     users = fun-ext (λ u. fun-ext (λ k. ap (λ (r : Root). entry v′ r u k) users-r ∙ entry-frame v v′ C agree0 refl (userFile v) (none0 (userFile v)) u k));
     objs = fun-ext (λ e. fun-ext (λ k. ap (λ (r : Root). entry v′ r e k) objs-r′ ∙ ap (λ (x : ℕ). word v′ x (32 * (e % 32) + k)) (leaves (e / 32)) ∙ pages _ _
         ∙ sym (ap (λ (r : Root). entry v r e k) objs-r)));
@@ -372,12 +372,12 @@ module _ (P : ℕ) (v : Vol) (hand : ℕ → ℕ) (G : Good P v hand) (pos : 0 <
       ap (λ (r : Root). weighR v′ r g) users-r ∙ weighR-frame v v′ C agree0 (userFile v) (noneB _) g,
       ap (λ (x : ℕ). weighR v′ (run x (bitPages P)) g) page20 ∙ weighR-frame v v′ C agree0 (run (page (v 0) bitPointer) (bitPages P)) (noneB _) g,
     );
-    pay = omega (arith, pay, some-pos s ps);
+    pay = omega (arith, pay, some-pos s (hand-pos here));
   }
     where
       two-again : Rule2 P v → Rule2 P v′
       two-again (inl z) = absurd (let r : ⊥ = omega (arith, one, zero-flags (v 0) objectPointer (z .1)) in r)
       two-again (inr i) = inr (
         (flags-ext (v′ 0) (v 0) userPointer (mast userPointer (omega arith) (omega arith) (omega arith) (omega arith)) ∙ i .0 .0, omega (arith, page18, i .0 .1), omega (arith, page18, i .0 .2)),
-        inr (now, omega (arith, top), omega (arith, top)),
+        inr (now, omega (arith, top, hand-pos here), omega (arith, top, here .below)),
       )

@@ -153,7 +153,7 @@ module _ {choose : Vol → ℕ} {P : ℕ} {v : Vol} (stock : Stock choose P v) (
       (slot-bare v₃ i zero-i) (slot-bare v₃ o zero-o) mast paid
 
   Gw : Good P w (λ p. hit p u)
-  Gw = system-good P v₃ (λ p. hit i p + hit u p + hit o p) G3 w (λ x. 0) (λ g. g i + g o) T (λ p. hit p u) (λ p h. omega (arith, hit-sym p u, hit-sym p i, hit-sym p o))
+  Gw = system-good G3 T (λ p. hit p u) (λ p h. omega (arith, hit-sym p u, hit-sym p i, hit-sym p o))
 
   abbrev F : Places
   F = Either (WordsOf 0 objectPointer 4) UnreservedWords
@@ -178,7 +178,7 @@ module _ {choose : Vol → ℕ} {P : ℕ} {v : Vol} (stock : Stock choose P v) (
 
   Sw : Taking P v₃ w F 0 2
   Sw = subst (λ (n : ℕ). Taking P v₃ w F 0 n) (ap₂ (λ (a b : ℕ). a + b) (some-pos i (iOk .0)) (some-pos o (oOk .0)))
-      (settled-taking P v₃ (λ p. hit i p + hit u p + hit o p) G3 w (λ x. 0) (λ g. g i + g o) T
+      (settled-taking G3 T
       (λ n h. absurd (let r : ⊥ = omega (arith, h, none-users n) in r)) (λ n h. absurd (let r : ⊥ = omega (arith, h, none-objs n) in r)) F only-w)
 
   -- ---- the user page joins the index
@@ -220,18 +220,7 @@ module _ {choose : Vol → ℕ} {P : ℕ} {v : Vol} (stock : Stock choose P v) (
   zero-w j = words u j ∙ zero-u j
 
   join : Joining P w v′ (λ p. hit p u) i 0 u
-  join = record {
-    good = Gw;
-    pos = stock .pos;
-    vacant = vacant;
-    below = uOk .1;
-    real = uOk .0;
-    held = omega (arith, hit-same u (uOk .0));
-    bare = zero-w;
-    read = read;
-    master = M;
-    paid = paid′;
-  }
+  join = record { got = record { good = Gw; below = uOk .1; held = omega (arith, hit-same u (uOk .0)) }; vacant = vacant; bare = zero-w; read = read; master = M; paid = paid′ }
 
   -- the user index, its flags and its first page; the object file is indexed
   pub started-flags : flags (v′ 0) userPointer ≡ 1
