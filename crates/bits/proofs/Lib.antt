@@ -3,3 +3,4 @@ pub mod Digits
 pub mod Places
 pub mod Marked
 pub mod Ready
+pub mod Taken

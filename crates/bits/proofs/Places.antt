@@ -77,6 +77,11 @@ module _ (P : ℕ) (v : Vol) (b : ℕ) (f : BitsAt P v b) where
         ap (bit P v) e ∙ bit-in i (k - i * 16) (omega arith) (omega arith) ∙ w (k - i * 16) (omega arith)
   ]
 
+-- ---- a bit written as the code writes it: the word read, the bit made x, the word put back
+
+pub mark-is : (P : ℕ) (v w : Vol) (b p x y z : ℕ) → BitsAt P v b → p < P → y ≡ v b (p / 16) → z ≡ toDigit (p % 16) y x → w ≡ put v b (p / 16) z → w ≡ mark P v p x
+mark-is P v w b p x y z f h ey ez ew = ew ∙ ap (λ (r : ℕ). put v b (p / 16) r) (ez ∙ ap (λ (r : ℕ). toDigit (p % 16) r x) ey) ∙ sym (mark-at P v b f p x h)
+
 -- ---- bits of any bit file
 
 module _ (P : ℕ) (v : Vol) where

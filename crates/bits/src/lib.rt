@@ -2,6 +2,9 @@
 pub mod marks;
 pub mod word;
 
+use page::BITS;
+use page::WORDS;
+use page::read::page_at;
 use page::read::word_at;
 use page::write::put_word;
 use page::write::zero_page;
@@ -16,8 +19,9 @@ ghost use Prim.Native.Nat.{ℕ, _+_, _*_, _≤_, _<_};
 ghost use lib.ListN.{length};
 ghost use Rattle.book.specs.Words.{vol};
 ghost use Rattle.book.specs.Bits.{bit, mark, reserved as reservedOf, lowestFree, claim as claimOf, claimRun, pageBits, bitPages};
-ghost use Rattle.book.specs.Image.{mostPages};
+ghost use Rattle.book.specs.Image.{pages as pagesOf, mostPages, Ready};
 ghost use Rattle.bits.specs.File.{BitsAt};
+ghost use Rattle.bits.specs.Taken.{CanTake, Took};
 
 // The pages that the bits of one page serve.
 const PAGE_BITS: usize = 16384;
@@ -28,6 +32,14 @@ pub fn bit_pages(pages: usize) -> usize
     ensures { λ r. ⌜ r ≡ bitPages pages ⌝ }
 {
     (pages + (PAGE_BITS - 1)) / PAGE_BITS
+}
+
+// The page of the bit file.
+pub fn bit_page(img: &[u16]) -> usize
+    requires { ⌜ Ready (now img) ⌝ }
+    ensures { λ r. ⌜ BitsAt (pagesOf (now (img .entry))) (vol (now (img .entry))) r ⌝ }
+{
+    page_at(img, 0, BITS) as usize
 }
 
 // Page p's bit.
@@ -114,4 +126,14 @@ pub fn lowest_free(img: &[u16], b: usize, pages: usize) -> usize
         i += 1;
     }
     pages
+}
+
+// The lowest free page is taken.
+pub fn take(img: &mut [u16], b: usize) -> usize
+    requires { ⌜ CanTake (pagesOf (now img)) (vol (now img)) b ⌝ }
+    ensures { λ r. ⌜ Took (pagesOf (now (img .entry))) (vol (now (img .entry))) r (vol (now (img .exit))) ⌝ }
+{
+    let p = lowest_free(img, b, img.len() / WORDS);
+    claim(img, b, p);
+    p
 }

@@ -1,44 +1,36 @@
 -- Growing as the code writes it: the pages taken, then the slots, then the entries, one law for each phase. Assumes nothing.
-use mathlib.Core.Path.{_≡_, refl, sym, ap, ap₂, _∙_, subst₂}
+use mathlib.Core.Path.{_≡_, refl, sym, ap, ap₂, _∙_}
 use mathlib.Core.List.{List}
 use Prim.Native.Nat.{ℕ, zero, suc, _+_, _/_, _%_, _≤_, _<_}
 use native.Mathlib.Numerals.{add-one}
 use native.Mathlib.Nat.{not-suc-le-zero}
 use native.Mathlib.Omega.{arith}
 use Rattle.book.specs.Words.{Vol, vol}
-use Rattle.book.specs.Pointers.{flags, page, pointer, setSlot}
+use Rattle.book.specs.Pointers.{flags, page, pointer, setSlot, bitPointer}
 use Rattle.book.specs.Trees.{Root, weighR, rootBy, weigh}
-use Rattle.book.specs.Bits.{bitPage, lowestFree, claim}
+use Rattle.book.specs.Bits.{bitPage, lowestFree}
 use Rattle.book.specs.Entries.{Table, object, user, used, userPage, objectPage, usedPages, pageCount, fileEntry}
 use Rattle.book.specs.Files.{Shape, need}
 use Rattle.book.specs.Holders.{hit}
 use Rattle.book.specs.Image.{pages, IndexArg}
 use Rattle.book.specs.Calls.{HasFile}
 use Rattle.book.specs.Grow.{Phase, finish, entered, indexOf, taken₁, taken₂, taken₃, growTo, grow, first, onward, raise, block, phaseBy}
-use Rattle.laws.specs.Bits.Claim.{FreePage, claim-good, claim-agree, claim-roots, claim-none, claim-quiet, free-pos}
-use Rattle.laws.specs.Bits.Marked.{claim-still}
+use Rattle.laws.specs.Bits.Choose.{lowest-stock}
+use Rattle.laws.specs.Bits.Claim.{FreePage, claim-agree, claim-roots, claim-none, claim-quiet}
+use Rattle.laws.specs.Bits.Claims.{claims, Claimed, claimed}
 use Rattle.laws.specs.Count.Good.{good}
-use Rattle.laws.specs.File.Kinds.{grows-kind, kind-low, kind-high}
 use Rattle.laws.specs.Frame.Rest.{q-file}
-use Rattle.laws.specs.Frame.Still.{Still, still-trans}
-use Rattle.laws.specs.Grow.Space.{Finds, space-data, space-index, space-subindex}
-use Rattle.laws.specs.Tree.Levels.{need-mid, need-block, need-raise}
+use Rattle.laws.specs.Frame.Still.{Still}
+use Rattle.laws.specs.Grow.Space.{Finds, space-room, space-data, space-index, space-subindex}
+use Rattle.laws.specs.Tree.Levels.{need-block, need-raise}
 use Rattle.laws.specs.Tree.Slot.{Agree, slot-same}
 use Rattle.bits.specs.File.{BitsAt}
-use Rattle.bits.proofs.Places.{bits-claim}
+use Rattle.bits.specs.Taken.{CanTake, Took}
+use Rattle.bits.proofs.Taken.{can-take-on, took-on}
+use Rattle.bits.proofs.Places.{bits-kept}
 use Rattle.growth.specs.declared.entries.Head.{Head}
 use Rattle.growth.specs.Head.{Growing}
 use Rattle.growth.proofs.Files.{file-shape, file-root, file-owner}
-
--- ---- a page taken, on an image that code has since changed
-
--- the lowest free page of v can be taken
-abbrev pub CanTake : ℕ → Vol → ℕ → Type 0
-CanTake P v b = BitsAt P v b × (lowestFree P v < P)
-
--- d was taken of v, which left w
-abbrev pub Took : ℕ → Vol → ℕ → Vol → Type 0
-Took P v d w = (d ≡ lowestFree P v) × (d < P) × (w ≡ claim P v d)
 
 -- ---- which phase a number of pages is in
 
@@ -101,68 +93,53 @@ module _ {img : List ℕ} {u f : ℕ} {h : Head} (g : Growing img u f h) where
   data-free : FreePage P v (λ p. 0) d
   data-free = record { good = good P v (g .at .ready .sound); below = dOk .0; clear = dOk .1 }
 
-  still₁ : Still P v v₁
-  still₁ = claim-still data-free
-
-  bits₁ : BitsAt P v₁ (h .bits)
-  bits₁ = bits-claim P v (h .bits) d (free-pos data-free) (dOk .0) (g .at .head .bitsAt)
-
   -- the index block
   abbrev b : ℕ
   b = lowestFree P v₁
-
-  module _ (more : 2 ≤ need n) where
-    bOk : Finds P v₁
-    bOk = space-index img u f (g .at .ready .whole) args (g .at .ready .sound) has (g .kind) (g .room) more
-
-    index-free : FreePage P v₁ (λ p. 0 + hit d p) b
-    index-free = record { good = claim-good data-free; below = bOk .0; clear = bOk .1 }
-
-    still₂ : Still P v v₂
-    still₂ = still-trans P v v₁ v₂ still₁ (claim-still index-free)
-
-    bits₂ : BitsAt P v₂ (h .bits)
-    bits₂ = bits-claim P v₁ (h .bits) b (free-pos index-free) (bOk .0) bits₁
 
   -- the subindex block
   abbrev s : ℕ
   s = lowestFree P v₂
 
-  module _ (most : 3 ≤ need n) where
-    sOk : Finds P v₂
-    sOk = space-subindex img u f (g .at .ready .whole) args (g .at .ready .sound) has (g .kind) (g .room) most
+  -- as many pages are taken as are needed
+  taken : (i : ℕ) → i ≤ need n → Claimed (lowestFree P) P v i
+  taken i m = claimed (lowest-stock (g .at .ready .sound) (let pos : 0 < P = omega (arith, g .at .ready .whole .least) in pos)) i (omega (arith, m, space-room img u f (g .at .ready .whole) args (g .at .ready .sound) has (g .kind) (g .room)))
 
-    top-free : FreePage P v₂ (λ p. 0 + hit d p + hit b p) s
-    top-free = record { good = claim-good (index-free (omega arith)); below = sOk .0; clear = sOk .1 }
+  still₁ : Still P v v₁
+  unfolding claims need
+  still₁ = taken 1 (omega arith) .still
 
-    still₃ : Still P v v₃
-    still₃ = still-trans P v v₂ v₃ (still₂ (omega arith)) (claim-still top-free)
+  still₂ : 2 ≤ need n → Still P v v₂
+  unfolding claims
+  still₂ more = taken 2 more .still
+
+  still₃ : 3 ≤ need n → Still P v v₃
+  unfolding claims
+  still₃ most = taken 3 most .still
+
+  bits : (w : Vol) → Still P v w → BitsAt P w (h .bits)
+  bits w T = bits-kept P v w (h .bits) (T .places .master bitPointer) (T .places .master (suc bitPointer)) (g .at .head .bitsAt)
 
   -- ---- what code took is what the book takes
 
   took₁ : (d′ : ℕ) (w : Vol) → Took P v d′ w → w ≡ v₁
-  took₁ d′ w t = t .2 ∙ ap (claim P v) (t .0)
+  took₁ d′ w t = took-on P P v v refl refl d′ w t .1
 
   took₂ : (d′ b′ Q : ℕ) (w w′ : Vol) → Took P v d′ w → Q ≡ P → Took Q w b′ w′ → (b′ ≡ b) × (w′ ≡ v₂)
-  took₂ d′ b′ Q w w′ t q t′ =
-      let i : b′ ≡ b = t′ .0 ∙ ap₂ lowestFree q (took₁ d′ w t) in
-      (i, t′ .2 ∙ ap₂ (λ (N : ℕ) (x : Vol). claim N x b′) q (took₁ d′ w t) ∙ ap (claim P v₁) i)
+  took₂ d′ b′ Q w w′ t q t′ = took-on P Q v₁ w q (took₁ d′ w t) b′ w′ t′
 
   took₃ : (d′ b′ s′ Q R : ℕ) (w w′ w″ : Vol) → Took P v d′ w → Q ≡ P → Took Q w b′ w′ → R ≡ P → Took R w′ s′ w″ → (s′ ≡ s) × (w″ ≡ v₃)
-  took₃ d′ b′ s′ Q R w w′ w″ t q t′ r t″ =
-      let j : w′ ≡ v₂ = took₂ d′ b′ Q w w′ t q t′ .1 in
-      let i : s′ ≡ s = t″ .0 ∙ ap₂ lowestFree r j in
-      (i, t″ .2 ∙ ap₂ (λ (N : ℕ) (x : Vol). claim N x s′) r j ∙ ap (claim P v₂) i)
+  took₃ d′ b′ s′ Q R w w′ w″ t q t′ r t″ = took-on P R v₂ w′ r (took₂ d′ b′ Q w w′ t q t′ .1) s′ w″ t″
 
   pub can-take₁ : CanTake P v (h .bits)
   can-take₁ = (g .at .head .bitsAt, dOk .0)
 
   pub can-take₂ : 2 ≤ need n → (d′ Q : ℕ) (w : Vol) → Took P v d′ w → Q ≡ P → CanTake Q w (h .bits)
-  can-take₂ more d′ Q w t q = subst₂ (λ (N : ℕ) (x : Vol). CanTake N x (h .bits)) (sym q) (sym (took₁ d′ w t)) (bits₁, bOk more .0)
+  can-take₂ more d′ Q w t q = can-take-on P Q v₁ w q (took₁ d′ w t) (h .bits) (bits v₁ still₁, space-index img u f (g .at .ready .whole) args (g .at .ready .sound) has (g .kind) (g .room) more .0)
 
   pub can-take₃ : 3 ≤ need n → (d′ b′ Q R : ℕ) (w w′ : Vol) → Took P v d′ w → Q ≡ P → Took Q w b′ w′ → R ≡ P → CanTake R w′ (h .bits)
-  can-take₃ most d′ b′ Q R w w′ t q t′ r =
-      subst₂ (λ (N : ℕ) (x : Vol). CanTake N x (h .bits)) (sym r) (sym (took₂ d′ b′ Q w w′ t q t′ .1)) (bits₂ (omega arith), sOk most .0)
+  can-take₃ most d′ b′ Q R w w′ t q t′ r = can-take-on P R v₂ w′ r (took₂ d′ b′ Q w w′ t q t′ .1) (h .bits)
+      (bits v₂ (still₂ (omega arith)), space-subindex img u f (g .at .ready .whole) args (g .at .ready .sound) has (g .kind) (g .room) most .0)
 
   -- ---- what the claims leave
 

@@ -1,5 +1,5 @@
 // The entries of a file and of its owner: what they say before a step, and what they become.
-use page::BITS;
+use page::INDEXED;
 use page::entry::BYTES;
 use page::entry::EntryPlace;
 use page::entry::PAGE_BYTES;
@@ -7,8 +7,8 @@ use page::entry::PAGES;
 use page::entry::POINTER;
 use page::entry::USED;
 use page::entry::clear_entry;
-use page::read::page_at;
 use page::read::slot_at;
+use page::write::pointer_to;
 use page::write::put_two;
 use seek::files::entry_number;
 use tree::entry::entry_flags;
@@ -17,18 +17,13 @@ use tree::entry::entry_two;
 use tree::root::object_page;
 use tree::root::user_page;
 ghost use mathlib.Core.Path.{_≡_};
-ghost use Prim.Native.Nat.{ℕ, _*_, _+_, _≤_, _<_};
+ghost use Prim.Native.Nat.{_*_, _+_, _<_};
 ghost use Rattle.book.specs.Words.{vol, put2, zeros};
 ghost use Rattle.book.specs.Pointers.{pointer, setSlot};
 ghost use Rattle.book.specs.Entries.{fileEntry, entryWord, putEntry};
 ghost use Rattle.book.specs.Image.{pages, Ready};
 ghost use Rattle.book.specs.Grow.{finish as finishOf, indexOf};
 ghost use Rattle.growth.specs.Head.{HeadOf};
-
-// The flags of a pointer to an index block, and to a subindex block.
-pub(crate) const INDEXED: u16 = 1;
-
-pub(crate) const SUBINDEXED: u16 = 2;
 
 // What a step knows of its file: the pages of the two entries, the bit page, the flags and the page of the file's pointer, the file's pages and its owner's used pages.
 pub struct Head {
@@ -49,7 +44,7 @@ pub(crate) fn head_of(img: &[u16], u: usize, f: usize) -> Head
     let e = entry_number(u, f);
     let owner = user_page(img, u);
     let entry = object_page(img, e);
-    let bits = page_at(img, 0, BITS) as usize;
+    let bits = bits::bit_page(img);
     let flags = entry_flags(img, entry, e, POINTER);
     let top = entry_page(img, entry, e, POINTER);
     let count = entry_two(img, entry, e, PAGES) as usize;
@@ -63,14 +58,6 @@ pub(crate) fn head_of(img: &[u16], u: usize, f: usize) -> Head
         count,
         used,
     }
-}
-
-// The pointer with these flags to page t.
-pub(crate) fn pointer_to(flags: u16, t: usize) -> u32
-    requires { ⌜ (flags < 4) × (t < 1073741824) ⌝ }
-    ensures { λ r. ⌜ r ≡ pointer flags t ⌝ }
-{
-    flags as u32 * 1073741824 + t as u32
 }
 
 // The index block that holds position n of a file, by the flags and the page of its pointer.

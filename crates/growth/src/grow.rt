@@ -1,33 +1,21 @@
 // Growing an indexed file by one page: the pages are taken in the order written, then the slots are set, then the entries.
 use crate::entries::Head;
-use crate::entries::INDEXED;
-use crate::entries::SUBINDEXED;
 use crate::entries::enter;
 use crate::entries::head_of;
 use crate::entries::index_of;
 use crate::entries::set_slot;
-use page::WORDS;
+use page::INDEXED;
+use page::SUBINDEXED;
 ghost use mathlib.Core.Path.{_≡_};
 ghost use Prim.Native.Nat.{_%_, _/_, _≤_, _<_};
 ghost use Rattle.book.specs.Words.{vol};
-ghost use Rattle.book.specs.Bits.{lowestFree, claim};
+ghost use Rattle.book.specs.Bits.{lowestFree};
 ghost use Rattle.book.specs.Entries.{object, used, spare, pageCount, fileEntry};
 ghost use Rattle.book.specs.Files.{need};
 ghost use Rattle.book.specs.Image.{pages, Ready};
 ghost use Rattle.book.specs.Calls.{Grows};
 ghost use Rattle.book.specs.Grow.{grow, growTo, first as firstPhase, onward as onwardPhase, raise as raisePhase, block as blockPhase};
-ghost use Rattle.bits.specs.File.{BitsAt};
 ghost use Rattle.growth.specs.Head.{Growing};
-
-// The lowest free page is taken; b is the bit page.
-fn take(img: &mut [u16], b: usize) -> usize
-    requires { ⌜ BitsAt (pages (now img)) (vol (now img)) b × (lowestFree (pages (now img)) (vol (now img)) < pages (now img)) ⌝ }
-    ensures { λ r. ⌜ (r ≡ lowestFree (pages (now (img .entry))) (vol (now (img .entry)))) × (r < pages (now (img .entry))) × (vol (now (img .exit)) ≡ claim (pages (now (img .entry))) (vol (now (img .entry))) r) ⌝ }
-{
-    let p = bits::lowest_free(img, b, img.len() / WORDS);
-    bits::claim(img, b, p);
-    p
-}
 
 // Position n goes into the index block at hand.
 fn onward(img: &mut [u16], u: usize, f: usize, h: Head) -> usize
@@ -36,7 +24,7 @@ fn onward(img: &mut [u16], u: usize, f: usize, h: Head) -> usize
 {
     let n = h.count;
     let i = index_of(img, h.flags, h.top, n);
-    let d = take(img, h.bits);
+    let d = bits::take(img, h.bits);
     set_slot(img, i, n % 512, d);
     enter(img, u, f, h, n + 1, h.flags, h.top, h.used + 1);
     d
@@ -47,8 +35,8 @@ fn first(img: &mut [u16], u: usize, f: usize, h: Head) -> usize
     requires { ⌜ Growing (now img) u f h × (h .count ≡ 0) ⌝ }
     ensures { λ r. ⌜ (r ≡ lowestFree (pages (now (img .entry))) (vol (now (img .entry)))) × (r < pages (now (img .entry))) × (vol (now (img .exit)) ≡ growTo (lowestFree (pages (now (img .entry)))) (pages (now (img .entry))) (vol (now (img .entry))) u f firstPhase) ⌝ }
 {
-    let d = take(img, h.bits);
-    let b = take(img, h.bits);
+    let d = bits::take(img, h.bits);
+    let b = bits::take(img, h.bits);
     set_slot(img, b, 0, d);
     enter(img, u, f, h, 1, INDEXED, b, h.used + 2);
     d
@@ -59,9 +47,9 @@ fn raise(img: &mut [u16], u: usize, f: usize, h: Head) -> usize
     requires { ⌜ Growing (now img) u f h × (h .count ≡ 512) ⌝ }
     ensures { λ r. ⌜ (r ≡ lowestFree (pages (now (img .entry))) (vol (now (img .entry)))) × (r < pages (now (img .entry))) × (vol (now (img .exit)) ≡ growTo (lowestFree (pages (now (img .entry)))) (pages (now (img .entry))) (vol (now (img .entry))) u f raisePhase) ⌝ }
 {
-    let d = take(img, h.bits);
-    let b = take(img, h.bits);
-    let s = take(img, h.bits);
+    let d = bits::take(img, h.bits);
+    let b = bits::take(img, h.bits);
+    let s = bits::take(img, h.bits);
     set_slot(img, s, 0, h.top);
     set_slot(img, s, 1, b);
     set_slot(img, b, 0, d);
@@ -75,8 +63,8 @@ fn block(img: &mut [u16], u: usize, f: usize, h: Head) -> usize
     ensures { λ r. ⌜ (r ≡ lowestFree (pages (now (img .entry))) (vol (now (img .entry)))) × (r < pages (now (img .entry))) × (vol (now (img .exit)) ≡ growTo (lowestFree (pages (now (img .entry)))) (pages (now (img .entry))) (vol (now (img .entry))) u f blockPhase) ⌝ }
 {
     let n = h.count;
-    let d = take(img, h.bits);
-    let b = take(img, h.bits);
+    let d = bits::take(img, h.bits);
+    let b = bits::take(img, h.bits);
     set_slot(img, h.top, n / 512, b);
     set_slot(img, b, 0, d);
     enter(img, u, f, h, n + 1, SUBINDEXED, h.top, h.used + 2);

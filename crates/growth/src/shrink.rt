@@ -1,11 +1,11 @@
 // Shrinking an indexed file by one page returns the pages that growing took: the slot goes if its block stays, then the entries are written, then the pages are freed.
 use crate::entries::Head;
-use crate::entries::INDEXED;
-use crate::entries::SUBINDEXED;
 use crate::entries::enter;
 use crate::entries::head_of;
 use crate::entries::index_of;
 use crate::entries::set_slot;
+use page::INDEXED;
+use page::SUBINDEXED;
 use page::read::slot_at;
 ghost use mathlib.Core.Path.{_≡_};
 ghost use Prim.Native.Nat.{_-_, _%_, _<_};

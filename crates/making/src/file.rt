@@ -1,6 +1,5 @@
 // Creating a file: indexed, and then without a page; or contiguous, a run of pages taken at once.
 use crate::entry::object_entry;
-use crate::place::bit_page;
 use crate::place::file_place;
 use page::entry::EntryPlace;
 use page::entry::USED;
@@ -51,7 +50,7 @@ pub fn create_contiguous_step(
 {
     let e = entry_number(u, f);
     file_place(img, e);
-    let b = bit_page(img);
+    let b = bits::bit_page(img);
     let q = object_page(img, e);
     let o = user_page(img, u);
     let used = used_pages(img, u);

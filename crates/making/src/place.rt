@@ -1,11 +1,12 @@
 // The places of new entries: system pages are taken at the lowest free page, linked, and paid from unreserved.
-use page::BITS;
+use page::INDEXED;
 use page::OBJECTS;
+use page::SUBINDEXED;
 use page::UNRESERVED;
 use page::USERS;
-use page::WORDS;
 use page::entry::EntryPlace;
 use page::read::page_at;
+use page::write::pointer_to;
 use page::write::put_two;
 use seek::needs::object_index;
 use seek::needs::raises;
@@ -13,56 +14,23 @@ use seek::users::unreserved;
 use tree::root::object_page;
 use tree::root::user_page;
 ghost use mathlib.Core.Path.{_≡_};
-ghost use Prim.Native.Nat.{_-_, _*_, _≤_, _<_};
-ghost use lib.ListN.{length};
+ghost use Prim.Native.Nat.{_-_, _≤_, _<_};
 ghost use Rattle.book.specs.Words.{vol};
-ghost use Rattle.book.specs.Pointers.{page, pointer as pointerOf, userPointer};
-ghost use Rattle.book.specs.Bits.{lowestFree, claim};
+ghost use Rattle.book.specs.Pointers.{page, userPointer};
+ghost use Rattle.book.specs.Bits.{lowestFree};
 ghost use Rattle.book.specs.Entries.{userPage, objectPage, unreserved as unreservedOf};
-ghost use Rattle.book.specs.Image.{pages, mostPages, Ready};
+ghost use Rattle.book.specs.Image.{pages, Ready};
 ghost use Rattle.book.specs.Create.{extend as extendOf, started, raised, raises as raisesFor, withUserPage, withSubindex, userNeed, userPlace, objectIndex, fileNeed, withIndex, withObjectPage, filePlace};
 ghost use Rattle.laws.specs.Create.Vacant.{Reached, Vacant};
-ghost use Rattle.bits.specs.File.{BitsAt};
-
-// The flags of a pointer to an index block, and to a subindex block.
-const INDEXED: u32 = 1;
-
-const SUBINDEXED: u32 = 2;
-
-// The page of the bit file.
-pub(crate) fn bit_page(img: &[u16]) -> usize
-    requires { ⌜ Ready (now img) ⌝ }
-    ensures { λ r. ⌜ BitsAt (pages (now (img .entry))) (vol (now (img .entry))) r ⌝ }
-{
-    page_at(img, 0, BITS) as usize
-}
-
-// The pointer with flags x to page t.
-fn pointer(x: u32, t: usize) -> u32
-    requires { ⌜ (x < 3) × (t < mostPages) ⌝ }
-    ensures { λ r. ⌜ r ≡ pointerOf x t ⌝ }
-{
-    x * 1073741824 + t as u32
-}
-
-// The lowest free page is taken.
-fn take(img: &mut [u16], b: usize, count: usize) -> usize
-    requires { ⌜ (1024 * count ≤ length (now img)) × BitsAt count (vol (now img)) b × (lowestFree count (vol (now img)) < count) ⌝ }
-    ensures { λ r. ⌜ (r ≡ lowestFree count (vol (now (img .entry)))) × (r < count) × (vol (now (img .exit)) ≡ claim count (vol (now (img .entry))) (lowestFree count (vol (now (img .entry))))) ⌝ }
-{
-    let d = bits::lowest_free(img, b, count);
-    bits::claim(img, b, d);
-    d
-}
 
 // A new page in slot k of a block.
 fn extend(img: &mut [u16], block: usize, k: usize)
     requires { ⌜ Ready (now img) × Vacant (pages (now img)) (vol (now img)) block k × (1 ≤ unreservedOf (vol (now img))) ⌝ }
     ensures { λ _. ⌜ vol (now (img .exit)) ≡ extendOf (lowestFree (pages (now (img .entry)))) (pages (now (img .entry))) (vol (now (img .entry))) block k ⌝ }
 {
-    let b = bit_page(img);
+    let b = bits::bit_page(img);
     let s = unreserved(img);
-    let d = take(img, b, img.len() / WORDS);
+    let d = bits::take(img, b);
     put_two(img, block, 2 * k, d as u32);
     put_two(img, 0, UNRESERVED, s - 1);
 }
@@ -72,14 +40,13 @@ fn start(img: &mut [u16])
     requires { ⌜ Ready (now img) × (3 ≤ unreservedOf (vol (now img))) ⌝ }
     ensures { λ _. ⌜ vol (now (img .exit)) ≡ started (lowestFree (pages (now (img .entry)))) (pages (now (img .entry))) (vol (now (img .entry))) ⌝ }
 {
-    let count = img.len() / WORDS;
-    let b = bit_page(img);
+    let b = bits::bit_page(img);
     let s = unreserved(img);
-    let i = take(img, b, count);
-    let q = take(img, b, count);
-    let o = take(img, b, count);
-    put_two(img, 0, USERS, pointer(INDEXED, i));
-    put_two(img, 0, OBJECTS, pointer(INDEXED, o));
+    let i = bits::take(img, b);
+    let q = bits::take(img, b);
+    let o = bits::take(img, b);
+    put_two(img, 0, USERS, pointer_to(INDEXED, i));
+    put_two(img, 0, OBJECTS, pointer_to(INDEXED, o));
     put_two(img, i, 0, q as u32);
     put_two(img, 0, UNRESERVED, s - 3);
 }
@@ -89,12 +56,12 @@ fn raise(img: &mut [u16])
     requires { ⌜ Ready (now img) × (1 ≤ unreservedOf (vol (now img))) ⌝ }
     ensures { λ _. ⌜ vol (now (img .exit)) ≡ raised (lowestFree (pages (now (img .entry)))) (pages (now (img .entry))) (vol (now (img .entry))) ⌝ }
 {
-    let b = bit_page(img);
+    let b = bits::bit_page(img);
     let s = unreserved(img);
     let top = page_at(img, 0, OBJECTS);
-    let d = take(img, b, img.len() / WORDS);
+    let d = bits::take(img, b);
     put_two(img, d, 0, top);
-    put_two(img, 0, OBJECTS, pointer(SUBINDEXED, d));
+    put_two(img, 0, OBJECTS, pointer_to(SUBINDEXED, d));
     put_two(img, 0, UNRESERVED, s - 1);
 }
 

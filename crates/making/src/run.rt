@@ -1,5 +1,4 @@
 // Where the run of a new contiguous file will be, found before anything is written: the pages of its entry's place count as reserved.
-use crate::place::bit_page;
 use page::WORDS;
 use seek::files::entry_number;
 use seek::needs::file_need;
@@ -72,7 +71,7 @@ pub fn find_run(img: &[u16], u: usize, f: usize, n: u32) -> usize
     let count = img.len() / WORDS;
     let size = n as usize;
     let need = file_need(img, entry_number(u, f));
-    let b = bit_page(img);
+    let b = bits::bit_page(img);
     if need == 0 {
         return highest_beside(img, b, count, size, count, count);
     }

@@ -1,6 +1,5 @@
 // Where an entry lies in its file: 32 words, 32 to a page, for users and objects alike.
-use crate::WORDS;
-use crate::write::zero_words;
+use crate::write::zero_at;
 ghost use mathlib.Core.Path.{_≡_};
 ghost use Prim.Native.Nat.{_+_, _*_, _≤_};
 ghost use lib.ListN.{length};
@@ -64,7 +63,5 @@ pub fn clear_entry(img: &mut [u16], p: usize, k: usize)
     requires { ⌜ (1024 * p + 1024 ≤ length (now img)) × (k + 32 ≤ 1024) ⌝ }
     ensures { λ _. ⌜ vol (now (img .exit)) ≡ putWords (vol (now (img .entry))) p k 32 zeros ⌝ }
 {
-    let a = WORDS * p + k;
-    let z = a + EntryPlace::WORDS;
-    zero_words(&mut img[a..z]);
+    zero_at(img, p, k, EntryPlace::WORDS);
 }

@@ -18,6 +18,11 @@ pub const BITS: usize = 1020;
 
 pub const UNRESERVED: usize = 1022;
 
+// The flags of a pointer to an index block, and to a subindex block.
+pub const INDEXED: u16 = 1;
+
+pub const SUBINDEXED: u16 = 2;
+
 // The most pages that an image has.
 pub const MOST_PAGES: usize = 16384;
 

@@ -1,9 +1,10 @@
-// Writing words, two-word numbers, and words in a row.
+// Writing words, two-word numbers, pointers, and words in a row.
 use crate::WORDS;
 ghost use mathlib.Core.Path.{_≡_};
 ghost use Prim.Native.Nat.{_+_, _*_, _/_, _%_, _≤_, _<_};
 ghost use lib.ListN.{length, getD};
 ghost use Rattle.book.specs.Words.{vol, put, put2, putWords, wipe, zeros};
+ghost use Rattle.book.specs.Pointers.{pointer};
 ghost use Rattle.page.specs.Parts.{Begins};
 
 fn high(x: u32) -> u16
@@ -35,8 +36,16 @@ pub fn put_two(img: &mut [u16], p: usize, k: usize, x: u32)
     put_word(img, p, k + 1, low(x));
 }
 
+// The pointer with these flags to page t.
+pub fn pointer_to(flags: u16, t: usize) -> u32
+    requires { ⌜ (flags < 4) × (t < 1073741824) ⌝ }
+    ensures { λ r. ⌜ r ≡ pointer flags t ⌝ }
+{
+    flags as u32 * 1073741824 + t as u32
+}
+
 // All words of a part become 0.
-pub(crate) fn zero_words(part: &mut [u16])
+fn zero_words(part: &mut [u16])
     ensures { λ _. ⌜ Begins (length (now (part .entry))) (now (part .exit)) zeros ⌝ }
 {
     let mut i: usize = 0;
@@ -58,14 +67,22 @@ fn copy_words(part: &mut [u16], from: &[u16])
     }
 }
 
+// The n words from word k of page p on become zeros.
+pub(crate) fn zero_at(img: &mut [u16], p: usize, k: usize, n: usize)
+    requires { ⌜ (1024 * p + 1024 ≤ length (now img)) × (k + n ≤ 1024) ⌝ }
+    ensures { λ _. ⌜ vol (now (img .exit)) ≡ putWords (vol (now (img .entry))) p k n zeros ⌝ }
+{
+    let a = WORDS * p + k;
+    let z = a + n;
+    zero_words(&mut img[a..z]);
+}
+
 // Page p becomes zeros.
 pub fn zero_page(img: &mut [u16], p: usize)
     requires { ⌜ 1024 * p + 1024 ≤ length (now img) ⌝ }
     ensures { λ _. ⌜ vol (now (img .exit)) ≡ wipe (vol (now (img .entry))) p ⌝ }
 {
-    let a = WORDS * p;
-    let z = a + WORDS;
-    zero_words(&mut img[a..z]);
+    zero_at(img, p, 0, WORDS);
 }
 
 // Page p becomes the 1,024 words of data.

@@ -1,5 +1,5 @@
 -- `making::place::extend` meets its contract. Assumes nothing.
-use Rattle.making.proofs.Taking.{lowest-there, extend-is}
+use Rattle.making.proofs.Taking.{can-take₁, extend-is}
 use Rattle.tree.proofs.Ready.{ready-some}
 use borrow.Author.Needs.{needs}
 use native.Mathlib.Omega.{arith}
@@ -9,7 +9,7 @@ use Rattle.making.proofs.place.extend.Tie as tie
 take-requires : tie.Need-take-requires
 take-requires c κs =
     let bp = c .before .before .before in let s = bp .before .before .before in
-    (omega arith, bp .bit-page .ensures, lowest-there (s .pre .0 .sound) (ready-some _ (s .pre .0)) (s .pre .2) .below)
+    can-take₁ (s .pre .0 .sound) (ready-some _ (s .pre .0)) (s .pre .2) _ (bp .bit-page .ensures)
 
 mul-put-two : tie.Need-mul-put-two
 mul-put-two c =
@@ -30,8 +30,8 @@ returns : tie.Need-returns
 returns c =
     let pt2 = c .before .before in let pt = pt2 .before .before .before .before in let t = pt .before .before .before .before in let u = t .before .before in
     let s = u .before .before .before .before .before in
-    extend-is (s .pre .0 .sound) (ready-some _ (s .pre .0)) (s .pre .2) (s .args .block) (s .args .k) (s .pre .1 .real) _ _ _ (t .take .result) (u .unreserved .result) (t .take .ensures .0) (u .unreserved .ensures .0)
-    (t .take .ensures .2) (pt .put-two .ensures) (pt2 .put-two2 .ensures)
+    extend-is (s .pre .0 .sound) (ready-some _ (s .pre .0)) (s .pre .2) (s .args .block) (s .args .k) (s .pre .1 .real) _ _ _ _ (u .unreserved .result) (t .take .ensures) (u .unreserved .ensures .0)
+    (pt .put-two .ensures) (pt2 .put-two2 .ensures)
 
 pub extend-spec : {M : Type 1} → statement M
 extend-spec =

@@ -1,5 +1,5 @@
 -- `making::place::raise` meets its contract. Assumes nothing.
-use Rattle.making.proofs.Taking.{lowest-there, raise-is}
+use Rattle.making.proofs.Taking.{can-take₁, raise-is}
 use Rattle.tree.proofs.Ready.{ready-some}
 use borrow.Author.Needs.{needs}
 use native.Mathlib.Omega.{arith}
@@ -9,7 +9,7 @@ use Rattle.making.proofs.place.raise.Tie as tie
 take-requires : tie.Need-take-requires
 take-requires c κs =
     let bp = c .before .before .before .before .before in let s = bp .before .before .before in
-    (omega arith, bp .bit-page .ensures, lowest-there (s .pre .0 .sound) (ready-some _ (s .pre .0)) (s .pre .1) .below)
+    can-take₁ (s .pre .0 .sound) (ready-some _ (s .pre .0)) (s .pre .1) _ (bp .bit-page .ensures)
 
 sub-put-two : tie.Need-sub-put-two
 sub-put-two c =
@@ -21,8 +21,8 @@ returns : tie.Need-returns
 returns c =
     let pt3 = c .before .before in let pt2 = pt3 .before .before .before .before in let p = pt2 .before in let pt = p .before .before .before .before in
     let t = pt .before .before .before .before in let pa = t .before .before in let u = pa .before .before in let s = u .before .before .before .before .before in
-    raise-is (s .pre .0 .sound) (ready-some _ (s .pre .0)) (s .pre .1) _ _ _ _ (t .take .result) (u .unreserved .result) (pa .page-at .result) (p .pointer .result)
-    (t .take .ensures .0) (u .unreserved .ensures .0) (pa .page-at .ensures .0) (p .pointer .ensures) (t .take .ensures .2) (pt .put-two .ensures) (pt2 .put-two2 .ensures) (pt3 .put-two3 .ensures)
+    raise-is (s .pre .0 .sound) (ready-some _ (s .pre .0)) (s .pre .1) _ _ _ _ _ (u .unreserved .result) (pa .page-at .result) (p .pointer-to .result)
+    (t .take .ensures) (u .unreserved .ensures .0) (pa .page-at .ensures .0) (p .pointer-to .ensures) (pt .put-two .ensures) (pt2 .put-two2 .ensures) (pt3 .put-two3 .ensures)
 
 pub raise-spec : {M : Type 1} → statement M
 raise-spec =

@@ -1,5 +1,5 @@
 -- `making::place::start` meets its contract. Assumes nothing.
-use Rattle.making.proofs.Taking.{first-there, second-take, third-take, start-is}
+use Rattle.making.proofs.Taking.{can-take₁, can-take₂, can-take₃, start-is}
 use Rattle.tree.proofs.Ready.{ready-some}
 use borrow.Author.Needs.{needs}
 use native.Mathlib.Omega.{arith}
@@ -9,17 +9,17 @@ use Rattle.making.proofs.place.start.Tie as tie
 take-requires : tie.Need-take-requires
 take-requires c κs =
     let bp = c .before .before .before in let s = bp .before .before .before in
-    (omega arith, bp .bit-page .ensures, first-there (s .pre .0 .sound) (ready-some _ (s .pre .0)) (s .pre .1) .below)
+    can-take₁ (s .pre .0 .sound) (ready-some _ (s .pre .0)) (omega (arith, s .pre .1)) _ (bp .bit-page .ensures)
 
 take-requires-2 : tie.Need-take-requires-2
 take-requires-2 c κs =
     let t = c .before .before .before in let bp = t .before .before .before .before in let s = bp .before .before .before in
-    let B = second-take (s .pre .0 .sound) (ready-some _ (s .pre .0)) (s .pre .1) (bp .bit-page .result) (bp .bit-page .ensures) _ (t .take .ensures .2) in (omega arith, B .0, B .1)
+    can-take₂ (s .pre .0 .sound) (ready-some _ (s .pre .0)) (omega (arith, s .pre .1)) _ (bp .bit-page .ensures) _ _ _ (t .take .ensures) (omega arith)
 
 take-requires-3 : tie.Need-take-requires-3
 take-requires-3 c κs =
     let t2 = c .before .before .before in let t = t2 .before .before .before .before in let bp = t .before .before .before .before in let s = bp .before .before .before in
-    let B = third-take (s .pre .0 .sound) (ready-some _ (s .pre .0)) (s .pre .1) (bp .bit-page .result) (bp .bit-page .ensures) _ _ (t .take .ensures .2) (t2 .take2 .ensures .2) in (omega arith, B .0, B .1)
+    can-take₃ (s .pre .0 .sound) (ready-some _ (s .pre .0)) _ _ _ _ _ (t .take .ensures) (omega arith) (t2 .take2 .ensures) (s .pre .1) _ (bp .bit-page .ensures) _ (omega arith)
 
 sub-put-two : tie.Need-sub-put-two
 sub-put-two c =
@@ -30,12 +30,11 @@ sub-put-two c =
 returns : tie.Need-returns
 returns c =
     let pt4 = c .before .before in let pt3 = pt4 .before .before .before .before in let pt2 = pt3 .before .before .before .before in let p2 = pt2 .before in
-    let pt = p2 .before .before .before .before in let p = pt .before in let t3 = p .before .before .before .before in let t2 = t3 .before .before .before .before in
-    let t = t2 .before .before .before .before in let u = t .before .before in let s = u .before .before .before .before .before in
-    start-is (s .pre .0 .sound) (ready-some _ (s .pre .0)) (s .pre .1) _ _ _ _ _ _ _
-    (t .take .result) (t2 .take2 .result) (t3 .take3 .result) (u .unreserved .result) (p .pointer .result) (p2 .pointer2 .result)
-    (t .take .ensures .0) (t2 .take2 .ensures .0) (t3 .take3 .ensures .0) (u .unreserved .ensures .0) (p .pointer .ensures) (p2 .pointer2 .ensures)
-    (t .take .ensures .2) (t2 .take2 .ensures .2) (t3 .take3 .ensures .2) (pt .put-two .ensures) (pt2 .put-two2 .ensures) (pt3 .put-two3 .ensures) (pt4 .put-two4 .ensures)
+    let pt = p2 .before .before .before .before in let p = pt .before in let t3 = p .before .before .before .before in let i2 = t3 .before .before .before in let t2 = i2 .before in
+    let i = t2 .before .before .before in let t = i .before in let u = t .before .before in let s = u .before .before .before .before .before in
+    start-is (s .pre .0 .sound) (ready-some _ (s .pre .0)) _ _ _ _ _ (t .take .ensures) (omega (arith, i .img .given)) (t2 .take2 .ensures) (s .pre .1) _ _ _ _ _ _ _
+    (u .unreserved .result) (p .pointer-to .result) (p2 .pointer-to2 .result) (omega (arith, i .img .given, i2 .img2 .given)) (t3 .take3 .ensures)
+    (u .unreserved .ensures .0) (p .pointer-to .ensures) (p2 .pointer-to2 .ensures) (pt .put-two .ensures) (pt2 .put-two2 .ensures) (pt3 .put-two3 .ensures) (pt4 .put-two4 .ensures)
 
 pub start-spec : {M : Type 1} → statement M
 start-spec =

@@ -1,53 +1,12 @@
 -- `page::write::zero_page` meets its contract. Assumes nothing.
 use mathlib.Core.Path.{_∙_}
-use Prim.Native.Nat.{_*_}
-use native.Mathlib.Omega.{arith}
 use borrow.Author.Needs.{needs}
-use Rattle.book.specs.Words.{zeros}
-use Rattle.page.proofs.Parts.{vol-part, zeros-wipe}
+use Rattle.page.proofs.Parts.{zeros-wipe}
 use Rattle.page.proofs.write.zero_page.Statement.{statement}
 use Rattle.page.proofs.write.zero_page.Tie as tie
 
-mul-a : tie.Need-mul-a
-mul-a c = search needs
-
-add-z : tie.Need-add-z
-add-z c = search needs
-
-mul-zero-words : tie.Need-mul-zero-words
-mul-zero-words c = search needs
-
-sub-zero-words : tie.Need-sub-zero-words
-sub-zero-words c = search needs
-
-part-zero-words-start : tie.Need-part-zero-words-start
-part-zero-words-start c = search needs
-
-part-zero-words-end : tie.Need-part-zero-words-end
-part-zero-words-end c = search needs
-
-zero-words-requires : tie.Need-zero-words-requires
-zero-words-requires c κs = search needs
-
-same-length : tie.Need-same-length
-same-length c = search needs
-
 returns : tie.Need-returns
-returns c =
-    let a = c .before .before .before .before .before .args in
-    let z = c .before .before .zero-words in
-    vol-part (a .img .now) (z .last .0) (1024 * a .p) (a .p) 0 1024 zeros (omega arith) (omega arith) (omega arith) (z .kept .0) (z .ensures) ∙ zeros-wipe (a .img .now) (a .p)
+returns c = let z = c .before .before in let a = z .before .before .before .args in z .zero-at .ensures ∙ zeros-wipe (a .img .now) (a .p)
 
 pub zero-page-spec : {M : Type 1} → statement M
-zero-page-spec =
-    tie.close
-    (tie.spec
-    mul-a
-    add-z
-    mul-zero-words
-    sub-zero-words
-    part-zero-words-start
-    part-zero-words-end
-    zero-words-requires
-    same-length
-    returns)
+zero-page-spec = tie.close (tie.spec (λ c κs. search needs) (λ c. search needs) returns)

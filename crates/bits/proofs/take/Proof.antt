@@ -1,10 +1,10 @@
--- `growth::grow::take` meets its contract. Assumes nothing.
+-- `bits::take` meets its contract. Assumes nothing.
 use native.Mathlib.Omega.{arith}
 use Prim.Native.Nat.{_<_}
 use Rattle.book.specs.Image.{pages}
 use borrow.Author.Needs.{needs}
-use Rattle.growth.proofs.grow.take.Statement.{statement}
-use Rattle.growth.proofs.grow.take.Tie as tie
+use Rattle.bits.proofs.take.Statement.{statement}
+use Rattle.bits.proofs.take.Tie as tie
 
 returns : tie.Need-returns
 returns c =

@@ -1,8 +1,8 @@
--- `making::place::bit_page` meets its contract. Assumes nothing.
+-- `bits::bit_page` meets its contract. Assumes nothing.
 use Rattle.bits.proofs.Ready.{ready-bits}
 use borrow.Author.Needs.{needs}
-use Rattle.making.proofs.place.bit_page.Statement.{statement}
-use Rattle.making.proofs.place.bit_page.Tie as tie
+use Rattle.bits.proofs.bit_page.Statement.{statement}
+use Rattle.bits.proofs.bit_page.Tie as tie
 
 returns : tie.Need-returns
 returns c = ready-bits _ (c .before .before .pre) _ (c .page-at .ensures .0)

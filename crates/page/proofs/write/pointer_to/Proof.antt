@@ -1,9 +1,9 @@
--- `growth::entries::pointer_to` meets its contract. Assumes nothing.
+-- `page::write::pointer_to` meets its contract. Assumes nothing.
 use native.Mathlib.Omega.{arith}
 use Rattle.book.specs.Pointers.{pointer}
 use borrow.Author.Needs.{needs}
-use Rattle.growth.proofs.entries.pointer_to.Statement.{statement}
-use Rattle.growth.proofs.entries.pointer_to.Tie as tie
+use Rattle.page.proofs.write.pointer_to.Statement.{statement}
+use Rattle.page.proofs.write.pointer_to.Tie as tie
 
 returns : tie.Need-returns
 unfolding pointer
