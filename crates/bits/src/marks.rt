@@ -5,7 +5,15 @@ ghost use mathlib.Core.Path.{_≡_};
 ghost use Prim.Native.Nat.{_<_};
 ghost use lib.ListN.{length};
 ghost use Rattle.book.specs.Bits.{pageBits};
-ghost use Rattle.bits.specs.Marks.{Unmarked, Marking};
+ghost use Rattle.bits.specs.Marks.{marked, Unmarked, Marking};
+
+// The mark of page p: 1 or 0.
+pub fn mark_of(marks: &[u16; 1024], p: usize) -> u16
+    requires { ⌜ (p < pageBits) × (length (now marks) ≡ 1024) ⌝ }
+    ensures { λ r. ⌜ (r ≡ marked (now (marks .entry)) p) × (r < 2) ⌝ }
+{
+    digit_in(marks[p / 16], p % 16)
+}
 
 // Marks page p; false where it is marked already.
 pub fn mark(marks: &mut [u16; 1024], p: usize) -> bool

@@ -4,6 +4,7 @@ use Rattle.book.specs.declared.Role.{Role}
 use Rattle.book.specs.declared.Role.the-variants.{Subindex, Index, Data}
 use Rattle.book.specs.declared.Holder.{Holder}
 use Rattle.book.specs.declared.Holder.the-variants.{Free, Master, BitFile, UserIndex, UserPage, ObjectSubindex, ObjectIndex, ObjectPage, File}
+use Rattle.book.specs.declared.Break.{Break}
 use Rattle.book.specs.declared.Refusal.{Refusal}
 use Rattle.book.specs.declared.Refusal.the-variants.{Size, Argument, Unsound, Missing, Taken, Kind, HasFiles, Full, Allowance, Unreserved, NoRun}
 use Rattle.book.specs.declared.Answer.{Answer}
@@ -11,16 +12,20 @@ use Rattle.book.specs.declared.Answer.the-variants.{Done, Refused}
 use Rattle.book.specs.declared.Holding.{Holding}
 use Rattle.book.specs.declared.Holding.the-variants.{By, Refused as Denied}
 
--- what comes back: the number, the value, and the rule with 3
+-- what comes back: the number, the value, and with 3 what is broken
 pub record Numbers (A : Type 0) : Type 0 where
   pub number : ℕ
   pub value : A
-  pub rule : ℕ
+  pub broken : Break
+
+-- with any other number than 3
+abbrev pub unbroken : Break
+unbroken = record { rule = 0; place = record { page = 0; word = 0 }; first = Free; second = Free }
 
 abbrev pub numberOf : Refusal → ℕ
 numberOf Size = 1
 numberOf Argument = 2
-numberOf (Unsound r) = 3
+numberOf (Unsound b) = 3
 numberOf Missing = 4
 numberOf Taken = 5
 numberOf Kind = 6
@@ -30,25 +35,25 @@ numberOf Allowance = 9
 numberOf Unreserved = 10
 numberOf NoRun = 11
 
-abbrev pub ruleOf : Refusal → ℕ
-ruleOf Size = 0
-ruleOf Argument = 0
-ruleOf (Unsound r) = r
-ruleOf Missing = 0
-ruleOf Taken = 0
-ruleOf Kind = 0
-ruleOf HasFiles = 0
-ruleOf Full = 0
-ruleOf Allowance = 0
-ruleOf Unreserved = 0
-ruleOf NoRun = 0
+abbrev pub brokenOf : Refusal → Break
+brokenOf Size = unbroken
+brokenOf Argument = unbroken
+brokenOf (Unsound b) = b
+brokenOf Missing = unbroken
+brokenOf Taken = unbroken
+brokenOf Kind = unbroken
+brokenOf HasFiles = unbroken
+brokenOf Full = unbroken
+brokenOf Allowance = unbroken
+brokenOf Unreserved = unbroken
+brokenOf NoRun = unbroken
 
 -- done with a value; a refusal has the value none
 abbrev pub doneWith : {A : Type 0} → A → Numbers A
-doneWith x = record { number = 0; value = x; rule = 0 }
+doneWith x = record { number = 0; value = x; broken = unbroken }
 
 abbrev pub refusedWith : {A : Type 0} → A → Refusal → Numbers A
-refusedWith none w = record { number = numberOf w; value = none; rule = ruleOf w }
+refusedWith none w = record { number = numberOf w; value = none; broken = brokenOf w }
 
 abbrev pub numbers : Answer → Numbers ℕ
 numbers (Done x) = doneWith x

@@ -97,7 +97,6 @@ whoCall img p = asking img (PageArg (pages img) p) end Free (Told (pages img) (v
 unfoldable pub formatCall : List ℕ → List ℕ → ℕ → Call ℕ
 formatCall img name b = record {
   table = row 1 (Whole img) (row 2 (NameText name × BitArg (pages img) b) end);
-  broken = end;
   none = 0;
   gives = λ x. x ≡ 0;
   after = format (pages img) (vol img) name b;

@@ -12,7 +12,10 @@ use Rattle.book.specs.Written.{vol-in}
 use Rattle.book.specs.Rules.{Sound, rules}
 use Rattle.book.specs.Rows.{Rows, Lowest, Clear, lowest-one, lowest-applies, clear-none}
 use Rattle.book.specs.Answers.{Numbers}
-use Rattle.book.specs.Outcome.{Call, call, asking, RuleFor, Outcome, Gives, Single}
+use Rattle.book.specs.Outcome.{Call, call, asking, BrokenFor, Outcome, Gives, Single}
+use Rattle.book.specs.Broken.{one-break}
+use Rattle.book.specs.Image.{pages}
+use Rattle.book.specs.declared.Break.{Break}
 
 -- equal volumes of one length are equal images
 pub vol-ext : (a b : List ℕ) → length a ≡ length b → vol a ≡ vol b → a ≡ b
@@ -22,29 +25,29 @@ vol-ext a b l e = ext-getD 0 a b l (λ i h.
     sym (ap (λ (k : ℕ). getD a k 0) q) ∙ sym (vol-in a (i / 1024) (i % 1024) m) ∙ ap (λ (v : Vol). v (i / 1024) (i % 1024)) e
     ∙ vol-in b (i / 1024) (i % 1024) m ∙ ap (λ (k : ℕ). getD b k 0) q)
 
-rule-one : (t : Rows) (n m r s : ℕ) → n ≡ m → RuleFor t n r → RuleFor t m s → r ≡ s
-unfolding RuleFor
-rule-one t n m r s e a b = elim (ℕ-discrete n 3) [
-  | yes h ↦ lowest-one t r s (a .0 h) (b .0 (sym e ∙ h))
+broken-one : (img : List ℕ) (n m : ℕ) (r s : Break) → n ≡ m → BrokenFor img n r → BrokenFor img m s → r ≡ s
+unfolding BrokenFor
+broken-one img n m r s e a b = elim (ℕ-discrete n 3) [
+  | yes h ↦ one-break (pages img) (vol img) r s (a .0 h) (b .0 (sym e ∙ h))
   | no h ↦ a .1 h ∙ sym (b .1 (λ q. h (e ∙ q)))
 ]
 
-same : {A : Type 0} (r s : Numbers A) → r .number ≡ s .number → r .value ≡ s .value → r .rule ≡ s .rule → r ≡ s
+same : {A : Type 0} (r s : Numbers A) → r .number ≡ s .number → r .value ≡ s .value → r .broken ≡ s .broken → r ≡ s
 same {A} r s a b c =
-    ap (λ (x : ℕ). mk x (r .value) (r .rule)) a ∙ ap (λ (y : A). mk (s .number) y (r .rule)) b ∙ ap (mk (s .number) (s .value)) c
+    ap (λ (x : ℕ). mk x (r .value) (r .broken)) a ∙ ap (λ (y : A). mk (s .number) y (r .broken)) b ∙ ap (mk (s .number) (s .value)) c
   where
-    mk : ℕ → A → ℕ → Numbers A
-    mk x y z = record { number = x; value = y; rule = z }
+    mk : ℕ → A → Break → Numbers A
+    mk x y z = record { number = x; value = y; broken = z }
 
 pub one-outcome : {A : Type 0} (C : Call A) → Single C → (img : List ℕ) (r s : Numbers A) (a b : List ℕ) → Outcome C img r a → Outcome C img s b → (r ≡ s) × (a ≡ b)
 unfolding Outcome Single
 one-outcome C u img r s a b (inl x) (inl y) =
     let n : r .number ≡ s .number = lowest-one (C .table) (r .number) (s .number) (x .number) (y .number) in
-    (same r s n (x .value ∙ sym (y .value)) (rule-one (C .broken) (r .number) (s .number) (r .rule) (s .rule) n (x .rule) (y .rule)), x .image ∙ sym (y .image))
+    (same r s n (x .value ∙ sym (y .value)) (broken-one img (r .number) (s .number) (r .broken) (s .broken) n (x .broken) (y .broken)), x .image ∙ sym (y .image))
 one-outcome C u img r s a b (inl x) (inr y) = absurd (clear-none (C .table) (y .clear) (r .number) (lowest-applies (C .table) (r .number) (x .number)))
 one-outcome C u img r s a b (inr x) (inl y) = absurd (clear-none (C .table) (x .clear) (s .number) (lowest-applies (C .table) (s .number) (y .number)))
 one-outcome C u img r s a b (inr x) (inr y) = (
-  same r s (x .number ∙ sym (y .number)) (u (x .clear) (r .value) (s .value) (x .value) (y .value)) (x .rule ∙ sym (y .rule)),
+  same r s (x .number ∙ sym (y .number)) (u (x .clear) (r .value) (s .value) (x .value) (y .value)) (x .broken ∙ sym (y .broken)),
   vol-ext a b (x .size ∙ sym (y .size)) (x .image ∙ sym (y .image)),
 )
 

@@ -7,6 +7,7 @@ use Rattle.book.specs.Words.{Vol, vol}
 use Rattle.book.specs.Holders.{visits}
 use Rattle.book.specs.Rows.{Lowest}
 use Rattle.book.specs.Rules.{Sound, rules}
+use Rattle.book.specs.Broken.{BrokenAt}
 use Rattle.book.specs.Image.{pages, Whole, Ready}
 use Rattle.book.specs.declared.Verdict.{Verdict}
 use Rattle.book.specs.declared.Verdict.the-variants.{Sound as Right, Broken}
@@ -20,11 +21,11 @@ abbrev pub Judged : ℕ → Vol → Verdict → Type 0
 Judged P v (Right n) = Sound P v × (n ≡ visits P v)
 Judged P v (Broken r) = Lowest (rules P v) r
 
--- the gate is shut by 1, 2 or 3, and by no other number
+-- the gate is shut by 1, 2 or 3, and by no other number; with 3 what is broken, and where
 abbrev pub Shuts : List ℕ → Type 0 → Refusal → Type 0
 Shuts img args Size = Whole img → ⊥
 Shuts img args Argument = Whole img × (args → ⊥)
-Shuts img args (Unsound r) = Whole img × args × Lowest (rules (pages img) (vol img)) r
+Shuts img args (Unsound b) = Whole img × args × BrokenAt (pages img) (vol img) b
 Shuts img args Missing = ⊥
 Shuts img args Taken = ⊥
 Shuts img args Kind = ⊥

@@ -10,6 +10,10 @@ pub mod Holders
 pub mod Rows
 pub mod Rules
 pub mod Image
+pub mod Spots
+pub mod Places
+pub mod Pair
+pub mod Broken
 pub mod Answers
 pub mod Outcome
 pub mod Steps

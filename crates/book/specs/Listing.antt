@@ -151,7 +151,7 @@ refusedLine n r = field refusedIs n ++ pick (is n 3) (field ruleIs r) [] ++ newl
 
 -- by the answer of check: the listing with 0, else the refusal
 unfoldable pub report : List ℕ → Numbers ℕ → Bytes
-report img a = pick (a .number) (refusedLine (a .number) (a .rule)) (listing (pages img) (vol img))
+report img a = pick (a .number) (refusedLine (a .number) (a .broken .rule)) (listing (pages img) (vol img))
 
 -- t is the text for an image
 unfoldable pub Listed : List ℕ → Bytes → Type 0

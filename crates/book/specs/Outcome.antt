@@ -5,15 +5,16 @@ use mathlib.Core.List.{List}
 use Prim.Native.Nat.{ℕ}
 use lib.ListN.{length}
 use Rattle.book.specs.Words.{Vol, vol}
-use Rattle.book.specs.Rules.{Sound, rules}
+use Rattle.book.specs.Rules.{Sound}
+use Rattle.book.specs.Broken.{BrokenAt}
+use Rattle.book.specs.declared.Break.{Break}
 use Rattle.book.specs.Rows.{Rows, row, Lowest, Clear}
 use Rattle.book.specs.Image.{pages, Whole}
-use Rattle.book.specs.Answers.{Numbers}
+use Rattle.book.specs.Answers.{Numbers, unbroken}
 
--- a call on an image: what each number asks for, the image's rules, the value with a refusal; and with done the values it gives and the volume it leaves
+-- a call on an image: what each number asks for, the value with a refusal; and with done the values it gives and the volume it leaves
 pub record Call (A : Type 0) : Type 1 where
   pub table : Rows
-  pub broken : Rows
   pub none : A
   pub gives : A → Type 0
   pub after : Vol
@@ -24,21 +25,21 @@ judged img args rest = row 1 (Whole img) (row 2 args (row 3 (Sound (pages img) (
 
 unfoldable pub asking : {A : Type 0} → List ℕ → Type 0 → Rows → A → (A → Type 0) → Vol → Call A
 asking img args rest none gives after =
-    record { table = judged img args rest; broken = rules (pages img) (vol img); none = none; gives = gives; after = after }
+    record { table = judged img args rest; none = none; gives = gives; after = after }
 
 -- a call whose value is a number
 unfoldable pub call : List ℕ → Type 0 → Rows → ℕ → Vol → Call ℕ
 call img args rest value after = asking img args rest 0 (λ x. x ≡ value) after
 
--- with 3 the lowest broken rule, and 0 with any other
-unfoldable pub RuleFor : Rows → ℕ → ℕ → Type 0
-RuleFor t n r = (n ≡ 3 → Lowest t r) × ((n ≡ 3 → ⊥) → r ≡ 0)
+-- with 3 what is broken, and zeros with any other
+unfoldable pub BrokenFor : List ℕ → ℕ → Break → Type 0
+BrokenFor img n b = (n ≡ 3 → BrokenAt (pages img) (vol img) b) × ((n ≡ 3 → ⊥) → b ≡ unbroken)
 
 -- refused: the lowest number that applies, zeros for all others, and the image as it was
 pub record RefusedAs {A : Type 0} (C : Call A) (img : List ℕ) (r : Numbers A) (img′ : List ℕ) : Type 0 where
   pub number : Lowest (C .table) (r .number)
   pub value : r .value ≡ C .none
-  pub rule : RuleFor (C .broken) (r .number) (r .rule)
+  pub broken : BrokenFor img (r .number) (r .broken)
   pub image : img′ ≡ img
 
 -- done: no number applies
@@ -46,7 +47,7 @@ pub record DoneAs {A : Type 0} (C : Call A) (img : List ℕ) (r : Numbers A) (im
   pub number : r .number ≡ 0
   pub clear : Clear (C .table)
   pub value : C .gives (r .value)
-  pub rule : r .rule ≡ 0
+  pub broken : r .broken ≡ unbroken
   pub image : vol img′ ≡ C .after
   pub size : length img′ ≡ length img
 

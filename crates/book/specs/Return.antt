@@ -10,8 +10,8 @@ use Rattle.book.specs.Words.{Vol, vol}
 use Rattle.book.specs.Holders.{visits}
 use Rattle.book.specs.Rows.{Rows, Lowest, Clear}
 use Rattle.book.specs.Image.{pages}
-use Rattle.book.specs.Answers.{numberOf, ruleOf, doneWith, refusedWith}
-use Rattle.book.specs.Outcome.{Call, asking, judged, Outcome, RuleFor}
+use Rattle.book.specs.Answers.{unbroken, numberOf, brokenOf, doneWith, refusedWith}
+use Rattle.book.specs.Outcome.{Call, asking, judged, Outcome, BrokenFor}
 use Rattle.book.specs.Coincide.{broken-unsound}
 use Rattle.book.specs.Gate.{Shuts, Gated}
 use Rattle.book.specs.Enter.{Fit, Enters, Entered}
@@ -24,7 +24,7 @@ use Rattle.book.specs.declared.Gate.the-variants.{Shut, Open}
 pub number-pos : (w : Refusal) → 0 < numberOf w
 number-pos Size = omega arith
 number-pos Argument = omega arith
-number-pos (Unsound r) = omega arith
+number-pos (Unsound b) = omega arith
 number-pos Missing = omega arith
 number-pos Taken = omega arith
 number-pos Kind = omega arith
@@ -38,7 +38,7 @@ number-pos NoRun = omega arith
 abbrev pub Own : Refusal → Type 0
 Own Size = ⊥
 Own Argument = ⊥
-Own (Unsound r) = ⊥
+Own (Unsound b) = ⊥
 Own Missing = Unit {0}
 Own Taken = Unit {0}
 Own Kind = Unit {0}
@@ -48,8 +48,8 @@ Own Allowance = Unit {0}
 Own Unreserved = Unit {0}
 Own NoRun = Unit {0}
 
--- it is told with rule 0, for its number is not 3
-own-plain : (w : Refusal) → Own w → (ruleOf w ≡ 0) × (numberOf w ≡ 3 → ⊥)
+-- nothing broken is told with it, for its number is not 3
+own-plain : (w : Refusal) → Own w → (brokenOf w ≡ unbroken) × (numberOf w ≡ 3 → ⊥)
 own-plain Missing h = (refl, λ e. omega (arith, e))
 own-plain Taken h = (refl, λ e. omega (arith, e))
 own-plain Kind h = (refl, λ e. omega (arith, e))
@@ -64,18 +64,18 @@ module _ {A : Type 0} (img : List ℕ) (args : Type 0) (rest : Rows) (none : A) 
   C = asking img args rest none gives after
 
   -- refused with a number other than 3
-  plain : (w : Refusal) → (ruleOf w ≡ 0) × (numberOf w ≡ 3 → ⊥) → Lowest (C .table) (numberOf w) → Outcome C img (refusedWith none w) img
-  unfolding Outcome RuleFor asking
-  plain w p l = inl record { number = l; value = refl; rule = (λ e. absurd (p .1 e), λ e. p .0); image = refl }
+  plain : (w : Refusal) → (brokenOf w ≡ unbroken) × (numberOf w ≡ 3 → ⊥) → Lowest (C .table) (numberOf w) → Outcome C img (refusedWith none w) img
+  unfolding Outcome BrokenFor asking
+  plain w p l = inl record { number = l; value = refl; broken = (λ e. absurd (p .1 e), λ e. p .0); image = refl }
 
   shuts : (w : Refusal) → Shuts img args w → Outcome C img (refusedWith none w) img
-  unfolding asking judged Lowest Outcome RuleFor
+  unfolding asking judged Lowest Outcome BrokenFor
   shuts Size h = plain Size (refl, λ e. let z : ⊥ = omega arith in z) (inl (refl, h))
   shuts Argument h = plain Argument (refl, λ e. let z : ⊥ = omega arith in z) (inr (h .0, inl (refl, h .1)))
-  shuts (Unsound r) h = inl record {
-    number = inr (h .0, inr (h .1, inl (refl, broken-unsound (pages img) (vol img) r (h .2))));
+  shuts (Unsound b) h = inl record {
+    number = inr (h .0, inr (h .1, inl (refl, broken-unsound (pages img) (vol img) (b .rule) (h .2 .rule))));
     value = refl;
-    rule = (λ e. h .2, λ e. absurd (e refl));
+    broken = (λ e. h .2, λ e. absurd (e refl));
     image = refl;
   }
   shuts Missing h = absurd h
@@ -99,7 +99,7 @@ module _ {A : Type 0} (img : List ℕ) (args : Type 0) (rest : Rows) (none : A) 
   -- all of them hold
   pub finished : Fit img args → Clear rest → (x : A) → gives x → (img′ : List ℕ) → vol img′ ≡ after → length img′ ≡ length img → Outcome C img (doneWith x) img′
   unfolding asking judged Clear Outcome
-  finished f c x g img′ e l = inr record { number = refl; clear = (f .ready .whole, (f .right, (f .ready .sound, c))); value = g; rule = refl; image = e; size = l }
+  finished f c x g img′ e l = inr record { number = refl; clear = (f .ready .whole, (f .right, (f .ready .sound, c))); value = g; broken = refl; image = e; size = l }
 
 -- an open gate of the check counts the volume's visits
 pub gate-visits : (img : List ℕ) (ok : Bool) (g : Gate) (n : ℕ) → Gated img ok g → g ≡ Open n → n ≡ visits (pages img) (vol img)

@@ -7,7 +7,9 @@ use lib.Dec.{eqb, leb}
 use lib.ListN.{length, getD, take, drop, set}
 use Rattle.book.specs.Words.{vol}
 use Rattle.book.specs.Rows.{end}
-use Rattle.book.specs.Answers.{Numbers}
+use Rattle.book.specs.Answers.{Numbers, HolderNumbers, holderNumbers}
+use Rattle.book.specs.declared.Place.{Place}
+use Rattle.book.specs.declared.Break.{Break}
 use Rattle.book.specs.Outcome.{Call, call, Outcome}
 use Rattle.book.specs.Calls.{checkCall, findUserCall, findFileCall, addressCall, formatCall, formatDefaultCall, createUserCall, deleteUserCall}
 use Rattle.book.specs.Calls.{giveCall, takeCall, createIndexedCall, createContiguousCall, growCall, shrinkCall, deleteFileCall, writeCall, openCall}
@@ -42,7 +44,7 @@ unfoldable pub dataCall : List ℕ → List ℕ → List ℕ → (List ℕ → C
 dataCall img s words C = partCall img (getD s 9 0) 1024 words C
 
 -- the call of a number, in the order of document 01's list of work, with user u, file f, count n and time of creation t;
--- 6 and 16, whose answers are no three numbers, and any other number are wrong arguments
+-- 6 and 16, whose answers are no single value, and any other number are wrong arguments
 unfoldable pub numbered : ℕ → (u f n t : ℕ) → List ℕ → List ℕ → List ℕ → List ℕ → Call ℕ
 numbered c u f n t img s text words =
     pickCall (eqb c 1) (nameCall img s text (λ name. formatCall img name n))
@@ -67,19 +69,29 @@ numbered c u f n t img s text words =
 unfoldable pub stepCall : List ℕ → List ℕ → List ℕ → List ℕ → Call ℕ
 stepCall img s text words = numbered (getD s 0 0) (getD s 1 0) (getD s 2 0) (getD s 3 0) (getD s 4 0) img s text words
 
--- ---- a reply is three numbers: 0 or the number of the refusal, the broken rule with 3, the value
+-- ---- a reply is thirteen numbers: 0 or the number of the refusal, the broken rule with 3, the value; the page and the word with 3;
+-- and with rule 8 the first two holders, each by kind, user, file and position
 
 abbrev pub putThree : List ℕ → ℕ → ℕ → ℕ → ℕ → List ℕ
 putThree out at a b c = set (set (set out at a) (at + 1) b) (at + 2) c
 
+abbrev pub putPlace : List ℕ → ℕ → Place → List ℕ
+putPlace out at q = set (set out at (q .page)) (at + 1) (q .word)
+
+abbrev pub putHolder : List ℕ → ℕ → HolderNumbers → List ℕ
+putHolder out at h = set (set (set (set out at (h .kind)) (at + 1) (h .user)) (at + 2) (h .file)) (at + 3) (h .position)
+
+abbrev pub putBreak : List ℕ → ℕ → Break → List ℕ
+putBreak out at b = putHolder (putHolder (putPlace out at (b .place)) (at + 2) (holderNumbers (b .first))) (at + 6) (holderNumbers (b .second))
+
 abbrev pub putReply : List ℕ → ℕ → Numbers ℕ → List ℕ
-putReply out k r = putThree out (k * 3) (r .number) (r .rule) (r .value)
+putReply out k r = putBreak (putThree out (k * 13) (r .number) (r .broken .rule) (r .value)) (k * 13 + 3) (r .broken)
 
 -- ---- the run
 
 -- as many steps as there are, and as have room for a reply
 abbrev pub limit : List ℕ → List ℕ → ℕ
-limit steps out = min (length steps / 10) (length out / 3)
+limit steps out = min (length steps / 10) (length out / 13)
 
 -- the first k steps were made and done, each on the image that the one before left, and each has its reply
 pub data Made (steps text words img₀ out₀ : List ℕ) : ℕ → List ℕ → List ℕ → Type 0 where

@@ -27,7 +27,21 @@ pub enum Holder {
     File { holder: FileHolder },
 }
 
-// What check says of an image.
+// A page, and a word of it.
+pub struct Place {
+    pub page: u32,
+    pub word: u32,
+}
+
+// What refusal 3 tells: the lowest broken rule, its first place, and with rule 8 the first two holders of that page.
+pub struct Break {
+    pub rule: u32,
+    pub place: Place,
+    pub first: Holder,
+    pub second: Holder,
+}
+
+// What the ten rules say of an image.
 pub enum Verdict {
     Sound { visits: u32 },
     Broken { rule: u32 },
@@ -37,7 +51,7 @@ pub enum Verdict {
 pub enum Refusal {
     Size,
     Argument,
-    Unsound { rule: u32 },
+    Unsound { broken: Break },
     Missing,
     Taken,
     Kind,

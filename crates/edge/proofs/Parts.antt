@@ -10,7 +10,7 @@ use Rattle.book.specs.Trees.{pageAt}
 use Rattle.book.specs.Entries.{fileEntry}
 use Rattle.book.specs.Files.{fileAt}
 use Rattle.book.specs.Rows.{Lowest, Counted, lowest-counted}
-use Rattle.book.specs.Answers.{Numbers}
+use Rattle.book.specs.Answers.{Numbers, unbroken}
 use Rattle.book.specs.Outcome.{asking, call, judged, Outcome, RefusedAs, DoneAs, Gives}
 use Rattle.book.specs.Calls.{addressCall, readCall, positionRows, partAt}
 use Rattle.edge.specs.Replied.{Placed, Lies}
@@ -38,19 +38,19 @@ unfolding Lies Outcome addressCall readCall call asking
 part-reads img u f n r (m, inl x, s) =
     let z : 0 < m .number = refused-above img u f n (m .number) (x .number) in
     let w : (r .offset ≡ 0) × (r .length ≡ 0) = s .1 (λ e. let q : ⊥ = omega (arith, e, z) in q) in (
-      record { number = m .number; value = []; rule = m .rule },
+      record { number = m .number; value = []; broken = m .broken },
       sym (empty-part img r (w .0) (w .1)),
-      inl (record { number = x .number; value = refl; rule = x .rule; image = x .image }),
+      inl (record { number = x .number; value = refl; broken = x .broken; image = x .image }),
     )
 part-reads img u f n r (m, inr x, s) =
     let w : (r .offset ≡ 1024 * m .value) × (r .length ≡ 1024) = s .0 (x .number) in (
-      record { number = 0; value = wordsOf img r; rule = 0 },
+      record { number = 0; value = wordsOf img r; broken = unbroken },
       refl,
       inr (record {
         number = refl;
         clear = x .clear;
         value = page-part img r (m .value) (pageAt (vol img) (fileAt (vol img) (fileEntry u f)) n) (x .value) (w .0) (w .1);
-        rule = refl;
+        broken = refl;
         image = x .image;
         size = x .size;
       }),

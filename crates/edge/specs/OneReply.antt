@@ -11,34 +11,49 @@ use Rattle.book.specs.Calls.{createIndexedCall, createContiguousCall, growCall,
 use Rattle.book.specs.Format.{middle}
 use Rattle.book.specs.Image.{pages}
 use Rattle.book.specs.declared.Holder.{Holder}
+use Rattle.book.specs.declared.Place.{Place}
 use Rattle.laws.specs.Call.Singles.{single-check, single-address, single-create-user, single-delete-user, single-give, single-take, single-create-indexed, single-create-contiguous, single-grow, single-shrink, single-delete-file, single-write, single-open, single-find-user, single-find-file}
 use Rattle.laws.specs.Count.Who.{single-who}
 use Rattle.laws.specs.Format.Call.{single-format}
-use Rattle.edge.specs.Replied.{inNumbers, Replied, HeldAs, Held, Placed, Lies}
+use Rattle.sound.specs.declared.numbers.HolderNumbers.{HolderNumbers}
+use Rattle.sound.specs.Told.{one-told}
+use Rattle.edge.specs.Replied.{SamePlace, Spelled, Replied, HeldAs, Held, Placed, Lies}
+use Rattle.edge.specs.declared.spell.Place.{Place as Spot}
 use Rattle.edge.specs.declared.spell.Reply.{Reply}
 use Rattle.edge.specs.declared.spell.HolderReply.{HolderReply}
 use Rattle.edge.specs.declared.spell.Part.{Part}
 
--- ---- structs with equal fields are equal
+-- ---- structs that spell the same are equal
 
-same-reply : (r s : Reply) → r .number ≡ s .number → r .rule ≡ s .rule → r .value ≡ s .value → r ≡ s
-same-reply r s a b c =
-    ap (λ (x : ℕ). mk x (r .rule) (r .value)) a ∙ ap (λ (x : ℕ). mk (s .number) x (r .value)) b ∙ ap (λ (x : ℕ). mk (s .number) (s .rule) x) c
+same-place : (p : Place) (q r : Spot) → SamePlace p q → SamePlace p r → q ≡ r
+same-place p q r a b = ap (λ (x : ℕ). mk x (q .word)) (a .0 ∙ sym (b .0)) ∙ ap (λ (x : ℕ). mk (r .page) x) (a .1 ∙ sym (b .1))
   where
-    mk : ℕ → ℕ → ℕ → Reply
-    mk n x y = record { number = n; rule = x; value = y }
+    mk : ℕ → ℕ → Spot
+    mk p k = record { page = p; word = k }
 
-same-holder : (r s : HolderReply) → r .number ≡ s .number → r .rule ≡ s .rule → r .kind ≡ s .kind → r .user ≡ s .user → r .file ≡ s .file → r .position ≡ s .position → r ≡ s
-same-holder r s a b c d e f =
-    ap (λ (x : ℕ). mk x (r .rule) (r .kind) (r .user) (r .file) (r .position)) a
-    ∙ ap (λ (x : ℕ). mk (s .number) x (r .kind) (r .user) (r .file) (r .position)) b
-    ∙ ap (λ (x : ℕ). mk (s .number) (s .rule) x (r .user) (r .file) (r .position)) c
-    ∙ ap (λ (x : ℕ). mk (s .number) (s .rule) (s .kind) x (r .file) (r .position)) d
-    ∙ ap (λ (x : ℕ). mk (s .number) (s .rule) (s .kind) (s .user) x (r .position)) e
-    ∙ ap (λ (x : ℕ). mk (s .number) (s .rule) (s .kind) (s .user) (s .file) x) f
+same-reply : (n : Numbers ℕ) (r s : Reply) → Spelled n r → Spelled n s → r ≡ s
+same-reply n r s a b =
+    ap (λ (x : ℕ). mk x (r .rule) (r .value) (r .place) (r .first) (r .second)) (a .0 ∙ sym (b .0))
+    ∙ ap (λ (x : ℕ). mk (s .number) x (r .value) (r .place) (r .first) (r .second)) (a .2 .0 ∙ sym (b .2 .0))
+    ∙ ap (λ (x : ℕ). mk (s .number) (s .rule) x (r .place) (r .first) (r .second)) (a .1 ∙ sym (b .1))
+    ∙ ap (λ (q : Spot). mk (s .number) (s .rule) (s .value) q (r .first) (r .second)) (same-place (n .broken .place) (r .place) (s .place) (a .2 .1) (b .2 .1))
+    ∙ ap (λ (h : HolderNumbers). mk (s .number) (s .rule) (s .value) (s .place) h (r .second)) (one-told _ (r .first) (s .first) (a .2 .2) (b .2 .2))
+    ∙ ap (mk (s .number) (s .rule) (s .value) (s .place) (s .first)) (one-told _ (r .second) (s .second) (a .2 .3) (b .2 .3))
   where
-    mk : ℕ → ℕ → ℕ → ℕ → ℕ → ℕ → HolderReply
-    mk n x k u g p = record { number = n; rule = x; kind = k; user = u; file = g; position = p }
+    mk : ℕ → ℕ → ℕ → Spot → HolderNumbers → HolderNumbers → Reply
+    mk n x y q g h = record { number = n; rule = x; value = y; place = q; first = g; second = h }
+
+same-held : (n : Numbers Holder) (r s : HolderReply) → HeldAs n r → HeldAs n s → r ≡ s
+same-held n r s a b =
+    ap (λ (x : ℕ). mk x (r .rule) (r .holder) (r .place) (r .first) (r .second)) (a .0 ∙ sym (b .0))
+    ∙ ap (λ (x : ℕ). mk (s .number) x (r .holder) (r .place) (r .first) (r .second)) (a .2 .0 ∙ sym (b .2 .0))
+    ∙ ap (λ (h : HolderNumbers). mk (s .number) (s .rule) h (r .place) (r .first) (r .second)) (one-told _ (r .holder) (s .holder) (a .1) (b .1))
+    ∙ ap (λ (q : Spot). mk (s .number) (s .rule) (s .holder) q (r .first) (r .second)) (same-place (n .broken .place) (r .place) (s .place) (a .2 .1) (b .2 .1))
+    ∙ ap (λ (h : HolderNumbers). mk (s .number) (s .rule) (s .holder) (s .place) h (r .second)) (one-told _ (r .first) (s .first) (a .2 .2) (b .2 .2))
+    ∙ ap (mk (s .number) (s .rule) (s .holder) (s .place) (s .first)) (one-told _ (r .second) (s .second) (a .2 .3) (b .2 .3))
+  where
+    mk : ℕ → ℕ → HolderNumbers → Spot → HolderNumbers → HolderNumbers → HolderReply
+    mk n x k q g h = record { number = n; rule = x; holder = k; place = q; first = g; second = h }
 
 same-part : (r s : Part) → r .offset ≡ s .offset → r .length ≡ s .length → r ≡ s
 same-part r s a b = ap (λ (x : ℕ). mk x (r .length)) a ∙ ap (λ (x : ℕ). mk (s .offset) x) b
@@ -51,16 +66,14 @@ same-part r s a b = ap (λ (x : ℕ). mk x (r .length)) a ∙ ap (λ (x : ℕ). 
 -- a reply, and the image afterwards
 pub one-reply : (C : Call ℕ) → Single C → (img : List ℕ) (r s : Reply) (a b : List ℕ) → Replied C img r a → Replied C img s b → (r ≡ s) × (a ≡ b)
 unfolding Replied
-one-reply C u img r s a b x y =
-    let o = one-outcome C u img (inNumbers (r .number) (r .value) (r .rule)) (inNumbers (s .number) (s .value) (s .rule)) a b x y in
-    (same-reply r s (ap (λ (n : Numbers ℕ). n .number) (o .0)) (ap (λ (n : Numbers ℕ). n .rule) (o .0)) (ap (λ (n : Numbers ℕ). n .value) (o .0)), o .1)
+one-reply C u img r s a b (m, x, p) (n, y, q) =
+    let o = one-outcome C u img m n a b x y in
+    let t : Spelled m s = subst (λ (k : Numbers ℕ). Spelled k s) (sym (o .0)) q in (same-reply m r s p t, o .1)
 
 -- a holder
 pub one-held : (C : Call Holder) → Single C → (img : List ℕ) (r s : HolderReply) → Held C img r → Held C img s → r ≡ s
 unfolding Held
-one-held C u img r s (m, x, p) (n, y, q) =
-    let t : HeldAs m s = subst (λ (k : Numbers Holder). HeldAs k s) (sym (one-outcome C u img m n img img x y .0)) q in
-    same-holder r s (p .0 ∙ sym (t .0)) (p .1 ∙ sym (t .1)) (p .2 ∙ sym (t .2)) (p .3 ∙ sym (t .3)) (p .4 ∙ sym (t .4)) (p .5 ∙ sym (t .5))
+one-held C u img r s (m, x, p) (n, y, q) = same-held m r s p (subst (λ (k : Numbers Holder). HeldAs k s) (sym (one-outcome C u img m n img img x y .0)) q)
 
 -- a part of the image
 pub one-lies : (C : Call ℕ) → Single C → (img : List ℕ) (r s : Part) → Lies C img r → Lies C img s → r ≡ s

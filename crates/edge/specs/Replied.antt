@@ -2,39 +2,37 @@
 use mathlib.Core.Path.{_≡_}
 use mathlib.Core.List.{List}
 use Prim.Native.Nat.{ℕ, _*_}
-use Rattle.book.specs.Answers.{Numbers, HolderNumbers, holderNumbers}
+use Rattle.book.specs.Answers.{Numbers, holderNumbers}
 use Rattle.book.specs.Outcome.{Call, Outcome}
 use Rattle.book.specs.declared.Holder.{Holder}
+use Rattle.book.specs.declared.Place.{Place}
+use Rattle.book.specs.declared.Break.{Break}
+use Rattle.sound.specs.declared.numbers.HolderNumbers.{HolderNumbers}
+use Rattle.sound.specs.Told.{Tells}
+use Rattle.edge.specs.declared.spell.Place.{Place as Spot}
 use Rattle.edge.specs.declared.spell.Reply.{Reply}
 use Rattle.edge.specs.declared.spell.HolderReply.{HolderReply}
 use Rattle.edge.specs.declared.spell.Part.{Part}
 
--- the three numbers of a reply
-abbrev pub inNumbers : ℕ → ℕ → ℕ → Numbers ℕ
-inNumbers n x r = record { number = n; value = x; rule = r }
+-- the place, in two numbers
+abbrev pub SamePlace : Place → Spot → Type 0
+SamePlace p q = (q .page ≡ p .page) × (q .word ≡ p .word)
 
--- a call whose value is a number: the reply's numbers are an outcome of the call
-unfoldable pub Replied : Call ℕ → List ℕ → Reply → List ℕ → Type 0
-Replied C img r img′ = Outcome C img (inNumbers (r .number) (r .value) (r .rule)) img′
+-- what is broken: the rule, the place, and two holders in four numbers each
+abbrev pub Breaks : Break → ℕ → Spot → HolderNumbers → HolderNumbers → Type 0
+Breaks b x q g h = (x ≡ b .rule) × SamePlace (b .place) q × Tells g (holderNumbers (b .first)) × Tells h (holderNumbers (b .second))
 
 -- a reply that spells these numbers
 abbrev pub Spelled : Numbers ℕ → Reply → Type 0
-Spelled n r = (r .number ≡ n .number) × (r .rule ≡ n .rule) × (r .value ≡ n .value)
+Spelled n r = (r .number ≡ n .number) × (r .value ≡ n .value) × Breaks (n .broken) (r .rule) (r .place) (r .first) (r .second)
 
--- a reply of who-holds with this number, this rule and this holder
-abbrev pub Says : ℕ → ℕ → HolderNumbers → HolderReply → Type 0
-Says n x h r = (r .number ≡ n) × (r .rule ≡ x) × (r .kind ≡ h .kind) × (r .user ≡ h .user) × (r .file ≡ h .file) × (r .position ≡ h .position)
+-- a call whose value is a number: the reply spells an outcome of the call
+unfoldable pub Replied : Call ℕ → List ℕ → Reply → List ℕ → Type 0
+Replied C img r img′ = (n : Numbers ℕ) × Outcome C img n img′ × Spelled n r
 
--- done, and told this holder
-abbrev pub HeldBy : HolderNumbers → HolderReply → Type 0
-HeldBy h r = Says 0 0 h r
-
-abbrev pub Told : ℕ → ℕ → ℕ → ℕ → HolderReply → Type 0
-Told k u f p r = HeldBy (record { kind = k; user = u; file = f; position = p }) r
-
--- a reply that spells these numbers, the holder in its own
+-- a reply of who-holds that spells these numbers, the holder in its own
 abbrev pub HeldAs : Numbers Holder → HolderReply → Type 0
-HeldAs n r = Says (n .number) (n .rule) (holderNumbers (n .value)) r
+HeldAs n r = (r .number ≡ n .number) × Tells (r .holder) (holderNumbers (n .value)) × Breaks (n .broken) (r .rule) (r .place) (r .first) (r .second)
 
 -- who-holds: the reply spells an outcome of the call, which leaves the image
 unfoldable pub Held : Call Holder → List ℕ → HolderReply → Type 0

@@ -82,7 +82,7 @@ module _ {img : List ℕ} {u f : ℕ} {h : Head} (a : FileHead img u f h) where
 
   owned : Owned P v (λ p. 0) u f
   owned = record {
-    spot = record { good = good P v (a .ready .sound); pos = ready-some img (a .ready); ha = a .user; hf = a .file };
+    seat = record { good = good P v (a .ready .sound); pos = ready-some img (a .ready); ha = a .user; hf = a .file };
     big = omega (arith, a .ready .whole .most);
     uf = a .there;
   }

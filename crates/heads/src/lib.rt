@@ -2,7 +2,7 @@
 mod block;
 pub mod master;
 pub mod objects;
-mod stamps;
-mod stored;
-mod twins;
+pub mod stamps;
+pub mod stored;
+pub mod twins;
 pub mod users;

@@ -39,7 +39,7 @@ pub fn rule1(img: &[u16], total: usize) -> bool
 }
 
 // Whether the pointer at word k of the master page is all zero.
-fn zero_at(img: &[u16], k: usize) -> bool
+pub fn zero_at(img: &[u16], k: usize) -> bool
     requires { ⌜ Whole (now img) × (k < 1023) ⌝ }
     ensures { λ r. ⌜ Decides r (Zero (vol (now (img .entry)) 0) k) ⌝ }
 {
@@ -50,7 +50,7 @@ fn zero_at(img: &[u16], k: usize) -> bool
 }
 
 // Whether the pointer at word k of the master page has these flags, and a page in 1..P-1.
-fn inside_at(img: &[u16], total: usize, k: usize, flags: u16) -> bool
+pub fn inside_at(img: &[u16], total: usize, k: usize, flags: u16) -> bool
     requires { ⌜ Whole (now img) × (total ≡ pages (now img)) × (k < 1023) ⌝ }
     ensures { λ r. ⌜ Decides r (Inside (pages (now (img .entry))) (vol (now (img .entry)) 0) k flags) ⌝ }
 {

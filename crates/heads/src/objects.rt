@@ -1,6 +1,5 @@
 // Rules 5 and 6: the blocks of the object file, and the used objects.
 use crate::block::block_ok;
-use crate::stamps::room;
 use crate::stored::entry_legal;
 use crate::twins::apart;
 use page::OBJECTS;
@@ -53,7 +52,7 @@ fn page_unused(img: &[u16], first: usize) -> bool
 }
 
 // Whether no user above 63 is used.
-fn low_users(img: &[u16]) -> bool
+pub fn low_users(img: &[u16]) -> bool
     requires { ⌜ Reach (now img) (userFile (vol (now img))) ⌝ }
     ensures { λ r. ⌜ Decides r (Span (Unused (user (vol (now (img .entry))))) 64 256) ⌝ }
 {
@@ -129,7 +128,7 @@ fn file_ok(img: &[u16], q: usize, e: usize, owned: bool) -> bool
 }
 
 // Whether the 32 objects from `first` on, a page of them, are unused or right. An absent page has no used objects.
-fn page_ok(img: &[u16], flags: u16, top: usize, first: usize) -> bool
+pub fn page_ok(img: &[u16], flags: u16, top: usize, first: usize) -> bool
     requires { ⌜ Reach (now img) (userFile (vol (now img))) × Reach (now img) (rootBy flags top 0) × (first % 32 ≡ 0) × (first < 65536) ⌝ }
     ensures { λ r. ⌜ Decides r (Span (FileFine (user (vol (now (img .entry)))) (entry (vol (now (img .entry))) (rootBy flags top 0))) first (first + 32)) ⌝ }
 {
@@ -190,8 +189,8 @@ fn owners(ends: usize) -> usize
 }
 
 // Rule 6: used objects: owner is used, words 16 and 17 right, name and type legal, no two of a user equal. The object file ends at `ends`.
-pub fn rule6(img: &[u16], ends: usize) -> bool
-    requires { ⌜ Whole (now img) × Rule2 (pages (now img)) (vol (now img)) × Rule3 (pages (now img)) (vol (now img)) × Rule5 (pages (now img)) (vol (now img)) × Ends (now img) ends ⌝ }
+pub fn rule6(img: &[u16], table: &mut [u16; 4096], ends: usize) -> bool
+    requires { ⌜ Whole (now img) × Rule2 (pages (now img)) (vol (now img)) × Rule3 (pages (now img)) (vol (now img)) × Rule5 (pages (now img)) (vol (now img)) × Ends (now img) ends × (length (now table) ≡ 4096) ⌝ }
     ensures { λ r. ⌜ Decides r (Rule6 (user (vol (now (img .entry)))) (object (vol (now (img .entry))))) ⌝ }
 {
     let flags = flags_at(img, 0, OBJECTS);
@@ -199,6 +198,5 @@ pub fn rule6(img: &[u16], ends: usize) -> bool
     if !files_ok(img, flags, top, ends) {
         return false;
     }
-    let mut table = room();
-    all_apart(img, &mut table, flags, top, owners(ends))
+    all_apart(img, table, flags, top, owners(ends))
 }

@@ -13,7 +13,7 @@ ghost use Rattle.heads.specs.Stamps.{mix, hash, stampOf};
 pub(crate) const SLOTS: usize = 4096;
 
 // A table without stamps.
-pub(crate) fn room() -> [u16; 4096]
+pub fn room() -> [u16; 4096]
     ensures { λ r. ⌜ length r ≡ 4096 ⌝ }
 {
     [0; 4096]

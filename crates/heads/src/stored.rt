@@ -11,7 +11,7 @@ ghost use Rattle.book.specs.Decides.{Decides};
 ghost use Rattle.tree.specs.Reach.{entryIn};
 
 // Whether the n bytes from word k of entry e on page q are m or more letters, then zeros.
-pub(crate) fn entry_legal(img: &[u16], q: usize, e: usize, k: usize, m: usize, n: usize) -> bool
+pub fn entry_legal(img: &[u16], q: usize, e: usize, k: usize, m: usize, n: usize) -> bool
     requires { ⌜ (0 < q) × (q < pages (now img)) × (n % 2 ≡ 0) × (k + n / 2 ≤ 32) ⌝ }
     ensures { λ r. ⌜ Decides r (Legal m n (entryIn (vol (now (img .entry))) q e) k) ⌝ }
 {

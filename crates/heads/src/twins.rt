@@ -35,7 +35,7 @@ fn twin(img: &[u16], flags: u16, top: usize, n: usize, q: usize, y: usize, x: us
 }
 
 // Whether no entry from `base` on before the used entry y, which is on page q, is its twin.
-fn fresh(img: &[u16], flags: u16, top: usize, n: usize, base: usize, q: usize, y: usize) -> bool
+pub fn fresh(img: &[u16], flags: u16, top: usize, n: usize, base: usize, q: usize, y: usize) -> bool
     requires { ⌜ On (now img) (rootBy flags top 0) q y × (0 < used (entry (vol (now img)) (rootBy flags top 0) y)) × (n < 32) × (base ≤ y) ⌝ }
     ensures { λ r. ⌜ Decides r (Fresh (entry (vol (now (img .entry))) (rootBy flags top 0)) n base y) ⌝ }
 {
@@ -108,7 +108,7 @@ fn page_apart(
 }
 
 // Whether no two of the 256 entries from `base` on are twins. The table may be lent again for the next 256.
-pub(crate) fn apart(
+pub fn apart(
     img: &[u16],
     table: &mut [u16; 4096],
     flags: u16,

@@ -1,5 +1,4 @@
 // Rule 4: the used users.
-use crate::stamps::room;
 use crate::stored::entry_legal;
 use crate::twins::apart;
 use page::USERS;
@@ -14,6 +13,8 @@ use tree::entry::entry_used;
 use tree::entry::entry_word;
 use tree::root::user_page;
 ghost use mathlib.Core.Path.{_≡_};
+ghost use mathlib.Core.Bool.{true};
+ghost use lib.ListN.{length};
 ghost use Prim.Native.Nat.{_+_, _%_, _<_};
 ghost use Rattle.book.specs.Words.{vol};
 ghost use Rattle.book.specs.Entries.{userFile, user, used};
@@ -79,16 +80,15 @@ fn users_ok(img: &[u16]) -> bool
     true
 }
 
-// Rule 4: used users: own index right, name legal, no two names equal, used no more than given.
-pub fn rule4(img: &[u16]) -> bool
-    requires { ⌜ Whole (now img) × Rule2 (pages (now img)) (vol (now img)) × Rule3 (pages (now img)) (vol (now img)) ⌝ }
-    ensures { λ r. ⌜ Decides r (Rule4 (user (vol (now (img .entry))))) ⌝ }
+// Rule 4: used users: own index right, name legal, no two names equal, used no more than given. The table may be lent again for rule 6.
+pub fn rule4(img: &[u16], table: &mut [u16; 4096]) -> bool
+    requires { ⌜ Whole (now img) × Rule2 (pages (now img)) (vol (now img)) × Rule3 (pages (now img)) (vol (now img)) × (length (now table) ≡ 4096) ⌝ }
+    ensures { λ r. ⌜ Decides r (Rule4 (user (vol (now (img .entry))))) × (r ≡ true → length (now (table .exit)) ≡ 4096) ⌝ }
 {
     if !users_ok(img) {
         return false;
     }
     let flags = flags_at(img, 0, USERS);
     let top = page_at(img, 0, USERS) as usize;
-    let mut table = room();
-    apart(img, &mut table, flags, top, 8, 0)
+    apart(img, table, flags, top, 8, 0)
 }

@@ -10,4 +10,5 @@ pub mod Delete
 pub mod User
 pub mod Call
 pub mod Format
+pub mod Place
 pub mod Example

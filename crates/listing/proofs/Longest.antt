@@ -222,13 +222,13 @@ text-length img t h (a, inl x, e) = elim (eq-zero-or-pos (a .number)) [
   | inl z ↦ absurd (lowest-not img (a .number) (x .number) z)
   | inr p ↦ omega (
     arith,
-    ap length (e ∙ pick-yes (a .number) (refusedLine (a .number) (a .rule)) (listing (pages img) (vol img)) p),
-    refused-length (a .number) (a .rule),
+    ap length (e ∙ pick-yes (a .number) (refusedLine (a .number) (a .broken .rule)) (listing (pages img) (vol img)) p),
+    refused-length (a .number) (a .broken .rule),
   )
 ]
 text-length img t h (a, inr x, e) = omega (
   arith,
-  ap length (e ∙ pick-no (a .number) (refusedLine (a .number) (a .rule)) (listing (pages img) (vol img)) (x .number)),
+  ap length (e ∙ pick-no (a .number) (refusedLine (a .number) (a .broken .rule)) (listing (pages img) (vol img)) (x .number)),
   listing-length (pages img) (vol img) (omega arith) (passed img (x .clear)),
 )
 

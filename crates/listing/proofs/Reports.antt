@@ -8,7 +8,7 @@ use Rattle.sums.specs.Sum.{is, is-same, is-other}
 use Rattle.sums.specs.Search.{pick-yes, pick-no}
 use Rattle.book.specs.Words.{vol}
 use Rattle.book.specs.Image.{pages}
-use Rattle.book.specs.Answers.{numberOf, ruleOf, doneWith, refusedWith}
+use Rattle.book.specs.Answers.{numberOf, brokenOf, doneWith, refusedWith}
 use Rattle.book.specs.Rows.{Clear}
 use Rattle.book.specs.Outcome.{call}
 use Rattle.book.specs.Calls.{checkCall}
@@ -41,10 +41,10 @@ module _ (img : List ℕ) (o out : Bytes) (r : ℕ) (g : Gate) (G : Gated img tr
   in-gate : Entered img (Unit {0}) g
   in-gate = entered img (Unit {0}) true tt g (gated img true g G)
 
-  pub reported-shut : {w : Refusal} → g ≡ Shut w → Wrote (refusedLine (numberOf w) (ruleOf w)) o 0 out r → Reported img o out r
+  pub reported-shut : {w : Refusal} → g ≡ Shut w → Wrote (refusedLine (numberOf w) (brokenOf w .rule)) o 0 out r → Reported img o out r
   unfolding Listed report checkCall call
   reported-shut {w} e t =
-      (refusedLine (numberOf w) (ruleOf w), (refusedWith 0 w, shut img _ _ _ _ _ in-gate e, sym (pick-yes (numberOf w) _ _ (number-pos w))), wrote-shown t)
+      (refusedLine (numberOf w) (brokenOf w .rule), (refusedWith 0 w, shut img _ _ _ _ _ in-gate e, sym (pick-yes (numberOf w) _ _ (number-pos w))), wrote-shown t)
 
   pub reported-open : {n : ℕ} → g ≡ Open n → Wrote (listing (pages img) (vol img)) o 0 out r → Reported img o out r
   unfolding Listed report checkCall call Clear

@@ -2,11 +2,11 @@
 use crate::put::put_bytes;
 use crate::put::put_field;
 use book::Refusal;
+use sound::numbers::broken_of;
 use sound::numbers::number_of;
-use sound::numbers::rule_of;
 ghost use mathlib.Core.Path.{_≡_};
 ghost use Prim.Native.Nat.{_≤_};
-ghost use Rattle.book.specs.Answers.{numberOf, ruleOf};
+ghost use Rattle.book.specs.Answers.{numberOf, brokenOf};
 ghost use Rattle.book.specs.Listing.{refusedLine};
 ghost use Rattle.listing.specs.Wrote.{Wrote};
 
@@ -24,9 +24,10 @@ fn put_numbers(out: &mut [u8], number: usize, rule: usize) -> usize
 
 // Why there is no listing.
 pub fn put_refusal(out: &mut [u8], why: Refusal) -> usize
-    ensures { λ r. ⌜ Wrote (refusedLine (numberOf why) (ruleOf why)) (now (out .entry)) 0 (now (out .exit)) r ⌝ }
+    ensures { λ r. ⌜ Wrote (refusedLine (numberOf why) (brokenOf why .rule)) (now (out .entry)) 0 (now (out .exit)) r ⌝ }
 {
     let number = number_of(why) as usize;
-    let rule = rule_of(why) as usize;
+    let b = broken_of(why);
+    let rule = b.rule as usize;
     put_numbers(out, number, rule)
 }

@@ -12,7 +12,7 @@ use Rattle.book.specs.Format.{format}
 use Rattle.book.specs.Image.{pages, Whole, BitArg}
 use Rattle.book.specs.Rows.{Lowest, Clear}
 use Rattle.book.specs.Answers.{doneWith, refusedWith}
-use Rattle.book.specs.Outcome.{Outcome, RuleFor}
+use Rattle.book.specs.Outcome.{Outcome, BrokenFor}
 use Rattle.book.specs.Calls.{formatCall}
 use Rattle.book.specs.declared.Refusal.the-variants.{Size, Argument}
 
@@ -28,21 +28,21 @@ module _ (img : List ℕ) (b : ℕ) (W : Whole img) (P : ℕ) (p : P ≡ pages i
 
 module _ (img name : List ℕ) (b : ℕ) where
   pub format-size : (Whole img → ⊥) → Outcome (formatCall img name b) img (refusedWith 0 Size) img
-  unfolding Outcome RuleFor formatCall Lowest
-  format-size h = inl record { number = inl (refl, h); value = refl; rule = (λ e. let z : ⊥ = omega (arith, e) in absurd z, λ e. refl); image = refl }
+  unfolding Outcome BrokenFor formatCall Lowest
+  format-size h = inl record { number = inl (refl, h); value = refl; broken = (λ e. let z : ⊥ = omega (arith, e) in absurd z, λ e. refl); image = refl }
 
   module _ (W : Whole img) (P : ℕ) (p : P ≡ pages img) where
     pub format-argument : (NameText name × (0 < b) × (b < P) → ⊥) → Outcome (formatCall img name b) img (refusedWith 0 Argument) img
-    unfolding Outcome RuleFor formatCall Lowest
+    unfolding Outcome BrokenFor formatCall Lowest
     format-argument h =
         inl record {
           number = inr (W, inl (refl, λ a. h (a .0, a .1 .0, bit-low img b W P p (a .1))));
           value = refl;
-          rule = (λ e. let z : ⊥ = omega (arith, e) in absurd z, λ e. refl);
+          broken = (λ e. let z : ⊥ = omega (arith, e) in absurd z, λ e. refl);
           image = refl;
         }
 
     pub format-done :
         NameText name × (0 < b) × (b < P) → (img′ : List ℕ) → vol img′ ≡ format (pages img) (vol img) name b → length img′ ≡ length img → Outcome (formatCall img name b) img (doneWith 0) img′
     unfolding Outcome formatCall Clear
-    format-done a img′ e l = inr record { number = refl; clear = (W, ((a .0, bit-arg img b W P p (a .1) (a .2)), tt)); value = refl; rule = refl; image = e; size = l }
+    format-done a img′ e l = inr record { number = refl; clear = (W, ((a .0, bit-arg img b W P p (a .1) (a .2)), tt)); value = refl; broken = refl; image = e; size = l }

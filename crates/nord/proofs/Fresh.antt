@@ -37,7 +37,7 @@ module _ (img : List ℕ) (args : Type 0) (more : Rows) (gives : ℕ → Type 0)
   stale Full h = refused img args _ 0 gives after f Full tt (inr (h .0, inr (h .1, inl (refl, h .2))))
   stale Size h = absurd h
   stale Argument h = absurd h
-  stale (Unsound r) h = absurd h
+  stale (Unsound b) h = absurd h
   stale Kind h = absurd h
   stale HasFiles h = absurd h
   stale Allowance h = absurd h

@@ -13,7 +13,7 @@ use Rattle.book.specs.declared.Answer.the-variants.{Done, Refused}
 abbrev pub Stale : Vol → ℕ → List ℕ → List ℕ → Refusal → Type 0
 Stale v u name type Size = ⊥
 Stale v u name type Argument = ⊥
-Stale v u name type (Unsound r) = ⊥
+Stale v u name type (Unsound b) = ⊥
 Stale v u name type Missing = HasUser v u → ⊥
 Stale v u name type Taken = HasUser v u × ((f : ℕ) × IsFile v u name type f)
 Stale v u name type Kind = ⊥

@@ -2,20 +2,45 @@
 use native.Mathlib.Omega.{arith}
 use mathlib.Core.Path.{_≡_, refl, sym, ap, subst, _∙_}
 use mathlib.Core.List.{List}
-use Prim.Native.Nat.{ℕ, _*_}
-use Rattle.book.specs.Answers.{numbers, numberOf, ruleOf}
+use Prim.Native.Nat.{ℕ, _+_, _*_}
+use Rattle.book.specs.Answers.{HolderNumbers, holderNumbers, numberOf, unbroken, brokenOf, doneWith, refusedWith, numbers}
 use Rattle.book.specs.Return.{number-pos}
+use Rattle.book.specs.declared.Break.{Break}
 use Rattle.book.specs.declared.Refusal.{Refusal}
 use Rattle.book.specs.declared.Answer.{Answer}
 use Rattle.book.specs.declared.Answer.the-variants.{Done, Refused}
-use Rattle.book.specs.Run.{putThree, putReply}
+use Rattle.book.specs.Run.{putThree, putPlace, putHolder, putBreak, putReply}
+use Rattle.sound.specs.Told.{Tells}
+use Rattle.sound.specs.declared.numbers.HolderNumbers.{HolderNumbers as Struct}
 
-module _ (out out′ : List ℕ) (i : ℕ) (a : Answer) where
-  pub put-done : (v : ℕ) → a ≡ Done v → out′ ≡ putThree out (i * 3) 0 0 v → (out′ ≡ putReply out i (numbers a)) × (numbers a .number ≡ 0)
-  put-done v e w = subst (λ (b : Answer). (out′ ≡ putReply out i (numbers b)) × (numbers b .number ≡ 0)) (sym e) (w, refl)
+abbrev four : ℕ → ℕ → ℕ → ℕ → HolderNumbers
+four k u f n = record { kind = k; user = u; file = f; position = n }
 
-  pub put-refused : (y : Refusal) (n r : ℕ) → a ≡ Refused y → n ≡ numberOf y → r ≡ ruleOf y → out′ ≡ putThree out (i * 3) n r 0
-      → (out′ ≡ putReply out i (numbers a)) × (numbers a .number ≡ 0 → ⊥)
-  put-refused y n r e p q w =
-      subst (λ (b : Answer). (out′ ≡ putReply out i (numbers b)) × (numbers b .number ≡ 0 → ⊥)) (sym e)
-      (w ∙ ap (λ (k : ℕ). putThree out (i * 3) k r 0) p ∙ ap (λ (k : ℕ). putThree out (i * 3) (numberOf y) k 0) q, λ z. omega (arith, z, number-pos y))
+-- a holder by the struct that tells it
+pub put-told : (o p : List ℕ) (at : ℕ) (t : Struct) (h : HolderNumbers) → Tells t h → p ≡ putHolder o at (four (t .kind) (t .user) (t .file) (t .position)) → p ≡ putHolder o at h
+put-told o p at t h e w =
+    w ∙ ap (λ (x : ℕ). putHolder o at (four x (t .user) (t .file) (t .position))) (e .0) ∙ ap (λ (x : ℕ). putHolder o at (four (h .kind) x (t .file) (t .position))) (e .1)
+    ∙ ap (λ (x : ℕ). putHolder o at (four (h .kind) (h .user) x (t .position))) (e .2) ∙ ap (λ (x : ℕ). putHolder o at (four (h .kind) (h .user) (h .file) x)) (e .3)
+
+-- the place, then the two holders
+pub put-broken : (o p q r : List ℕ) (at : ℕ) (b : Break) → p ≡ putPlace o at (b .place) → q ≡ putHolder p (at + 2) (holderNumbers (b .first))
+    → r ≡ putHolder q (at + 6) (holderNumbers (b .second)) → r ≡ putBreak o at b
+put-broken o p q r at b x y z =
+    z ∙ ap (λ (l : List ℕ). putHolder l (at + 6) (holderNumbers (b .second))) (y ∙ ap (λ (l : List ℕ). putHolder l (at + 2) (holderNumbers (b .first))) x)
+
+-- a reply of step i
+module _ (o p q : List ℕ) (i : ℕ) where
+  pub reply-done : (v : ℕ) → p ≡ putThree o (i * 13) 0 0 v → q ≡ putBreak p (i * 13 + 3) unbroken → q ≡ putReply o i (doneWith v)
+  reply-done v x y = y ∙ ap (λ (l : List ℕ). putBreak l (i * 13 + 3) unbroken) x
+
+  pub reply-refused : (w : Refusal) (b : Break) (n : ℕ) → b ≡ brokenOf w → n ≡ numberOf w → p ≡ putThree o (i * 13) n (b .rule) 0 → q ≡ putBreak p (i * 13 + 3) b → q ≡ putReply o i (refusedWith 0 w)
+  reply-refused w b n e f x y =
+      y ∙ ap (λ (l : List ℕ). putBreak l (i * 13 + 3) b) (x ∙ ap (λ (k : ℕ). putThree o (i * 13) k (b .rule) 0) f)
+      ∙ ap (λ (c : Break). putBreak (putThree o (i * 13) (numberOf w) (c .rule) 0) (i * 13 + 3) c) e
+
+module _ (o p : List ℕ) (i : ℕ) (a : Answer) where
+  pub answer-done : (v : ℕ) → a ≡ Done v → p ≡ putReply o i (doneWith v) → (p ≡ putReply o i (numbers a)) × (numbers a .number ≡ 0)
+  answer-done v e w = subst (λ (b : Answer). (p ≡ putReply o i (numbers b)) × (numbers b .number ≡ 0)) (sym e) (w, refl)
+
+  pub answer-refused : (y : Refusal) → a ≡ Refused y → p ≡ putReply o i (refusedWith 0 y) → (p ≡ putReply o i (numbers a)) × (numbers a .number ≡ 0 → ⊥)
+  answer-refused y e w = subst (λ (b : Answer). (p ≡ putReply o i (numbers b)) × (numbers b .number ≡ 0 → ⊥)) (sym e) (w, λ z. omega (arith, z, number-pos y))

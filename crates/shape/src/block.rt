@@ -4,6 +4,7 @@ use page::WORDS;
 use page::read::dword;
 use tree::block::filled;
 use tree::block::unlinked;
+use tree::root::root_page;
 ghost use mathlib.Core.Path.{_≡_};
 ghost use Prim.Native.Nat.{_+_, _*_, _/_, _≤_, _<_};
 ghost use lib.ListN.{length};
@@ -11,7 +12,7 @@ ghost use Rattle.book.specs.Decides.{Decides};
 ghost use Rattle.book.specs.Image.{pages, Whole};
 ghost use Rattle.book.specs.Words.{vol};
 ghost use Rattle.tree.specs.Blocks.{Unlinked, share as shareOf};
-ghost use Rattle.shape.specs.Seen.{Testing, Tested};
+ghost use Rattle.shape.specs.Seen.{Known, Subindex, Recalled, Testing, Tested};
 ghost use Rattle.shape.specs.Shapes.{Filled, Indexes};
 
 // Whether page b is an index block of n pages.
@@ -44,8 +45,8 @@ fn share(n: usize, k: usize) -> usize
 
 // Whether page b is an index block of n pages. A full one is marked as seen, and not read again: files may share blocks until rule 8 is judged.
 pub fn index_once(img: &[u16], total: usize, seen: &mut [u16; 1024], b: usize, n: usize) -> bool
-    requires { ⌜ Testing (now img) total (now seen) × (0 < n) × (n ≤ 512) ⌝ }
-    ensures { λ r. ⌜ Tested (now (img .entry)) (Filled (pages (now (img .entry))) (vol (now (img .entry))) 1 b n) (now (seen .exit)) r ⌝ }
+    requires { ⌜ Testing (now img) total (Known (now img) (now seen)) × (0 < n) × (n ≤ 512) ⌝ }
+    ensures { λ r. ⌜ Tested (Filled (pages (now (img .entry))) (vol (now (img .entry))) 1 b n) (Known (now (img .entry)) (now (seen .exit))) r ⌝ }
 {
     if n < 512 {
         return index_ok(img, total, b, n);
@@ -68,8 +69,8 @@ fn indexes_ok(
     n: usize,
     m: usize,
 ) -> bool
-    requires { ⌜ Testing (now img) total (now seen) × (length (now block) ≡ 1024) × (n ≤ 262144) × (m ≡ (n + 511) / 512) ⌝ }
-    ensures { λ r. ⌜ Tested (now (img .entry)) (Indexes (pages (now (img .entry))) (vol (now (img .entry))) (now (block .entry)) n m) (now (seen .exit)) r ⌝ }
+    requires { ⌜ Testing (now img) total (Known (now img) (now seen)) × (length (now block) ≡ 1024) × (n ≤ 262144) × (m ≡ (n + 511) / 512) ⌝ }
+    ensures { λ r. ⌜ Tested (Indexes (pages (now (img .entry))) (vol (now (img .entry))) (now (block .entry)) n m) (Known (now (img .entry)) (now (seen .exit))) r ⌝ }
 {
     let mut k: usize = 0;
     while k < m {
@@ -89,9 +90,9 @@ fn subindex_block(
     block: &[u16],
     n: usize,
 ) -> bool
-    requires { ⌜ Testing (now img) total (now seen) × (length (now block) ≡ 1024) × (n ≤ 262144) ⌝ }
-    ensures { λ r. ⌜ Tested (now (img .entry)) (Indexes (pages (now (img .entry))) (vol (now (img .entry))) (now (block .entry)) n ((n + 511) / 512)
-        × Unlinked (now (block .entry)) ((n + 511) / 512) 512) (now (seen .exit)) r ⌝ }
+    requires { ⌜ Testing (now img) total (Known (now img) (now seen)) × (length (now block) ≡ 1024) × (n ≤ 262144) ⌝ }
+    ensures { λ r. ⌜ Tested (Indexes (pages (now (img .entry))) (vol (now (img .entry))) (now (block .entry)) n ((n + 511) / 512)
+        × Unlinked (now (block .entry)) ((n + 511) / 512) 512) (Known (now (img .entry)) (now (seen .exit))) r ⌝ }
 {
     let m = (n + 511) / 512;
     if !indexes_ok(img, total, seen, block, n, m) {
@@ -101,9 +102,9 @@ fn subindex_block(
 }
 
 // Whether page t is a subindex block of n pages.
-pub fn subindex_ok(img: &[u16], total: usize, seen: &mut [u16; 1024], t: usize, n: usize) -> bool
-    requires { ⌜ Testing (now img) total (now seen) × (512 < n) × (n ≤ 262144) ⌝ }
-    ensures { λ r. ⌜ Tested (now (img .entry)) (Filled (pages (now (img .entry))) (vol (now (img .entry))) 2 t n) (now (seen .exit)) r ⌝ }
+fn subindex_ok(img: &[u16], total: usize, seen: &mut [u16; 1024], t: usize, n: usize) -> bool
+    requires { ⌜ Testing (now img) total (Known (now img) (now seen)) × (512 < n) × (n ≤ 262144) ⌝ }
+    ensures { λ r. ⌜ Tested (Filled (pages (now (img .entry))) (vol (now (img .entry))) 2 t n) (Known (now (img .entry)) (now (seen .exit))) r ⌝ }
 {
     if t == 0 {
         return false;
@@ -114,4 +115,36 @@ pub fn subindex_ok(img: &[u16], total: usize, seen: &mut [u16; 1024], t: usize, 
     let a = WORDS * t;
     let z = a + WORDS;
     subindex_block(img, total, seen, &img[a..z], n)
+}
+
+// Whether subindex block t, under which the tree is right, has n pages under it: the last one is there, and no next one.
+fn count_ok(img: &[u16], t: usize, n: usize) -> bool
+    requires { ⌜ Subindex (now img) t × (512 < n) × (n ≤ 262144) ⌝ }
+    ensures { λ r. ⌜ Decides r (Filled (pages (now (img .entry))) (vol (now (img .entry))) 2 t n) ⌝ }
+{
+    if root_page(img, 2, t, 0, n - 1) == 0 {
+        return false;
+    }
+    root_page(img, 2, t, 0, n) == 0
+}
+
+// Whether page t is a subindex block of n pages. A right one is marked, and gone through only once: when it is met again, the count alone is compared.
+pub fn subindex_once(
+    img: &[u16],
+    total: usize,
+    seen: &mut [u16; 1024],
+    trees: &mut [u16; 1024],
+    t: usize,
+    n: usize,
+) -> bool
+    requires { ⌜ Testing (now img) total (Recalled (now img) (now seen) (now trees)) × (512 < n) × (n ≤ 262144) ⌝ }
+    ensures { λ r. ⌜ Tested (Filled (pages (now (img .entry))) (vol (now (img .entry))) 2 t n) (Recalled (now (img .entry)) (now (seen .exit)) (now (trees .exit))) r ⌝ }
+{
+    if total <= t {
+        return false;
+    }
+    if !mark(trees, t) {
+        return count_ok(img, t, n);
+    }
+    subindex_ok(img, total, seen, t, n)
 }

@@ -1,6 +1,6 @@
 // The shape of one file: by the flags of its pointer, and with its bytes, by its entry.
 use crate::block::index_once;
-use crate::block::subindex_ok;
+use crate::block::subindex_once;
 use page::entry::BYTES;
 use page::entry::PAGE_BYTES;
 use page::entry::PAGES;
@@ -17,11 +17,11 @@ ghost use Rattle.book.specs.Files.{Shape, Empty, Contiguous, Indexed, Subindexe
 ghost use Rattle.book.specs.Image.{pages};
 ghost use Rattle.book.specs.Words.{vol};
 ghost use Rattle.tree.specs.Reach.{entryIn};
-ghost use Rattle.shape.specs.Seen.{Testing, Tested};
+ghost use Rattle.shape.specs.Seen.{Known, Recalled, Testing, Tested};
 ghost use Rattle.shape.specs.Shapes.{Shaped, EntryRight};
 
 // Whether a pointer without flags to page t is that of a file of n pages: an empty or a contiguous one.
-fn run_ok(total: usize, t: usize, n: usize) -> bool
+pub fn run_ok(total: usize, t: usize, n: usize) -> bool
     requires { ⌜ (t < 4294967296) × (n < 4294967296) ⌝ }
     ensures { λ r. ⌜ Decides r (Empty t n ⊎ Contiguous total t n) ⌝ }
 {
@@ -36,8 +36,8 @@ fn run_ok(total: usize, t: usize, n: usize) -> bool
 
 // Whether page t is the index block of a file of n pages.
 fn indexed_ok(img: &[u16], total: usize, seen: &mut [u16; 1024], t: usize, n: usize) -> bool
-    requires { ⌜ Testing (now img) total (now seen) ⌝ }
-    ensures { λ r. ⌜ Tested (now (img .entry)) (Indexed (pages (now (img .entry))) (vol (now (img .entry))) t n) (now (seen .exit)) r ⌝ }
+    requires { ⌜ Testing (now img) total (Known (now img) (now seen)) ⌝ }
+    ensures { λ r. ⌜ Tested (Indexed (pages (now (img .entry))) (vol (now (img .entry))) t n) (Known (now (img .entry)) (now (seen .exit))) r ⌝ }
 {
     if n == 0 {
         return false;
@@ -49,9 +49,16 @@ fn indexed_ok(img: &[u16], total: usize, seen: &mut [u16; 1024], t: usize, n: us
 }
 
 // Whether page t is the subindex block of a file of n pages.
-fn subindexed_ok(img: &[u16], total: usize, seen: &mut [u16; 1024], t: usize, n: usize) -> bool
-    requires { ⌜ Testing (now img) total (now seen) ⌝ }
-    ensures { λ r. ⌜ Tested (now (img .entry)) (Subindexed (pages (now (img .entry))) (vol (now (img .entry))) t n) (now (seen .exit)) r ⌝ }
+fn subindexed_ok(
+    img: &[u16],
+    total: usize,
+    seen: &mut [u16; 1024],
+    trees: &mut [u16; 1024],
+    t: usize,
+    n: usize,
+) -> bool
+    requires { ⌜ Testing (now img) total (Recalled (now img) (now seen) (now trees)) ⌝ }
+    ensures { λ r. ⌜ Tested (Subindexed (pages (now (img .entry))) (vol (now (img .entry))) t n) (Recalled (now (img .entry)) (now (seen .exit)) (now (trees .exit))) r ⌝ }
 {
     if n <= 512 {
         return false;
@@ -59,7 +66,7 @@ fn subindexed_ok(img: &[u16], total: usize, seen: &mut [u16; 1024], t: usize, n:
     if 262144 < n {
         return false;
     }
-    subindex_ok(img, total, seen, t, n)
+    subindex_once(img, total, seen, trees, t, n)
 }
 
 // Whether a pointer with these flags to page t is that of a file of n pages.
@@ -67,12 +74,13 @@ fn shape_ok(
     img: &[u16],
     total: usize,
     seen: &mut [u16; 1024],
+    trees: &mut [u16; 1024],
     flags: u16,
     t: usize,
     n: usize,
 ) -> bool
-    requires { ⌜ Testing (now img) total (now seen) × (t < 4294967296) × (n < 4294967296) ⌝ }
-    ensures { λ r. ⌜ Tested (now (img .entry)) (Shape (pages (now (img .entry))) (vol (now (img .entry))) flags t n) (now (seen .exit)) r ⌝ }
+    requires { ⌜ Testing (now img) total (Recalled (now img) (now seen) (now trees)) × (t < 4294967296) × (n < 4294967296) ⌝ }
+    ensures { λ r. ⌜ Tested (Shape (pages (now (img .entry))) (vol (now (img .entry))) flags t n) (Recalled (now (img .entry)) (now (seen .exit)) (now (trees .exit))) r ⌝ }
 {
     if flags == 0 {
         return run_ok(total, t, n);
@@ -81,22 +89,29 @@ fn shape_ok(
         return indexed_ok(img, total, seen, t, n);
     }
     if flags == 2 {
-        return subindexed_ok(img, total, seen, t, n);
+        return subindexed_ok(img, total, seen, trees, t, n);
     }
     false
 }
 
 // Whether these are the bytes of n pages.
-fn bytes_ok(n: u32, bytes: u32) -> bool
+pub fn bytes_ok(n: u32, bytes: u32) -> bool
     ensures { λ r. ⌜ Decides r (bytes ≡ bytesOf n) ⌝ }
 {
     bytes as u64 == PAGE_BYTES as u64 * (n as u64)
 }
 
 // Whether the file in entry e on page q has one of the shapes, its bytes right, all its pages in 1..total-1.
-fn file_ok(img: &[u16], total: usize, seen: &mut [u16; 1024], q: usize, e: usize) -> bool
-    requires { ⌜ Testing (now img) total (now seen) × (q < pages (now img)) ⌝ }
-    ensures { λ r. ⌜ Tested (now (img .entry)) (Shaped (pages (now (img .entry))) (vol (now (img .entry))) (entryIn (vol (now (img .entry))) q e)) (now (seen .exit)) r ⌝ }
+fn file_ok(
+    img: &[u16],
+    total: usize,
+    seen: &mut [u16; 1024],
+    trees: &mut [u16; 1024],
+    q: usize,
+    e: usize,
+) -> bool
+    requires { ⌜ Testing (now img) total (Recalled (now img) (now seen) (now trees)) × (q < pages (now img)) ⌝ }
+    ensures { λ r. ⌜ Tested (Shaped (pages (now (img .entry))) (vol (now (img .entry))) (entryIn (vol (now (img .entry))) q e)) (Recalled (now (img .entry)) (now (seen .exit)) (now (trees .exit))) r ⌝ }
 {
     let n = entry_two(img, q, e, PAGES);
     if !bytes_ok(n, entry_two(img, q, e, BYTES)) {
@@ -104,16 +119,23 @@ fn file_ok(img: &[u16], total: usize, seen: &mut [u16; 1024], q: usize, e: usize
     }
     let flags = entry_flags(img, q, e, POINTER);
     let t = entry_page(img, q, e, POINTER);
-    shape_ok(img, total, seen, flags, t, n as usize)
+    shape_ok(img, total, seen, trees, flags, t, n as usize)
 }
 
 // Whether entry e on page q is unused, or its file is right.
-pub fn entry_ok(img: &[u16], total: usize, seen: &mut [u16; 1024], q: usize, e: usize) -> bool
-    requires { ⌜ Testing (now img) total (now seen) × (q < pages (now img)) ⌝ }
-    ensures { λ r. ⌜ Tested (now (img .entry)) (EntryRight (pages (now (img .entry))) (vol (now (img .entry))) (entryIn (vol (now (img .entry))) q e)) (now (seen .exit)) r ⌝ }
+pub fn entry_ok(
+    img: &[u16],
+    total: usize,
+    seen: &mut [u16; 1024],
+    trees: &mut [u16; 1024],
+    q: usize,
+    e: usize,
+) -> bool
+    requires { ⌜ Testing (now img) total (Recalled (now img) (now seen) (now trees)) × (q < pages (now img)) ⌝ }
+    ensures { λ r. ⌜ Tested (EntryRight (pages (now (img .entry))) (vol (now (img .entry))) (entryIn (vol (now (img .entry))) q e)) (Recalled (now (img .entry)) (now (seen .exit)) (now (trees .exit))) r ⌝ }
 {
     if !entry_used(img, q, e) {
         return true;
     }
-    file_ok(img, total, seen, q, e)
+    file_ok(img, total, seen, trees, q, e)
 }

@@ -2,6 +2,7 @@
 pub mod block;
 pub mod counts;
 pub mod file;
+mod plain;
 pub mod rule10;
 pub mod rule7;
 mod tally;

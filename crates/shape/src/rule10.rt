@@ -26,7 +26,7 @@ ghost use Rattle.shape.specs.Counts.{CountRight, UsersRight};
 ghost use Rattle.shape.specs.Objects.{ObjectsAt};
 
 // Whether user u on page q is unused, or his used pages are those of his files.
-fn user_ok(img: &[u16], flags: u16, top: usize, ends: usize, q: usize, u: usize) -> bool
+pub fn user_ok(img: &[u16], flags: u16, top: usize, ends: usize, q: usize, u: usize) -> bool
     requires { ⌜ ObjectsAt (now img) flags top × Ends (now img) ends × (q < pages (now img)) × (u < 256) ⌝ }
     ensures { λ r. ⌜ Decides r (CountRight (vol (now (img .entry))) u (entryIn (vol (now (img .entry))) q u)) ⌝ }
 {
@@ -37,7 +37,7 @@ fn user_ok(img: &[u16], flags: u16, top: usize, ends: usize, q: usize, u: usize)
 }
 
 // The same of the 32 users from `first` on, a page of them. An absent page has no used users.
-fn page_ok(img: &[u16], flags: u16, top: usize, ends: usize, first: usize) -> bool
+pub fn page_ok(img: &[u16], flags: u16, top: usize, ends: usize, first: usize) -> bool
     requires { ⌜ ObjectsAt (now img) flags top × Ends (now img) ends × Reach (now img) (userFile (vol (now img))) × (first % 32 ≡ 0) × (first < 256) ⌝ }
     ensures { λ r. ⌜ Decides r (UsersRight (vol (now (img .entry))) first (first + 32)) ⌝ }
 {
@@ -57,7 +57,7 @@ fn page_ok(img: &[u16], flags: u16, top: usize, ends: usize, first: usize) -> bo
 }
 
 // The same of all users.
-fn users_ok(img: &[u16], flags: u16, top: usize, ends: usize) -> bool
+pub fn users_ok(img: &[u16], flags: u16, top: usize, ends: usize) -> bool
     requires { ⌜ ObjectsAt (now img) flags top × Ends (now img) ends × Reach (now img) (userFile (vol (now img))) ⌝ }
     ensures { λ r. ⌜ Decides r (UsersRight (vol (now (img .entry))) 0 256) ⌝ }
 {
@@ -72,7 +72,7 @@ fn users_ok(img: &[u16], flags: u16, top: usize, ends: usize) -> bool
 }
 
 // Whether unreserved, given and system pages make up P. The system pages are those visited less the users' own, which their used counts tell.
-fn sum_ok(img: &[u16], total: usize, visits: u32) -> bool
+pub fn sum_ok(img: &[u16], total: usize, visits: u32) -> bool
     requires { ⌜ Whole (now img) × (total ≡ pages (now img)) × Reach (now img) (userFile (vol (now img))) × (visits ≡ 1 + all (pages (now img)) (vol (now img)) some)
         × Rule6 (user (vol (now img))) (object (vol (now img))) × Rule7 (pages (now img)) (vol (now img)) × UsersRight (vol (now img)) 0 256 ⌝ }
     ensures { λ r. ⌜ Decides r (unreserved (vol (now (img .entry))) + sumOf 256 (grant (user (vol (now (img .entry))))) + systemPages (pages (now (img .entry))) (vol (now (img .entry))) ≡ pages (now (img .entry))) ⌝ }

@@ -48,14 +48,15 @@ pub fn judge(img: &[u16]) -> Verdict
     if !heads::master::rule3(img, total) {
         return Verdict::Broken { rule: 3 };
     }
-    if !heads::users::rule4(img) {
+    let mut table = heads::stamps::room();
+    if !heads::users::rule4(img, &mut table) {
         return Verdict::Broken { rule: 4 };
     }
     if !heads::objects::rule5(img, total) {
         return Verdict::Broken { rule: 5 };
     }
     let ends = tree::root::object_ends(img);
-    if !heads::objects::rule6(img, ends) {
+    if !heads::objects::rule6(img, &mut table, ends) {
         return Verdict::Broken { rule: 6 };
     }
     if !shape::rule7::rule7(img, total, ends) {
@@ -97,7 +98,9 @@ pub fn gate(img: &[u16], ok: bool) -> Gate
     match verdict {
         Verdict::Sound { visits } => Gate::Open { visits },
         Verdict::Broken { rule } => Gate::Shut {
-            why: Refusal::Unsound { rule },
+            why: Refusal::Unsound {
+                broken: places::tell::tell(img, rule),
+            },
         },
     }
 }

@@ -1,104 +1,75 @@
--- The roles of page p in each kind of root, as the searches find them. Assumes nothing.
-use mathlib.Core.Path.{_≡_, refl, sym, ap, ap₂, _∙_}
-use mathlib.Core.List.{List}
-use Prim.Native.Nat.{ℕ, suc, _+_, _-_, _*_, _/_, _%_, _<_}
-use native.Mathlib.Nat.{not-suc-le-zero}
+-- The pages of a kind, by its number. Assumes nothing.
+use mathlib.Core.Path.{_≡_, refl, sym, ap₂, subst}
+use Prim.Native.Nat.{ℕ, zero, suc, _+_, _-_, _*_, _/_, _%_, _≤_, _<_}
 use native.Mathlib.Omega.{arith}
-use Rattle.book.specs.declared.Role.{Role}
-use Rattle.book.specs.declared.Role.the-variants.{Subindex, Index, Data}
-use Rattle.book.specs.Words.{Vol, vol}
-use Rattle.book.specs.Pointers.{slot}
-use Rattle.book.specs.Trees.{Root, tree, run, rootBy, leaf, pageAt, indexAt, subindexOf}
-use Rattle.book.specs.Holders.{rolePage}
-use Rattle.book.specs.Image.{pages}
-use Rattle.laws.specs.Frame.Roots.{upto-in}
-use Rattle.laws.specs.Tree.Positions.{root-one, root-two, slots-two}
+use Rattle.book.specs.Words.{Vol}
+use Rattle.book.specs.Trees.{rootAt, pageAt, indexAt, upto}
+use Rattle.book.specs.Bits.{bitFile}
+use Rattle.book.specs.Entries.{userFile, objectFile}
+use Rattle.book.specs.Pointers.{userPointer, objectPointer}
+use Rattle.laws.specs.Count.Owners.{rootOf, owner-shallow}
+use Rattle.laws.specs.Count.Reach.{Within}
 use Rattle.laws.specs.Tree.Roles.{upto-pos}
-use Rattle.tree.specs.Reach.{Reach}
+use Rattle.who.specs.Least.{Least}
+use Rattle.who.specs.Turns.{positions, turns, classPage, filePage, kindPage, turnPage}
+use Rattle.who.proofs.Classes.{class-below}
 
--- ---- the root of flags x, page t and count m
+module _ (P : ℕ) (v : Vol) (p n z r : ℕ) where
+  -- the same kind
+  kind-at : (c d : ℕ) → c ≡ d → Least (λ (k : ℕ). kindPage P v c k ≡ p) n z r → Least (λ (k : ℕ). kindPage P v d k ≡ p) n z r
+  kind-at c d e = subst (λ (b : ℕ). Least (λ (k : ℕ). kindPage P v b k ≡ p) n z r) e
 
-module _ (x t m : ℕ) where
-  pub by-run : x ≡ 0 → rootBy x t m ≡ run t m
-  unfolding rootBy
-  by-run e = ap (λ (y : ℕ). rootBy y t m) e
+  pub kind-bits : (d : ℕ) → d ≡ 2 → Least (λ (k : ℕ). pageAt v (bitFile P v) k ≡ p) n z r → Least (λ (k : ℕ). kindPage P v d k ≡ p) n z r
+  unfolding kindPage
+  kind-bits d e l = kind-at 2 d (sym e) l
 
-  pub by-one : x ≡ 1 → rootBy x t m ≡ tree 1 t
-  unfolding rootBy
-  by-one e = ap (λ (y : ℕ). rootBy y t m) e
+  pub kind-index : (d : ℕ) → d ≡ 3 → Least (λ (k : ℕ). upto k 1 (indexAt v (userFile v) 0) ≡ p) n z r → Least (λ (k : ℕ). kindPage P v d k ≡ p) n z r
+  unfolding kindPage
+  kind-index d e l = kind-at 3 d (sym e) l
 
-  pub by-two : x ≡ 2 → rootBy x t m ≡ tree 2 t
-  unfolding rootBy
-  by-two e = ap (λ (y : ℕ). rootBy y t m) e
+  pub kind-users : (d : ℕ) → d ≡ 4 → Least (λ (k : ℕ). classPage v (rootAt (v 0) userPointer 0) 2 k ≡ p) n z r → Least (λ (k : ℕ). kindPage P v d k ≡ p) n z r
+  unfolding kindPage classPage userFile
+  kind-users d e l = kind-at 4 d (sym e) l
 
-  pub by-bad : 2 < x → rootBy x t m ≡ run 0 0
-  unfolding rootBy
-  by-bad h = let e : x ≡ suc (suc (suc (x - 3))) = omega arith in ap (λ (y : ℕ). rootBy y t m) e
+  object-at : (c : ℕ) → c < 3 → Least (λ (k : ℕ). classPage v (rootAt (v 0) objectPointer 0) c k ≡ p) n z r → Least (λ (k : ℕ). kindPage P v (5 + c) k ≡ p) n z r
+  unfolding kindPage objectFile
+  object-at zero h l = l
+  object-at (suc zero) h l = l
+  object-at (suc (suc zero)) h l = l
+  object-at (suc (suc (suc c))) h l = absurd (let o : ⊥ = omega (arith, h) in o)
 
--- the blocks of two levels are in the image
-pub two-below : (img : List ℕ) (t k : ℕ) → Reach img (tree 2 t) → k < 512 → (t < pages img) × (slot (vol img) t k < pages img)
-unfolding rootBy
-two-below img t k d h = let c = slots-two (vol img) (pages img) 2 t 0 (d .below) refl k 0 h (omega arith) in (c .0, c .1)
+  pub kind-objects : (d : ℕ) → 4 < d → d < 8 → Least (λ (k : ℕ). classPage v (rootAt (v 0) objectPointer 0) (d - 5) k ≡ p) n z r → Least (λ (k : ℕ). kindPage P v d k ≡ p) n z r
+  kind-objects d h i l = kind-at (5 + (d - 5)) d (omega arith) (object-at (d - 5) (omega arith) l)
 
--- ---- page p, by kind
+  pub kind-files : (d : ℕ) → 7 < d → Least (λ (k : ℕ). filePage v (d - 8) k ≡ p) n z r → Least (λ (k : ℕ). kindPage P v d k ≡ p) n z r
+  unfolding kindPage
+  kind-files d h l = let q : suc (suc (suc (suc (suc (suc (suc (suc (d - 8)))))))) ≡ d = omega arith in kind-at _ d q l
 
-module _ (v : Vol) (p : ℕ) where
-  pub run-here : (s m i : ℕ) → i < m → s + i ≡ p → rolePage v (run s m) (Data i) ≡ p
-  unfolding pageAt
-  run-here s m i h e = upto-in i m (s + i) h ∙ e
+-- kinds 0 and 1 have no pages
+pub kind-low : (P : ℕ) (v : Vol) (d i : ℕ) → d < 2 → kindPage P v d i ≡ 0
+unfolding kindPage
+kind-low P v zero i h = refl
+kind-low P v (suc zero) i h = refl
+kind-low P v (suc (suc d)) i h = absurd (let o : ⊥ = omega (arith, h) in o)
 
-  pub one-top : (t : ℕ) → t ≡ p → rolePage v (tree 1 t) (Index 0) ≡ p
-  unfolding indexAt leaf
-  one-top t e = upto-in 0 1 t (omega arith) ∙ e
+-- no system page is past the last position
+module _ (P : ℕ) (v : Vol) (w : Within P v) (few : P ≤ positions) (p : ℕ) (pos : 0 < p) where
+  pub kind-below : (d i : ℕ) → d < 8 → kindPage P v d i ≡ p → i < positions
+  unfolding kindPage classPage rootOf
+  kind-below zero i h e = absurd (let o : ⊥ = omega (arith, e) in o)
+  kind-below (suc zero) i h e = absurd (let o : ⊥ = omega (arith, e) in o)
+  kind-below (suc (suc zero)) i h e = class-below v P p few pos (bitFile P v) (owner-shallow P v 0) (w .bits) 2 i e
+  kind-below (suc (suc (suc zero))) i h e = omega (arith, upto-pos i 1 (indexAt v (userFile v) 0) p pos e .0)
+  kind-below (suc (suc (suc (suc zero)))) i h e = class-below v P p few pos (userFile v) (owner-shallow P v 1) (w .users) 2 i e
+  kind-below (suc (suc (suc (suc (suc zero))))) i h e = class-below v P p few pos (objectFile v) (owner-shallow P v 2) (w .objs) 0 i e
+  kind-below (suc (suc (suc (suc (suc (suc zero)))))) i h e = class-below v P p few pos (objectFile v) (owner-shallow P v 2) (w .objs) 1 i e
+  kind-below (suc (suc (suc (suc (suc (suc (suc zero))))))) i h e = class-below v P p few pos (objectFile v) (owner-shallow P v 2) (w .objs) 2 i e
+  kind-below (suc (suc (suc (suc (suc (suc (suc (suc d)))))))) i h e = absurd (let o : ⊥ = omega (arith, h) in o)
 
-  pub one-data : (t k : ℕ) → k < 512 → slot v t k ≡ p → rolePage v (tree 1 t) (Data k) ≡ p
-  unfolding rootBy
-  one-data t k h e = root-one v 1 t 0 k refl h ∙ e
-
-  pub two-top : (t : ℕ) → t ≡ p → rolePage v (tree 2 t) Subindex ≡ p
-  unfolding subindexOf
-  two-top t e = e
-
-  pub two-index : (t k : ℕ) → k < 512 → slot v t k ≡ p → rolePage v (tree 2 t) (Index k) ≡ p
-  unfolding indexAt leaf
-  two-index t k h e = let q : k / 1 ≡ k = omega arith in upto-in k 512 (slot v t (k / 1)) h ∙ ap (slot v t) q ∙ e
-
-  pub two-data : (t k j n : ℕ) → k < 512 → j < 512 → n ≡ 512 * k + j → slot v (slot v t k) j ≡ p → rolePage v (tree 2 t) (Data n) ≡ p
-  unfolding rootBy
-  two-data t k j n h i q e =
-      let a : n / 512 ≡ k = omega arith in
-      let b : n % 512 ≡ j = omega arith in
-      root-two v 2 t 0 n refl (omega arith) ∙ ap₂ (λ (x y : ℕ). slot v (slot v t x) y) a b ∙ e
-
--- ---- and where it is not
-
-module _ (v : Vol) (p : ℕ) (pos : 0 < p) where
-  pub run-none : (s m : ℕ) → ((i : ℕ) → i < m → s + i ≡ p → ⊥) → (x : Role) → rolePage v (run s m) x ≡ p → ⊥
-  unfolding subindexOf indexAt pageAt
-  run-none s m none Subindex e = omega arith
-  run-none s m none (Index n) e = omega arith
-  run-none s m none (Data n) e = let u = upto-pos n m (s + n) p pos e in none n (u .0) (u .1)
-
-  pub one-none : (t : ℕ) → (t ≡ p → ⊥) → ((k : ℕ) → (k < 512) × (slot v t k ≡ p) → ⊥) → (x : Role) → rolePage v (tree 1 t) x ≡ p → ⊥
-  unfolding subindexOf indexAt pageAt leaf
-  one-none t top slots Subindex e = omega arith
-  one-none t top slots (Index n) e = top (upto-pos n 1 t p pos e .1)
-  one-none t top slots (Data n) e =
-      let u = upto-pos n 512 (slot v t (n / 1)) p pos e in let h : n < 512 = u .0 in let i : n / 1 < 512 = omega arith in
-      slots (n / 1) (i, u .1)
-
-  pub two-none : (t : ℕ) → (t ≡ p → ⊥) → ((k : ℕ) → k < 512 → (slot v t k ≡ p → ⊥) × ((j : ℕ) → (j < 512) × (slot v (slot v t k) j ≡ p) → ⊥))
-      → (x : Role) → rolePage v (tree 2 t) x ≡ p → ⊥
-  unfolding subindexOf indexAt pageAt leaf
-  two-none t top slots Subindex e = top e
-  two-none t top slots (Index n) e =
-      let u = upto-pos n 512 (slot v t (n / 1)) p pos e in let h : n < 512 = u .0 in let i : n / 1 < 512 = omega arith in
-      slots (n / 1) i .0 (u .1)
-  two-none t top slots (Data n) e =
-      let u = upto-pos n 262144 (slot v (slot v t (n / 512)) (n % 512 / 1)) p pos e in
-      let h : n < 262144 = u .0 in let i : n / 512 < 512 = omega arith in let l : n % 512 / 1 < 512 = omega arith in
-      slots (n / 512) i .1 (n % 512 / 1) (l, u .1)
-
-  -- an empty run has no page
-  pub empty-none : (r : Root) → r ≡ run 0 0 → (x : Role) → rolePage v r x ≡ p → ⊥
-  empty-none r e x h = run-none 0 0 (λ i l q. not-suc-le-zero l) x (ap (λ (s : Root). rolePage v s x) (sym e) ∙ h)
+-- turn turns * d + j is turn j of kind d
+pub kind-turn : (P : ℕ) (v : Vol) (d j : ℕ) → j < turns → turnPage P v (turns * d + j) ≡ kindPage P v d j
+unfolding turnPage
+kind-turn P v d j h =
+    let q : (turns * d + j) / turns ≡ d = omega arith in
+    let s : (turns * d + j) % turns ≡ j = omega arith in
+    ap₂ (kindPage P v) q s

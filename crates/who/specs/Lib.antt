@@ -1,1 +1,3 @@
-pub mod Places
+pub mod Least
+pub mod Turns
+pub mod Search

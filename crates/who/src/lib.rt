@@ -1,19 +1,26 @@
-// Who holds a page, on an image that is known to be sound. The owners are searched one after the other; pages have at most one holder.
+// The holders of a page in their order: kind, user, file, position. One search finds the first from a turn on: a page of a sound image has one
+// holder at most, and one that is held twice has a first and a second.
+pub mod blocks;
 pub mod files;
-pub mod roles;
+pub mod kinds;
+pub mod roots;
 pub mod tell;
 
-use book::FileHolder;
-use book::Role;
+use book::Holder;
 
-// What the search of one root answers: the role of the page in it, or that it has none.
-pub enum Place {
-    Here { role: Role },
-    Nowhere,
+// The first two holders of a page.
+pub struct TwoHolders {
+    pub first: Holder,
+    pub second: Holder,
 }
 
-// What the search of files answers: the file, with the page's role in it, or that there is none.
-pub enum Owner {
-    File { holder: FileHolder },
-    Nobody,
-}
+// The positions of a root, the turns of a kind, the first turns of the files' blocks and of their data pages, and all turns.
+pub const POSITIONS: usize = 262144;
+
+pub const TURNS: usize = 17179869184;
+
+pub const BLOCK_TURNS: usize = 137438953472;
+
+pub const DATA_TURNS: usize = 171798691840;
+
+pub const ALL_TURNS: usize = 188978561024;

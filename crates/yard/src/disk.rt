@@ -1,4 +1,5 @@
 // The yard's disk of 154 pages, through its first day.
+use crate::rules::breaks;
 use crate::say::case;
 use crate::say::done;
 use crate::say::refused;
@@ -27,9 +28,9 @@ pub fn passes(img: &mut [u16]) {
 pub fn too_small(img: &mut [u16]) {
     case(
         b"no volume: 1",
-        refused(nord_format_default(img, b"YARD"), 1, 0),
+        refused(nord_format_default(img, b"YARD"), 1),
     );
-    case(b"nothing to check: 1", refused(nord_check(img), 1, 0));
+    case(b"nothing to check: 1", refused(nord_check(img), 1));
 }
 
 // Formatted, a first user, 100 pages given, an indexed file grown once, a contiguous one of 10.
@@ -53,6 +54,24 @@ fn first_user(img: &mut [u16]) {
     case(b"first user is 0", done(nord_create_user(img, b"DOCK"), 0));
     case(b"pages 1, 2, 3", first_pages(img));
     case(b"unreserved 149", two(img, 0, 1022, 149));
+    broken(img);
+    given(img);
+}
+
+// One word wrong, and where check says it is.
+fn broken(img: &mut [u16]) {
+    case(b"used 1: page 2, word 16", breaks(img, 2, 17, 1, 4, 16));
+    case(
+        b"unreserved 150: page 0, word 1022",
+        breaks(img, 0, 1023, 150, 10, 1022),
+    );
+    case(
+        b"bit of page 100: page 77, word 6",
+        breaks(img, 77, 6, 16, 9, 6),
+    );
+}
+
+fn given(img: &mut [u16]) {
     case(b"give 100", done(nord_give(img, 0, 100), 0));
     case(b"unreserved 49", two(img, 0, 1022, 49));
 }
@@ -90,10 +109,7 @@ fn run_pages(img: &[u16]) {
         b"its last page is 153",
         done(nord_address(img, 0, 1, 9), 153),
     );
-    case(
-        b"position 10: 4",
-        refused(nord_address(img, 0, 1, 10), 4, 0),
-    );
+    case(b"position 10: 4", refused(nord_address(img, 0, 1, 10), 4));
     case(b"18 pages are visited", done(nord_check(img), 18));
 }
 
@@ -111,5 +127,5 @@ fn first_pages(img: &[u16]) -> bool {
 // Whether a page has a holder of this kind.
 fn held(img: &[u16], page: usize, kind: u32) -> bool {
     let h = nord_who_holds(img, page);
-    h.number == 0 && h.kind == kind && h.position == 0
+    h.number == 0 && h.holder.kind == kind && h.holder.position == 0
 }

@@ -43,30 +43,27 @@ pub fn numbers(img: &mut [u16]) {
 fn asked(img: &[u16]) {
     case(
         b"2: a name in small letters",
-        refused(nord_find_user(img, b"dock"), 2, 0),
+        refused(nord_find_user(img, b"dock"), 2),
     );
     case(b"2: page 16 of 16", nord_who_holds(img, 16).number == 2);
-    case(
-        b"4: no such user",
-        refused(nord_find_user(img, b"WAND"), 4, 0),
-    );
+    case(b"4: no such user", refused(nord_find_user(img, b"WAND"), 4));
     case(
         b"4: no such file",
-        refused(nord_find_file(img, 0, b"READS", b"DATA"), 4, 0),
+        refused(nord_find_file(img, 0, b"READS", b"DATA"), 4),
     );
 }
 
 // 2.
 fn arguments(img: &mut [u16]) {
-    case(b"2: user 256", refused(nord_grow(img, 256, 0), 2, 0));
-    case(b"2: no page to give", refused(nord_give(img, 0, 0), 2, 0));
+    case(b"2: user 256", refused(nord_grow(img, 256, 0), 2));
+    case(b"2: no page to give", refused(nord_give(img, 0, 0), 2));
 }
 
 // 5, of users, and a file.
 fn names(img: &mut [u16]) {
     case(
         b"5: the user's name is taken",
-        refused(nord_create_user(img, b"DOCK"), 5, 0),
+        refused(nord_create_user(img, b"DOCK"), 5),
     );
     case(
         b"a file",
@@ -78,7 +75,7 @@ fn names(img: &mut [u16]) {
 fn types(img: &mut [u16]) {
     case(
         b"5: the file's name is taken",
-        refused(nord_create_indexed(img, 0, b"READS", b"DATA", 0), 5, 0),
+        refused(nord_create_indexed(img, 0, b"READS", b"DATA", 0), 5),
     );
     case(
         b"another type is another file",
@@ -90,11 +87,11 @@ fn types(img: &mut [u16]) {
 fn kinds(img: &mut [u16]) {
     case(
         b"6: shrink of an empty file",
-        refused(nord_shrink(img, 0, 0), 6, 0),
+        refused(nord_shrink(img, 0, 0), 6),
     );
     case(
         b"7: the user has a file",
-        refused(nord_delete_user(img, 0), 7, 0),
+        refused(nord_delete_user(img, 0), 7),
     );
 }
 
@@ -102,23 +99,20 @@ fn kinds(img: &mut [u16]) {
 fn allowance(img: &mut [u16]) {
     case(
         b"9: nine pages of eight",
-        refused(nord_create_contiguous(img, 0, b"RUN", b"", 0, 9), 9, 0),
+        refused(nord_create_contiguous(img, 0, b"RUN", b"", 0, 9), 9),
     );
     case(
         b"9: take back nine of eight",
-        refused(nord_take(img, 0, 9), 9, 0),
+        refused(nord_take(img, 0, 9), 9),
     );
 }
 
 // 10 and 11.
 fn room(img: &mut [u16]) {
-    case(
-        b"10: give three of two",
-        refused(nord_give(img, 0, 3), 10, 0),
-    );
+    case(b"10: give three of two", refused(nord_give(img, 0, 3), 10));
     case(
         b"11: no eight in a row",
-        refused(nord_create_contiguous(img, 0, b"RUN", b"", 0, 8), 11, 0),
+        refused(nord_create_contiguous(img, 0, b"RUN", b"", 0, 8), 11),
     );
 }
 
@@ -130,7 +124,7 @@ fn run(img: &mut [u16]) {
     );
     case(
         b"6: grow of a contiguous file",
-        refused(nord_grow(img, 0, 2), 6, 0),
+        refused(nord_grow(img, 0, 2), 6),
     );
 }
 
@@ -138,7 +132,7 @@ fn run(img: &mut [u16]) {
 fn filled(img: &mut [u16]) {
     case(
         b"9: grow needs two of one",
-        refused(nord_grow(img, 0, 0), 9, 0),
+        refused(nord_grow(img, 0, 0), 9),
     );
     case(b"sound after all that", done(nord_check(img), 13));
 }
@@ -147,10 +141,14 @@ fn filled(img: &mut [u16]) {
 pub fn all_users(img: &mut [u16]) {
     nord_format_default(img, b"FULL");
     fill(img);
+    full(img);
+}
+
+fn full(img: &mut [u16]) {
     case(b"256 users", done(nord_find_user(img, b"255"), 255));
     case(
         b"8: one more",
-        refused(nord_create_user(img, b"ONE-MORE"), 8, 0),
+        refused(nord_create_user(img, b"ONE-MORE"), 8),
     );
 }
 

@@ -1,21 +1,30 @@
 // A case for each broken rule: a sound disk of 16 pages with one word wrong.
 use crate::refusals::small_yard;
+use crate::say::broken;
 use crate::say::case;
 use crate::say::done;
+use crate::say::held;
 use crate::say::put;
-use crate::say::refused;
 use crate::say::word;
 use edge::ask::nord_check;
 use edge::change::nord_create_indexed;
 use edge::change::nord_grow;
 
-// Whether check gives this rule with word k of page p set to x; the word is put back.
-fn breaks(img: &mut [u16], p: u16, k: u16, x: u16, rule: u32) -> bool {
+// Whether check gives this rule and word `first` of page p with word k of page p set to x; the word is put back.
+pub fn breaks(img: &mut [u16], p: u16, k: u16, x: u16, rule: u32, first: u32) -> bool {
     let was = word(img, p, k);
     put(img, p, k, x);
     let r = nord_check(img);
     put(img, p, k, was);
-    refused(r, 3, rule)
+    broken(r, rule, p as u32, first) && held(r, 0, 0)
+}
+
+// Whether check gives rule 8, page 4 and its two holders, object page 0 and data page 0 of the file, with slot 0 of the file's index block set to 4.
+fn shares(img: &mut [u16]) -> bool {
+    put(img, 6, 1, 4);
+    let r = nord_check(img);
+    put(img, 6, 1, 5);
+    broken(r, 8, 4, 0) && held(r, 7, 10)
 }
 
 // Each rule. Page 1 is the user index, 2 the user page, 3 the object index, 4 the object page, 5 the file's page, 6 its index block, 8 the
@@ -37,44 +46,56 @@ fn one_page(img: &mut [u16]) {
 }
 
 fn heads(img: &mut [u16]) {
-    case(b"rule 1: a name with a gap", breaks(img, 0, 1008, 89, 1));
-    case(b"rule 1: bit page 16 of 16", breaks(img, 0, 1021, 16, 1));
-    case(b"rule 2: both flags", breaks(img, 0, 1018, 49152, 2));
-    case(b"rule 2: no object pointer", breaks(img, 0, 1016, 0, 2));
+    case(
+        b"rule 1: a name with a gap",
+        breaks(img, 0, 1008, 89, 1, 1008),
+    );
+    case(
+        b"rule 1: bit page 16 of 16",
+        breaks(img, 0, 1021, 16, 1, 1020),
+    );
+    case(b"rule 2: both flags", breaks(img, 0, 1018, 49152, 2, 1018));
+    case(
+        b"rule 2: no object pointer",
+        breaks(img, 0, 1016, 0, 2, 1016),
+    );
 }
 
 fn entries(img: &mut [u16]) {
     case(
         b"rule 3: slot 8 of the user index",
-        breaks(img, 1, 17, 9, 3),
+        breaks(img, 1, 17, 9, 3, 16),
     );
-    case(b"rule 4: not his own index", breaks(img, 2, 18, 1, 4));
-    case(b"rule 4: used above given", breaks(img, 2, 17, 9, 4));
-    case(b"rule 5: object page 16 of 16", breaks(img, 3, 1, 16, 5));
+    case(b"rule 4: not his own index", breaks(img, 2, 18, 1, 4, 18));
+    case(b"rule 4: used above given", breaks(img, 2, 17, 9, 4, 16));
+    case(b"rule 5: object page 16 of 16", breaks(img, 3, 1, 16, 5, 0));
 }
 
 fn files(img: &mut [u16]) {
-    case(b"rule 6: another entry number", breaks(img, 4, 17, 1, 6));
+    case(
+        b"rule 6: another entry number",
+        breaks(img, 4, 17, 1, 6, 17),
+    );
     case(
         b"rule 6: a type in small letters",
-        breaks(img, 4, 9, 25697, 6),
+        breaks(img, 4, 9, 25697, 6, 9),
     );
     case(
         b"rule 7: a slot past the last page",
-        breaks(img, 6, 3, 7, 7),
+        breaks(img, 6, 3, 7, 7, 2),
     );
-    case(b"rule 7: bytes of two pages", breaks(img, 4, 29, 4096, 7));
     case(
-        b"rule 8: the object page is a file's page",
-        breaks(img, 6, 1, 4, 8),
+        b"rule 7: bytes of two pages",
+        breaks(img, 4, 29, 4096, 7, 28),
     );
+    case(b"rule 8: the object page is a file's page", shares(img));
 }
 
 fn counts(img: &mut [u16]) {
-    case(b"rule 9: a free page's bit", breaks(img, 8, 0, 895, 9));
-    case(b"rule 9: a held page's bit", breaks(img, 8, 0, 375, 9));
-    case(b"rule 10: used count", breaks(img, 2, 17, 3, 10));
-    case(b"rule 10: unreserved", breaks(img, 0, 1023, 3, 10));
+    case(b"rule 9: a free page's bit", breaks(img, 8, 0, 895, 9, 0));
+    case(b"rule 9: a held page's bit", breaks(img, 8, 0, 375, 9, 0));
+    case(b"rule 10: used count", breaks(img, 2, 17, 3, 10, 16));
+    case(b"rule 10: unreserved", breaks(img, 0, 1023, 3, 10, 1022));
 }
 
 fn again(img: &[u16]) {

@@ -21,14 +21,38 @@ pub fn end() {
     io::write_all(STDOUT_FILENO, b"end\n");
 }
 
-// Whether a call was done, with this value.
-pub fn done(r: Reply, value: u32) -> bool {
-    r.number == 0 && r.rule == 0 && r.value == value
+// Whether these three are zeros.
+fn zeros(user: u32, file: u32, position: u32) -> bool {
+    user == 0 && file == 0 && position == 0
 }
 
-// Whether a call was refused with this number, and this rule where the number is 3.
-pub fn refused(r: Reply, number: u32, rule: u32) -> bool {
-    r.number == number && r.rule == rule && r.value == 0
+// Whether two holders of these kinds are told, each at position 0 of user 0 and file 0.
+pub fn held(r: Reply, first: u32, second: u32) -> bool {
+    if r.first.kind != first || r.second.kind != second {
+        return false;
+    }
+    zeros(r.first.user, r.first.file, r.first.position)
+        && zeros(r.second.user, r.second.file, r.second.position)
+}
+
+// Whether this rule and this place are told.
+fn told(r: Reply, rule: u32, page: u32, word: u32) -> bool {
+    r.rule == rule && r.place.page == page && r.place.word == word
+}
+
+// Whether a call was done, with this value.
+pub fn done(r: Reply, value: u32) -> bool {
+    r.number == 0 && r.value == value && told(r, 0, 0, 0) && held(r, 0, 0)
+}
+
+// Whether a call was refused with this number, which is not 3.
+pub fn refused(r: Reply, number: u32) -> bool {
+    r.number == number && r.value == 0 && told(r, 0, 0, 0) && held(r, 0, 0)
+}
+
+// Whether a call was refused with 3, this rule and this place.
+pub fn broken(r: Reply, rule: u32, page: u32, word: u32) -> bool {
+    r.number == 3 && r.value == 0 && told(r, rule, page, word)
 }
 
 // Where word k of page p lies.

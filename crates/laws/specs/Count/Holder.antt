@@ -149,7 +149,7 @@ join P v p two (suc (suc (suc e))) x h q =
 
 -- ---- the counts
 
-holders-zero : (P : ℕ) (v : Vol) → holders P v 0 ≡ 1
+pub holders-zero : (P : ℕ) (v : Vol) → holders P v 0 ≡ 1
 unfolding holders
 holders-zero P v = omega (
   arith,

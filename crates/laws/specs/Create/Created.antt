@@ -23,7 +23,7 @@ use Rattle.laws.specs.Create.NewFile.{new-file-unused, Entered, new-file
 use Rattle.laws.specs.Create.Vacant.{used-reached}
 use Rattle.laws.specs.Create.WriteFile.{write-change, write-master, write-entry, write-owner, write-used, write-beside, write-bits}
 use Rattle.laws.specs.Frame.Beside.{Beside}
-use Rattle.laws.specs.Frame.Edit.{Spot}
+use Rattle.laws.specs.Frame.Edit.{Seat}
 use Rattle.laws.specs.Frame.Places.{Places, Either, OnlyAt, only-then, only-wider}
 use Rattle.laws.specs.Frame.Roots.{used-page}
 use Rattle.laws.specs.Frame.Still.{places-unreserved}
@@ -107,14 +107,14 @@ module _ {choose : Vol → ℕ} {P : ℕ} {v : Vol} (stock : Stock choose P v) {
     isU : 0 < userPage x u
     isU = omega (arith, userPage-is, owner-page .1)
 
-    spot : Spot P x hand u f
-    spot = record { good = G; pos = stock .pos; ha = A .index; hf = A .entry }
+    seat : Seat P x hand u f
+    seat = record { good = G; pos = stock .pos; ha = A .index; hf = A .entry }
 
     module _ (v′ : Vol)
         (else : (p k : ℕ) → (p ≡ userPage x u → (k ≢ entryWord u + 16) × (k ≢ entryWord u + 17)) → v′ p k ≡ putEntry x (objectPage x e) e E p k)
         (more : two (v′ (userPage x u)) (entryWord u + 16) ≡ usedPages (user v) u + n) (F : Places) (only : OnlyAt F x v′) where
       sums : usedPages (user v′) u ≡ usedPages (user v) u + n
-      sums = write-used spot isO isU E v′ else ∙ more
+      sums = write-used seat isO isU E v′ else ∙ more
 
       was : usedPages (user x) u ≡ usedPages (user v) u
       was = ap (λ (U : Table). usedPages U u) same-users
@@ -131,24 +131,24 @@ module _ {choose : Vol → ℕ} {P : ℕ} {v : Vol} (stock : Stock choose P v) {
 
       whole : Entered P v′ e s n
       unfolding IsIn
-      whole = new-file spot (subst (λ (U : Table). 0 < used (U u)) (sym same-users) (A .owner))
+      whole = new-file seat (subst (λ (U : Table). 0 < used (U u)) (sym same-users) (A .owner))
           (ap (λ (O : Table). used (O e)) same-objs ∙ new-file-unused v u (A .entry)) name type created n s (A .named) (A .typed)
           (subst (λ (O : Table). (h : ℕ) → IsIn O h → ⊥) (sym same-objs) (A .fresh)) small form hands
-          (write-change spot isO isU E v′ else) (write-master spot isO isU E v′ else)
-          (write-entry spot isO isU E v′ else) (write-owner spot isO isU E v′ else)
+          (write-change seat isO isU E v′ else) (write-master seat isO isU E v′ else)
+          (write-entry seat isO isU E v′ else) (write-owner seat isO isU E v′ else)
           (omega (arith, sums, was)) (omega (arith, was, within, ap (λ (U : Table). given U u) same-users))
 
       beside : Beside P x v′ u e
-      beside = write-beside spot isO isU E v′ else
+      beside = write-beside seat isO isU E v′ else
 
       bit-same : (p : ℕ) → p < P → bit P v′ p ≡ bit P x p
-      bit-same = write-bits spot isO isU E v′ else
+      bit-same = write-bits seat isO isU E v′ else
 
       pub file-created : Created P v v′ u e E n s (fileNeed v e) F
       unfolding free
       file-created = record {
         sound = sound P v′ (λ p. 0) (whole .good) (λ p h. refl);
-        words = write-entry spot isO isU E v′ else;
+        words = write-entry seat isO isU E v′ else;
         root = whole .root;
         beside = record {
           owner = λ i h a b. beside .owner i h a b ∙ ap (λ (U : Table). U u i) same-users;

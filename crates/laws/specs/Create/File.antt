@@ -19,7 +19,7 @@ use Rattle.laws.specs.Bits.Taking.{NoWords, Taking, taking-none}
 use Rattle.laws.specs.Count.Good.{Good, good}
 use Rattle.laws.specs.Create.Created.{FileWanted, Created, file-place, owner-page, file-created}
 use Rattle.laws.specs.Create.WriteFile.{write-apart, write-beside, write-used, owner-now, owner-was}
-use Rattle.laws.specs.Frame.Edit.{Spot}
+use Rattle.laws.specs.Frame.Edit.{Seat}
 use Rattle.laws.specs.Frame.Fields.{entry-page}
 use Rattle.laws.specs.Frame.Places.{EntryOf, FieldOf, Either, OnlyAt, only-then, only-putWords, only-put2}
 use Rattle.laws.specs.Tree.Slot.{hit-sym, two-ext}
@@ -65,23 +65,23 @@ module _ {choose : Vol → ℕ} {P : ℕ} {v : Vol} (stock : Stock choose P v) {
   unfolding createIndexed
   else₀ p k h = refl
 
-  spot₀ : Spot P w (λ p. 0) u f
-  spot₀ = record { good = Gw; pos = stock .pos; ha = A .index; hf = A .entry }
+  seat₀ : Seat P w (λ p. 0) u f
+  seat₀ = record { good = Gw; pos = stock .pos; ha = A .index; hf = A .entry }
 
   -- its owner's entry stays as it is
   owner₀ : (k : ℕ) → user v₀ u k ≡ user w u k
   unfolding createIndexed
-  owner₀ k = owner-now spot₀ isO isU E₀ v₀ else₀ k
-      ∙ entry-page w (objectPage w e) e E₀ (userPage w u) (entryWord u + k) (write-apart spot₀ isO isU E₀ v₀ else₀)
-      ∙ sym (owner-was spot₀ isO isU E₀ v₀ else₀ k)
+  owner₀ k = owner-now seat₀ isO isU E₀ v₀ else₀ k
+      ∙ entry-page w (objectPage w e) e E₀ (userPage w u) (entryWord u + k) (write-apart seat₀ isO isU E₀ v₀ else₀)
+      ∙ sym (owner-was seat₀ isO isU E₀ v₀ else₀ k)
 
   more₀ : two (v₀ (userPage w u)) (entryWord u + 16) ≡ usedPages (user v) u + 0
   unfolding usedPages
-  more₀ = sym (write-used spot₀ isO isU E₀ v₀ else₀) ∙ omega (arith, two-ext (user v₀ u) (user w u) 16 (owner₀ 16) (owner₀ 17), same)
+  more₀ = sym (write-used seat₀ isO isU E₀ v₀ else₀) ∙ omega (arith, two-ext (user v₀ u) (user w u) 16 (owner₀ 16) (owner₀ 17), same)
 
   only₀ : OnlyAt (EntryOf (objectPage v₀ e) e) w v₀
   unfolding createIndexed
-  only₀ = subst (λ (q : ℕ). OnlyAt (EntryOf q e) w v₀) (sym (write-beside spot₀ isO isU E₀ v₀ else₀ .places .ofObject e)) (only-putWords w (objectPage w e) (entryWord e) 32 E₀)
+  only₀ = subst (λ (q : ℕ). OnlyAt (EntryOf q e) w v₀) (sym (write-beside seat₀ isO isU E₀ v₀ else₀ .places .ofObject e)) (only-putWords w (objectPage w e) (entryWord e) 32 E₀)
 
   pub indexed-created : Created P v v₀ u e E₀ 0 0 (fileNeed v e) (EntryOf (objectPage v₀ e) e)
   indexed-created = file-created stock A created 0 0 w (λ p. 0) Gw (taking-none P w) (omega arith) (inl (refl, refl))
@@ -156,13 +156,13 @@ module _ {choose : Vol → ℕ} {P : ℕ} {v : Vol} (stock : Stock choose P v) {
     unfolding createContiguous
     more = ap (λ (q : ℕ). two (v′ q) (entryWord u + 16)) U-is ∙ put2-two y (userPage w u) (entryWord u + 16) (usedPages (user w) u + n) ∙ ap (λ (z : ℕ). z + n) same
 
-    spot : Spot P x hand u f
-    spot = record { good = G; pos = stock .pos; ha = A .index; hf = A .entry }
+    seat : Seat P x hand u f
+    seat = record { good = G; pos = stock .pos; ha = A .index; hf = A .entry }
 
     only : OnlyAt (Either (EntryOf (objectPage v′ e) e) (FieldOf (userPage v u) u 16 2)) x v′
     unfolding createContiguous
     only = subst₂ (λ (q r : ℕ). OnlyAt (Either (EntryOf q e) (FieldOf r u 16 2)) x v′)
-        (sym (write-beside spot (omega (arith, isO, O-is)) (omega (arith, isU, U-is)) E v′ else .places .ofObject e ∙ O-is))
+        (sym (write-beside seat (omega (arith, isO, O-is)) (omega (arith, isU, U-is)) E v′ else .places .ofObject e ∙ O-is))
         (owner-page stock A .0)
         (only-then (EntryOf (objectPage w e) e) (FieldOf (userPage w u) u 16 2) x y v′ (only-putWords x (objectPage w e) (entryWord e) 32 E)
         (only-put2 y (userPage w u) (entryWord u + 16) (usedPages (user w) u + n)))

@@ -22,7 +22,7 @@ use Rattle.laws.specs.Count.Reach.{high-unused}
 use Rattle.laws.specs.Create.NewEntry.{new-used, file-name, file-type, file-whose, file-number, file-pages, file-bytes, file-flags, file-page}
 use Rattle.laws.specs.File.Named.{Legal-ext, SameName-ext}
 use Rattle.laws.specs.File.Packed.{packed-legal}
-use Rattle.laws.specs.Frame.Edit.{Change, entries, objs-words, edit-mine, edit-good, Spot}
+use Rattle.laws.specs.Frame.Edit.{Change, entries, objs-words, edit-mine, edit-good, Seat}
 use Rattle.laws.specs.Frame.Renewed.{FileNew, used-same}
 use Rattle.laws.specs.Tree.Pointer.{file-unused, root-0, file-used, used-ext, flags-ext, page-ext}
 use Rattle.laws.specs.Tree.Slot.{two-ext}
@@ -37,10 +37,10 @@ pub record Entered (P : ℕ) (v′ : Vol) (e s n : ℕ) : Type 0 where
   pub good : Good P v′ (λ p. 0)
   pub root : fileAt v′ e ≡ run s n
 
-module _ {P : ℕ} {x : Vol} {hand : ℕ → ℕ} {u f : ℕ} (spot : Spot P x hand u f) (uu : 0 < used (user x u)) (uf : used (object x (fileEntry u f)) ≡ 0)
+module _ {P : ℕ} {x : Vol} {hand : ℕ → ℕ} {u f : ℕ} (seat : Seat P x hand u f) (uu : 0 < used (user x u)) (uf : used (object x (fileEntry u f)) ≡ 0)
     (name type : List ℕ) (created n s : ℕ) (N : NameText name) (T : TypeText type) (fresh : (h : ℕ) → IsFile x u name type h → ⊥)
     (small : s < 1073741824) (form : Empty s n ⊎ Contiguous P s n) (hands : (p : ℕ) → p < P → hand p ≡ sum n (λ i. hit p (s + i)))
-    {v′ : Vol} (E : Change spot (λ x. 0) v′) (master : (k : ℕ) → v′ 0 k ≡ x 0 k)
+    {v′ : Vol} (E : Change seat (λ x. 0) v′) (master : (k : ℕ) → v′ 0 k ≡ x 0 k)
     (words : (k : ℕ) → k < 32 → object v′ (fileEntry u f) k ≡ objectEntry u (fileEntry u f) name type created n s k)
     (kept : (k : ℕ) → k < 32 → k ≢ 16 → k ≢ 17 → user v′ u k ≡ user x u k)
     (more : usedPages (user v′) u ≡ usedPages (user x) u + n) (within : usedPages (user x) u + n ≤ given (user x) u) where
@@ -100,7 +100,7 @@ module _ {P : ℕ} {x : Vol} {hand : ℕ → ℕ} {u f : ℕ} (spot : Spot P x h
       type = packed-legal 0 4 type T (object v′ e) 9 (λ i h. words (9 + i / 2) (omega arith) ∙ file-type u e name type created n s (i / 2) (omega arith));
     };
     alone = λ h i m a b q.
-        let old : (k : ℕ) → k < 32 → object v′ (fileEntry u h) k ≡ object x (fileEntry u h) k = objs-words spot E (fileEntry u h) (λ z. m (omega arith)) in
+        let old : (k : ℕ) → k < 32 → object v′ (fileEntry u h) k ≡ object x (fileEntry u h) k = objs-words seat E (fileEntry u h) (λ z. m (omega arith)) in
         fresh h (
           i,
           omega (arith, a, used-ext (object v′ (fileEntry u h)) (object x (fileEntry u h)) (old 0 (omega arith))),
@@ -121,11 +121,11 @@ module _ {P : ℕ} {x : Vol} {hand : ℕ → ℕ} {u f : ℕ} (spot : Spot P x h
 
   ok : UserOk (user x) u
   unfolding Rule4
-  ok = spot .good .most .r4 .0 u (spot .ha) uu
+  ok = seat .good .most .r4 .0 u (seat .ha) uu
 
   new-good : Good P v′ (λ p. 0)
   unfolding Rule4 Rule10 grant
-  new-good = edit-good spot E (λ g. 0) (λ g. sum n (λ i. g (s + i))) (λ p. 0) record {
+  new-good = edit-good seat E (λ g. 0) (λ g. sum n (λ i. g (s + i))) (λ p. 0) record {
     weight = λ g g0. omega (arith, weight g, none g);
     hands = λ p h. omega (arith, hands p h);
     userNew = record {
@@ -134,15 +134,15 @@ module _ {P : ℕ} {x : Vol} {hand : ℕ → ℕ} {u f : ℕ} (spot : Spot P x h
         name = Legal-ext (user v′ u) (user x u) 1 1 16 (λ i j. kept (1 + i / 2) (omega arith) (omega arith) (omega arith)) (ok .name);
         within = omega (arith, more, given-kept, within);
       };
-      alone = λ y h m i j q. m (spot .good .most .r4 .1 y u h (spot .ha) (omega (arith, used-same P x v′ u f (spot .ha) (spot .hf) (entries spot E) y h m)) uu
-          (SameName-ext (user x y) (user x u) (user v′ y) (user v′ u) (λ k l. entries spot E .users y h m (1 + k) (omega arith))
+      alone = λ y h m i j q. m (seat .good .most .r4 .1 y u h (seat .ha) (omega (arith, used-same P x v′ u f (seat .ha) (seat .hf) (entries seat E) y h m)) uu
+          (SameName-ext (user x y) (user x u) (user v′ y) (user v′ u) (λ k l. entries seat E .users y h m (1 + k) (omega arith))
           (λ k l. kept (1 + k) (omega arith) (omega arith) (omega arith)) q));
     };
     fileNew = file-new;
     owner = λ h i q. omega (arith, user-used, uu);
-    high = λ q i. user-used ∙ high-unused P x (spot .good .most .r5) q u i (spot .ha);
+    high = λ q i. user-used ∙ high-unused P x (seat .good .most .r5) q u i (seat .ha);
     balance = omega (arith, two-ext (v′ 0) (x 0) unreservedCount (master unreservedCount) (master (suc unreservedCount)), ap₂ (λ (y z : ℕ). pick y z 0) user-used given-kept);
-    count = λ h. omega (arith, more, none some, ap (λ (r : Root). weighR v′ r some) new-root, count, spot .good .most .r10 .0 u (spot .ha) uu, edit-mine spot E some);
+    count = λ h. omega (arith, more, none some, ap (λ (r : Root). weighR v′ r some) new-root, count, seat .good .most .r10 .0 u (seat .ha) uu, edit-mine seat E some);
   }
 
   pub new-file : Entered P v′ e s n

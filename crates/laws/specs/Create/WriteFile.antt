@@ -11,7 +11,7 @@ use Rattle.book.specs.Trees.{pageAt}
 use Rattle.book.specs.Words.{Vol, Words, two, word}
 use Rattle.book.specs.Written.{word-pos, word-ext}
 use Rattle.laws.specs.Frame.Beside.{Beside, edit-beside}
-use Rattle.laws.specs.Frame.Edit.{Change, user-page, user-at, obj-at, bits-same, Spot}
+use Rattle.laws.specs.Frame.Edit.{Change, user-page, user-at, obj-at, bits-same, Seat}
 use Rattle.laws.specs.Frame.Fields.{Outside, entry-page, entry-outside, entry-here}
 use Rattle.laws.specs.Frame.Roots.{weighR-nobody, pageAt-le}
 use Rattle.laws.specs.Shrink.Shrunk.{all-zero}
@@ -22,7 +22,7 @@ two-at : (a b : Words) (j k : ℕ) → a j ≡ b k → a (suc j) ≡ b (suc k) �
 unfolding two
 two-at a b j k p q = ap₂ (λ (m n : ℕ). m * 65536 + n) p q
 
-module _ {P : ℕ} {x : Vol} {hand : ℕ → ℕ} {u f : ℕ} (spot : Spot P x hand u f) (isO : 0 < objectPage x (fileEntry u f)) (isU : 0 < userPage x u)
+module _ {P : ℕ} {x : Vol} {hand : ℕ → ℕ} {u f : ℕ} (seat : Seat P x hand u f) (isO : 0 < objectPage x (fileEntry u f)) (isU : 0 < userPage x u)
     (E : Words) (v′ : Vol)
     (else : (p k : ℕ) → (p ≡ userPage x u → (k ≢ entryWord u + 16) × (k ≢ entryWord u + 17)) → v′ p k ≡ putEntry x (objectPage x (fileEntry u f)) (fileEntry u f) E p k) where
   abbrev e : ℕ
@@ -41,7 +41,7 @@ module _ {P : ℕ} {x : Vol} {hand : ℕ → ℕ} {u f : ℕ} (spot : Spot P x h
   unfolding userPage objectPage
   write-apart q =
       let U : ℕ = pageAt x (userFile x) (u / 32) in
-      omega (arith, pageAt-le x (hit U) (hit-zero U) (objectFile x) (e / 32), user-page P x hand (spot .good) (spot .pos) (u / 32) .1, subst (λ (z : ℕ). hit U z ≡ 1) q (hit-same U isU))
+      omega (arith, pageAt-le x (hit U) (hit-zero U) (objectFile x) (e / 32), user-page P x hand (seat .good) (seat .pos) (u / 32) .1, subst (λ (z : ℕ). hit U z ≡ 1) q (hit-same U isU))
 
   away : (p k : ℕ) → p ≢ U → p ≢ O → v′ p k ≡ x p k
   away p k a b = else p k (λ q. absurd (a q)) ∙ entry-page x O e E p k b
@@ -55,7 +55,7 @@ module _ {P : ℕ} {x : Vol} {hand : ℕ → ℕ} {u f : ℕ} (spot : Spot P x h
   inU : (k : ℕ) → k ≢ entryWord u + 16 → k ≢ entryWord u + 17 → word v′ U k ≡ word x U k
   inU k a b = word-ext x v′ U k (λ h. else U k (λ q. (a, b)) ∙ entry-page x O e E U k write-apart)
 
-  pub write-change : Change spot (λ x. 0) v′
+  pub write-change : Change seat (λ x. 0) v′
   unfolding Agree userPage objectPage Outside
   write-change = record {
     none = refl;
@@ -73,17 +73,17 @@ module _ {P : ℕ} {x : Vol} {hand : ℕ → ℕ} {u f : ℕ} (spot : Spot P x h
   -- the file's entry
   pub write-entry : (k : ℕ) → k < 32 → object v′ e k ≡ E k
   unfolding objectPage
-  write-entry k h = obj-at spot write-change k ∙ inO (entryWord e + k) ∙ entry-here x O e E isO k h
+  write-entry k h = obj-at seat write-change k ∙ inO (entryWord e + k) ∙ entry-here x O e E isO k h
 
   -- the owner's
   pub write-owner : (k : ℕ) → k < 32 → k ≢ 16 → k ≢ 17 → user v′ u k ≡ user x u k
   unfolding userPage user entry
-  write-owner k h a b = user-at spot write-change k ∙ inU (entryWord u + k) (omega arith) (omega arith)
+  write-owner k h a b = user-at seat write-change k ∙ inU (entryWord u + k) (omega arith) (omega arith)
 
   -- where its words are, after and before
   pub owner-now : (k : ℕ) → user v′ u k ≡ v′ U (entryWord u + k)
   unfolding userPage
-  owner-now k = user-at spot write-change k ∙ word-pos v′ U (entryWord u + k) isU
+  owner-now k = user-at seat write-change k ∙ word-pos v′ U (entryWord u + k) isU
 
   pub owner-was : (k : ℕ) → user x u k ≡ x U (entryWord u + k)
   unfolding userPage user entry
@@ -95,7 +95,7 @@ module _ {P : ℕ} {x : Vol} {hand : ℕ → ℕ} {u f : ℕ} (spot : Spot P x h
 
   -- all beside the file and its owner's used count stays
   pub write-beside : Beside P x v′ u e
-  write-beside = edit-beside spot write-change write-master write-owner
+  write-beside = edit-beside seat write-change write-master write-owner
 
   pub write-bits : (p : ℕ) → p < P → bit P v′ p ≡ bit P x p
-  write-bits p h = bits-same spot write-change p h
+  write-bits p h = bits-same seat write-change p h

@@ -62,7 +62,7 @@ module _ (P : ℕ) (v : Vol) (S : Sound P v) (pos : 0 < P) (big : P ≤ 10737418
   G = good P v S
 
   here : Owned P v (λ p. 0) a f
-  here = record { spot = record { good = G; pos = pos; ha = ha; hf = hf }; big = big; uf = uf }
+  here = record { seat = record { good = G; pos = pos; ha = ha; hf = hf }; big = big; uf = uf }
 
   pO : 0 < O
   pO = isO here
@@ -95,7 +95,7 @@ module _ (P : ℕ) (v : Vol) (S : Sound P v) (pos : 0 < P) (big : P ≤ 10737418
     onU : (k : ℕ) → k ≢ at → k ≢ suc at → word w U k ≡ word v U k
     onU k i j = word-ext v w U k (λ p. put2-word v₁ U at y U k i j ∙ putWords-page v O (32 * (e % 32)) 32 zeros U k apart)
 
-    change : Change (here .spot) (λ x. 0) w
+    change : Change (here .seat) (λ x. 0) w
     unfolding Agree Outside
     change = record {
       none = refl;
@@ -117,12 +117,12 @@ module _ (P : ℕ) (v : Vol) (S : Sound P v) (pos : 0 < P) (big : P ≤ 10737418
     master k = else 0 k (λ i. omega (arith, i, pO)) (λ i. omega (arith, i, pU))
 
     clear : (k : ℕ) → k < 32 → object w e k ≡ 0
-    clear k h = obj-at (here .spot) change k ∙ word-pos w O (32 * (e % 32) + k) pO
+    clear k h = obj-at (here .seat) change k ∙ word-pos w O (32 * (e % 32) + k) pO
         ∙ put2-page v₁ U at y O (32 * (e % 32) + k) (λ i. apart (sym i)) ∙ putWords-here v O (32 * (e % 32)) 32 zeros (32 * (e % 32) + k) (omega arith) (omega arith)
 
     kept : (k : ℕ) → k < 32 → k ≢ 16 → k ≢ 17 → user w a k ≡ user v a k
     unfolding user entry
-    kept k h i j = user-at (here .spot) change k ∙ onU (32 * (a % 32) + k) (omega arith) (omega arith)
+    kept k h i j = user-at (here .seat) change k ∙ onU (32 * (a % 32) + k) (omega arith) (omega arith)
 
     now : usedPages (user w) a ≡ y
     unfolding usedPages two
@@ -132,7 +132,7 @@ module _ (P : ℕ) (v : Vol) (S : Sound P v) (pos : 0 < P) (big : P ≤ 10737418
         omega arith
       where
         there : (k : ℕ) → user w a k ≡ w U (32 * (a % 32) + k)
-        there k = user-at (here .spot) change k ∙ word-pos w U (32 * (a % 32) + k) pU
+        there k = user-at (here .seat) change k ∙ word-pos w U (32 * (a % 32) + k) pU
 
   -- what the file held was counted
   counted : weighR v (fileAt v e) some ≤ usedPages (user v) a
@@ -147,7 +147,7 @@ module _ (P : ℕ) (v : Vol) (S : Sound P v) (pos : 0 < P) (big : P ≤ 10737418
 
   -- all that the file held is in hand
   good₁ : Good P (w left) (λ p. 0 + held p)
-  good₁ = delete-good (here .spot) uf (change left) (used-zero (object (w left) e) (clear left 0 (omega arith))) (kept left) (master left) (omega (arith, now left, counted))
+  good₁ = delete-good (here .seat) uf (change left) (used-zero (object (w left) e) (clear left 0 (omega arith))) (kept left) (master left) (omega (arith, now left, counted))
 
   abbrev f₁ : ℕ → ℕ
   f₁ p = bit P (w left) p - held p
@@ -156,7 +156,7 @@ module _ (P : ℕ) (v : Vol) (S : Sound P v) (pos : 0 < P) (big : P ≤ 10737418
   marked₁ = marked P (w left) (alone P (w left) (λ p. 0 + held p) good₁) f₁ (λ p. omega (arith, bit-le P (w left) p)) (good₁ .most) P (omega arith)
 
   beside₁ : Beside P v (w left) a e
-  beside₁ = edit-beside (here .spot) (change left) (master left) (kept left)
+  beside₁ = edit-beside (here .seat) (change left) (master left) (kept left)
 
   -- a bit that changes is that of a page of the file
   gone : (p : ℕ) → f₁ p ≢ bit P (w left) p → 0 < held p

@@ -37,17 +37,17 @@ yard-text = (omega arith, omega arith, go)
     go (suc (suc (suc zero))) h = inl (omega arith, omega arith)
     go (suc (suc (suc (suc i)))) h = absurd (let r : ⊥ = omega arith in r)
 
--- the words that rule 1 reads
-pub record Head (v : Vol) : Type 0 where
+-- the words that rule 1 reads, with bit page b
+pub record Head (v : Vol) (b : ℕ) : Type 0 where
   pub first : v 0 volumeName ≡ 22849
   pub second : v 0 1009 ≡ 21060
   pub tail : (k : ℕ) → 1010 ≤ k → k < objectPointer → v 0 k ≡ 0
   pub high : v 0 bitPointer ≡ 0
-  pub low : v 0 (suc bitPointer) ≡ 8
+  pub low : v 0 (suc bitPointer) ≡ b
 
-pub head-rule : (v : Vol) → Head v → Rule1 16 v
+pub head-rule : {P b : ℕ} (v : Vol) → Head v b → 0 < b → b < P → P ≤ 16384 → Rule1 P v
 unfolding flags page bitPages packed yardName
-head-rule v H = record {
+head-rule v H pos below most = record {
   name = packed-legal 1 16 yardName yard-text (v 0) volumeName (λ i h. words (i / 2) (omega arith));
   unflagged = omega (arith, H .high);
   start = omega (arith, H .high, H .low);
@@ -134,13 +134,13 @@ breaks1 = inl (refl, λ r. nameless (volume [] 0) volumeName refl (r .name))
 
 -- ---- rule 2
 
-head2 : Head (volume broken2)
+pub head2 : Head (volume broken2) 8
 unfolding volume Off put pick is
 head2 = record { first = refl; second = refl; tail = λ k a b. volume-off broken2 0 k (omega arith); high = refl; low = refl }
 
 pub breaks2 : Lowest (rules 16 (volume broken2)) 2
 unfolding rules Lowest Rule2 Zero Inside flags volume put pick is
-breaks2 = inr (head-rule (volume broken2) head2, inl (refl, no))
+breaks2 = inr (head-rule (volume broken2) head2 (omega arith) (omega arith) (omega arith), inl (refl, no))
   where
     v : Vol
     v = volume broken2
@@ -151,15 +151,15 @@ breaks2 = inr (head-rule (volume broken2) head2, inl (refl, no))
 
 -- ---- rules 3 to 8: a user index in page 1, an object index in page 1 or 2
 
--- what the master page of such a volume says
-pub record Master (v : Vol) (o : ℕ) : Type 0 where
-  pub head : Head v
+-- what the master page of such a volume says: the bit page is b, the object index is page o
+pub record Master (v : Vol) (b o : ℕ) : Type 0 where
+  pub head : Head v b
   pub ufl : v 0 userPointer ≡ flagsAbove
   pub upg : v 0 (suc userPointer) ≡ 1
   pub ofl : v 0 objectPointer ≡ flagsAbove
   pub opg : v 0 (suc objectPointer) ≡ o
 
-module _ (v : Vol) (o : ℕ) (M : Master v o) where
+module _ (v : Vol) {b o : ℕ} (M : Master v b o) where
   pub user-root : userFile v ≡ tree 1 1
   unfolding userFile flags page
   user-root = root-1 (v 0) userPointer 0 (omega (arith, M .ufl)) ∙ ap (tree 1) (omega (arith, M .ufl, M .upg))
@@ -168,9 +168,9 @@ module _ (v : Vol) (o : ℕ) (M : Master v o) where
   unfolding objectFile flags page
   object-root = root-1 (v 0) objectPointer 0 (omega (arith, M .ofl)) ∙ ap (tree 1) (omega (arith, M .ofl, M .opg))
 
-  pub rule-2 : 0 < o → o < 16 → Rule2 16 v
+  pub rule-2 : {P : ℕ} → 0 < o → o < P → 1 < P → Rule2 P v
   unfolding Rule2 Inside flags page
-  rule-2 a b = inr (
+  rule-2 a l m = inr (
     (omega (arith, M .ufl), omega (arith, M .ufl, M .upg), omega (arith, M .ufl, M .upg)),
     inl (omega (arith, M .ofl), omega (arith, M .ofl, M .opg), omega (arith, M .ofl, M .opg)),
   )
@@ -183,16 +183,16 @@ module _ (v : Vol) (o : ℕ) (M : Master v o) where
   unfolding page
   object-page = omega (arith, M .ofl, M .opg)
 
-  object-flags : flags (v 0) objectPointer ≡ 1
+  pub object-flags : flags (v 0) objectPointer ≡ 1
   unfolding flags
   object-flags = omega (arith, M .ofl)
 
   -- at most the first slot of the user index is in use
-  pub rule-3 : slot v 1 0 < 16 → ((n : ℕ) → 0 < n → slot v 1 n ≡ 0) → Rule3 16 v
+  pub rule-3 : {P : ℕ} → slot v 1 0 < P → ((n : ℕ) → 0 < n → slot v 1 n ≡ 0) → Rule3 P v
   unfolding Rule3
-  rule-3 a z n h = subst (λ (t : ℕ). (slot v t n < 16) × (8 ≤ n → slot v t n ≡ 0)) (sym user-page) (below n, λ l. z n (omega arith))
+  rule-3 {P} a z n h = subst (λ (t : ℕ). (slot v t n < P) × (8 ≤ n → slot v t n ≡ 0)) (sym user-page) (below n, λ l. z n (omega arith))
     where
-      below : (n : ℕ) → slot v 1 n < 16
+      below : (n : ℕ) → slot v 1 n < P
       below zero = a
       below (suc n) = omega (arith, z (suc n) (omega arith))
 
@@ -206,12 +206,12 @@ module _ (v : Vol) (o : ℕ) (M : Master v o) where
   no-objects z e = ap (λ (x : ℕ). x / 32768) (ap (λ (r : Root). entry v r e 0) object-root ∙ entry-bare v o (λ n h. z n) e 0)
 
   -- the object index has at most its first slot in use, and no user above 63 is used
-  pub rule-5 : o < 16 → slot v o 0 < 16 → ((n : ℕ) → 0 < n → slot v o n ≡ 0) → ((u : ℕ) → 63 < u → used (user v u) ≡ 0) → Rule5 16 v
+  pub rule-5 : {P : ℕ} → o < P → slot v o 0 < P → ((n : ℕ) → 0 < n → slot v o n ≡ 0) → ((u : ℕ) → 63 < u → used (user v u) ≡ 0) → Rule5 P v
   unfolding Rule5 Rule5By Below
-  rule-5 l a z nu = subst (λ (x : ℕ). Rule5By 16 v x (page (v 0) objectPointer)) (sym object-flags)
-      (subst (λ (t : ℕ). Rule5By 16 v 1 t) (sym object-page) ((l, λ k h. below k), λ u h i. nu u h))
+  rule-5 {P} l a z nu = subst (λ (x : ℕ). Rule5By P v x (page (v 0) objectPointer)) (sym object-flags)
+      (subst (λ (t : ℕ). Rule5By P v 1 t) (sym object-page) ((l, λ k h. below k), λ u h i. nu u h))
     where
-      below : (n : ℕ) → slot v o n < 16
+      below : (n : ℕ) → slot v o n < P
       below zero = a
       below (suc n) = omega (arith, z (suc n) (omega arith))
 
@@ -226,59 +226,59 @@ unfolding slot two word
 bare l zero n h a c = absurd (not-suc-le-zero h)
 bare l (suc b) n h a c = omega (arith, volume-off l (suc b) (2 * n) a, volume-off l (suc b) (suc (2 * n)) c)
 
-master3 : Master (volume broken3) 2
+pub master3 : Master (volume broken3) 8 2
 unfolding volume Off put pick is
 master3 = record { head = record { first = refl; second = refl; tail = λ k a b. volume-off broken3 0 k (omega arith); high = refl; low = refl }; ufl = refl; upg = refl; ofl = refl; opg = refl }
 
 pub breaks3 : Lowest (rules 16 (volume broken3)) 3
 unfolding rules Lowest Rule3 slot two word volume put pick is
-breaks3 = inr (head-rule v (master3 .head), inr (rule-2 v 2 master3 (omega arith) (omega arith), inl (refl, no)))
+breaks3 = inr (head-rule v (master3 .head) (omega arith) (omega arith) (omega arith), inr (rule-2 v master3 (omega arith) (omega arith) (omega arith), inl (refl, no)))
   where
     v : Vol
     v = volume broken3
 
     no : Rule3 16 (volume broken3) → ⊥
-    no r = let z : slot (volume broken3) 1 8 ≡ 0 = subst (λ (t : ℕ). slot (volume broken3) t 8 ≡ 0) (user-page (volume broken3) 2 master3) (r 8 (omega arith) .1 (omega arith)) in
+    no r = let z : slot (volume broken3) 1 8 ≡ 0 = subst (λ (t : ℕ). slot (volume broken3) t 8 ≡ 0) (user-page (volume broken3) master3) (r 8 (omega arith) .1 (omega arith)) in
         let q : ⊥ = omega (arith, z) in q
 
-master4 : Master (volume broken4) 2
+pub master4 : Master (volume broken4) 8 2
 unfolding volume Off put pick is
 master4 = record { head = record { first = refl; second = refl; tail = λ k a b. volume-off broken4 0 k (omega arith); high = refl; low = refl }; ufl = refl; upg = refl; ofl = refl; opg = refl }
 
--- user 0's entry is in page 3
-pub user-first : (l : List Cell) (o : ℕ) → Master (volume l) o → slot (volume l) 1 0 ≡ 3 → (u k : ℕ) → u < 32 → user (volume l) u k ≡ volume l 3 (32 * u + k)
+-- user 0's entry is in the page of the first slot
+pub user-first : (l : List Cell) {b o : ℕ} → Master (volume l) b o → {q : ℕ} → slot (volume l) 1 0 ≡ suc q → (u k : ℕ) → u < 32 → user (volume l) u k ≡ volume l (suc q) (32 * u + k)
 unfolding user word
-user-first l o M e u k h = ap (λ (r : Root). entry (volume l) r u k) (user-root (volume l) o M) ∙ entry-first (volume l) 1 u k h ∙ ap (λ (q : ℕ). word (volume l) q (32 * u + k)) e
+user-first l M e u k h = ap (λ (r : Root). entry (volume l) r u k) (user-root (volume l) M) ∙ entry-first (volume l) 1 u k h ∙ ap (λ (q : ℕ). word (volume l) q (32 * u + k)) e
 
 pub breaks4 : Lowest (rules 16 (volume broken4)) 4
 unfolding rules Lowest Rule4 slot two word volume put pick is Off used
 breaks4 = inr (
-  head-rule (volume broken4) (master4 .head),
+  head-rule (volume broken4) (master4 .head) (omega arith) (omega arith) (omega arith),
   inr (
-    rule-2 (volume broken4) 2 master4 (omega arith) (omega arith),
-    inr (rule-3 (volume broken4) 2 master4 (omega arith) (λ n h. bare broken4 1 n (omega arith) (omega arith) (omega arith)), inl (refl, no)),
+    rule-2 (volume broken4) master4 (omega arith) (omega arith) (omega arith),
+    inr (rule-3 (volume broken4) master4 (omega arith) (λ n h. bare broken4 1 n (omega arith) (omega arith) (omega arith)), inl (refl, no)),
   ),
 )
   where
     at : (k : ℕ) → user (volume broken4) 0 k ≡ volume broken4 3 (32 * 0 + k)
-    at k = user-first broken4 2 master4 refl 0 k (omega arith)
+    at k = user-first broken4 master4 refl 0 k (omega arith)
 
     no : Rule4 (user (volume broken4)) → ⊥
     no r = nameless (user (volume broken4) 0) 1 (at 1) (r .0 0 (omega arith) (omega (arith, at 0)) .name)
 
-master5 : Master (volume broken5) 2
+pub master5 : Master (volume broken5) 8 2
 unfolding volume Off put pick is
 master5 = record { head = record { first = refl; second = refl; tail = λ k a b. volume-off broken5 0 k (omega arith); high = refl; low = refl }; ufl = refl; upg = refl; ofl = refl; opg = refl }
 
 pub breaks5 : Lowest (rules 16 (volume broken5)) 5
 unfolding rules Lowest slot two word volume put pick is Off
 breaks5 = inr (
-  head-rule (volume broken5) (master5 .head),
+  head-rule (volume broken5) (master5 .head) (omega arith) (omega arith) (omega arith),
   inr (
-    rule-2 (volume broken5) 2 master5 (omega arith) (omega arith),
+    rule-2 (volume broken5) master5 (omega arith) (omega arith) (omega arith),
     inr (
-      rule-3 (volume broken5) 2 master5 (omega arith) (λ n h. empty n),
-      inr (rule4-none (volume broken5) (no-users (volume broken5) 2 master5 empty), inl (refl, λ r. let q : ⊥ = omega (arith, rule-5-slot (volume broken5) 2 master5 r) in q)),
+      rule-3 (volume broken5) master5 (omega arith) (λ n h. empty n),
+      inr (rule4-none (volume broken5) (no-users (volume broken5) master5 empty), inl (refl, λ r. let q : ⊥ = omega (arith, rule-5-slot (volume broken5) master5 r) in q)),
     ),
   ),
 )
@@ -286,26 +286,26 @@ breaks5 = inr (
     empty : (n : ℕ) → slot (volume broken5) 1 n ≡ 0
     empty n = bare broken5 1 n (omega arith) (omega arith) (omega arith)
 
-master6 : Master (volume broken6) 2
+pub master6 : Master (volume broken6) 8 2
 unfolding volume Off put pick is
 master6 = record { head = record { first = refl; second = refl; tail = λ k a b. volume-off broken6 0 k (omega arith); high = refl; low = refl }; ufl = refl; upg = refl; ofl = refl; opg = refl }
 
 -- object 0's entry is in page 4
-pub object-first : (l : List Cell) → Master (volume l) 2 → slot (volume l) 2 0 ≡ 4 → (e k : ℕ) → e < 32 → object (volume l) e k ≡ volume l 4 (32 * e + k)
+pub object-first : (l : List Cell) {b : ℕ} → Master (volume l) b 2 → slot (volume l) 2 0 ≡ 4 → (e k : ℕ) → e < 32 → object (volume l) e k ≡ volume l 4 (32 * e + k)
 unfolding object word
-object-first l M q e k h = ap (λ (r : Root). entry (volume l) r e k) (object-root (volume l) 2 M) ∙ entry-first (volume l) 2 e k h ∙ ap (λ (p : ℕ). word (volume l) p (32 * e + k)) q
+object-first l M q e k h = ap (λ (r : Root). entry (volume l) r e k) (object-root (volume l) M) ∙ entry-first (volume l) 2 e k h ∙ ap (λ (p : ℕ). word (volume l) p (32 * e + k)) q
 
 pub breaks6 : Lowest (rules 16 (volume broken6)) 6
 unfolding rules Lowest Rule6 slot two word volume put pick is Off used
 breaks6 = inr (
-  head-rule (volume broken6) (master6 .head),
+  head-rule (volume broken6) (master6 .head) (omega arith) (omega arith) (omega arith),
   inr (
-    rule-2 (volume broken6) 2 master6 (omega arith) (omega arith),
+    rule-2 (volume broken6) master6 (omega arith) (omega arith) (omega arith),
     inr (
-      rule-3 (volume broken6) 2 master6 (omega arith) (λ n h. empty n),
+      rule-3 (volume broken6) master6 (omega arith) (λ n h. empty n),
       inr (
         rule4-none (volume broken6) nobody,
-        inr (rule-5 (volume broken6) 2 master6 (omega arith) (omega arith) (λ n h. bare broken6 2 n (omega arith) (omega arith) (omega arith)) (λ u h. nobody u), inl (refl, no)),
+        inr (rule-5 (volume broken6) master6 (omega arith) (omega arith) (λ n h. bare broken6 2 n (omega arith) (omega arith) (omega arith)) (λ u h. nobody u), inl (refl, no)),
       ),
     ),
   ),
@@ -315,7 +315,7 @@ breaks6 = inr (
     empty n = bare broken6 1 n (omega arith) (omega arith) (omega arith)
 
     nobody : (u : ℕ) → used (user (volume broken6) u) ≡ 0
-    nobody = no-users (volume broken6) 2 master6 empty
+    nobody = no-users (volume broken6) master6 empty
 
     no : Rule6 (user (volume broken6)) (object (volume broken6)) → ⊥
     no r = let o : 0 < used (user (volume broken6) 0) = r .0 0 0 (omega arith) (omega arith) (omega (arith, object-first broken6 master6 refl 0 0 (omega arith))) .owner in

@@ -32,7 +32,7 @@ aName : List ℕ
 aName = 65 ∷ []
 
 -- the name A, and no type
-a-legal : (w : Words) → w 1 ≡ 16640 → ((k : ℕ) → 1 < k → k < 12 → w k ≡ 0) → Legal 1 16 w 1 × Legal 0 4 w 9
+pub a-legal : (w : Words) → w 1 ≡ 16640 → ((k : ℕ) → 1 < k → k < 12 → w k ≡ 0) → Legal 1 16 w 1 × Legal 0 4 w 9
 unfolding Text Letter packed aName
 a-legal w e z = (packed-legal 1 16 aName text w 1 (λ i h. words (i / 2) (omega arith)), packed-legal 0 4 [] none w 9 (λ i h. z (9 + i / 2) (omega arith) (omega arith)))
   where
@@ -54,42 +54,42 @@ a-legal w e z = (packed-legal 1 16 aName text w 1 (λ i h. words (i / 2) (omega 
     words (suc zero) h = z 2 (omega arith) (omega arith)
     words (suc (suc j)) h = z (1 + suc (suc j)) (omega arith) (omega arith) ∙ sym (omega (arith, past (2 * suc (suc j)) (omega arith), past (2 * suc (suc j) + 1) (omega arith)))
 
-master7 : Master (volume broken7) 2
+pub master7 : Master (volume broken7) 8 2
 unfolding volume Off put pick is
 master7 = record { head = record { first = refl; second = refl; tail = λ k a b. volume-off broken7 0 k (omega arith); high = refl; low = refl }; ufl = refl; upg = refl; ofl = refl; opg = refl }
 
-user7 : (u : ℕ) → 0 < used (user (volume broken7) u) → u ≡ 0
+pub user7 : (u : ℕ) → 0 < used (user (volume broken7) u) → u ≡ 0
 unfolding used Off volume slot two word put pick is user
 user7 u h = elim (decLt u 32) [
   | yes l ↦ elim (ℕ-discrete u 0) [
     | yes e ↦ e
-    | no n ↦ absurd (let r : ⊥ = omega (arith, h, user-first broken7 2 master7 refl u 0 l, volume-off broken7 3 (32 * u + 0) (omega arith)) in r)
+    | no n ↦ absurd (let r : ⊥ = omega (arith, h, user-first broken7 master7 refl u 0 l, volume-off broken7 3 (32 * u + 0) (omega arith)) in r)
   ]
-  | no l ↦ absurd (let r : ⊥ = omega (arith, h, ap (λ (r : Root). entry (volume broken7) r u 0) (user-root (volume broken7) 2 master7) ∙ entry-past (volume broken7) 1 (λ n a b. bare broken7 1 n (omega arith) (omega arith) (omega arith)) u 0 (omega arith)) in r)
+  | no l ↦ absurd (let r : ⊥ = omega (arith, h, ap (λ (r : Root). entry (volume broken7) r u 0) (user-root (volume broken7) master7) ∙ entry-past (volume broken7) 1 (λ n a b. bare broken7 1 n (omega arith) (omega arith) (omega arith)) u 0 (omega arith)) in r)
 ]
 
-object7 : (e : ℕ) → 0 < used (object (volume broken7) e) → e ≡ 0
+pub object7 : (e : ℕ) → 0 < used (object (volume broken7) e) → e ≡ 0
 unfolding used Off volume slot two word put pick is object
 object7 u h = elim (decLt u 32) [
   | yes l ↦ elim (ℕ-discrete u 0) [
     | yes e ↦ e
     | no n ↦ absurd (let r : ⊥ = omega (arith, h, object-first broken7 master7 refl u 0 l, volume-off broken7 4 (32 * u + 0) (omega arith)) in r)
   ]
-  | no l ↦ absurd (let r : ⊥ = omega (arith, h, ap (λ (r : Root). entry (volume broken7) r u 0) (object-root (volume broken7) 2 master7) ∙ entry-past (volume broken7) 2 (λ n a b. bare broken7 2 n (omega arith) (omega arith) (omega arith)) u 0 (omega arith)) in r)
+  | no l ↦ absurd (let r : ⊥ = omega (arith, h, ap (λ (r : Root). entry (volume broken7) r u 0) (object-root (volume broken7) master7) ∙ entry-past (volume broken7) 2 (λ n a b. bare broken7 2 n (omega arith) (omega arith) (omega arith)) u 0 (omega arith)) in r)
 ]
 
 pub breaks7 : Lowest (rules 16 (volume broken7)) 7
 unfolding rules Lowest Rule4 Rule6 Rule7 FileShape slot two word volume put pick is Off used given usedPages
 breaks7 = inr (
-  head-rule v (master7 .head),
+  head-rule v (master7 .head) (omega arith) (omega arith) (omega arith),
   inr (
-    rule-2 v 2 master7 (omega arith) (omega arith),
+    rule-2 v master7 (omega arith) (omega arith) (omega arith),
     inr (
-      rule-3 v 2 master7 (omega arith) (λ n h. bare broken7 1 n (omega arith) (omega arith) (omega arith)),
+      rule-3 v master7 (omega arith) (λ n h. bare broken7 1 n (omega arith) (omega arith) (omega arith)),
       inr (
         (ok, λ a b ha hb x y s. user7 a x ∙ sym (user7 b y)),
         inr (
-          rule-5 v 2 master7 (omega arith) (omega arith) (λ n h. bare broken7 2 n (omega arith) (omega arith) (omega arith)) above,
+          rule-5 v master7 (omega arith) (omega arith) (λ n h. bare broken7 2 n (omega arith) (omega arith) (omega arith)) above,
           inr ((file-ok, λ u a b hu ha hb x y s. same u a b (object7 (256 * u + a) x) (object7 (256 * u + b) y)), inl (refl, no)),
         ),
       ),
@@ -101,7 +101,7 @@ breaks7 = inr (
     v = volume broken7
 
     U : (k : ℕ) → user (volume broken7) 0 k ≡ volume broken7 3 (32 * 0 + k)
-    U k = user-first broken7 2 master7 refl 0 k (omega arith)
+    U k = user-first broken7 master7 refl 0 k (omega arith)
 
     O : (k : ℕ) → object (volume broken7) 0 k ≡ volume broken7 4 (32 * 0 + k)
     O k = object-first broken7 master7 refl 0 k (omega arith)
@@ -137,7 +137,7 @@ breaks7 = inr (
 
 -- ---- rule 8
 
-master8 : Master (volume broken8) 1
+pub master8 : Master (volume broken8) 8 1
 unfolding volume Off put pick is
 master8 = record { head = record { first = refl; second = refl; tail = λ k a b. volume-off broken8 0 k (omega arith); high = refl; low = refl }; ufl = refl; upg = refl; ofl = refl; opg = refl }
 
@@ -146,18 +146,28 @@ top-le : (v : Vol) (g : ℕ → ℕ) (r : Root) (t : ℕ) → r ≡ tree 1 t →
 unfolding weighR weigh
 top-le v g r t e = subst (λ (x : Root). g t ≤ weighR v x g) (sym e) (omega arith)
 
+pub held-twice : holders 16 (volume broken8) 1 ≤ 1 → ⊥
+unfolding holders all system is
+held-twice h = omega (
+  arith,
+  h,
+  hit-same 1 (omega arith),
+  top-le (volume broken8) (hit 1) (userFile (volume broken8)) 1 (user-root (volume broken8) master8),
+  top-le (volume broken8) (hit 1) (objectFile (volume broken8)) 1 (object-root (volume broken8) master8),
+)
+
 pub breaks8 : Lowest (rules 16 (volume broken8)) 8
 unfolding rules Lowest Rule8 slot two word volume put pick is Off holders all system
 breaks8 = inr (
-  head-rule v (master8 .head),
+  head-rule v (master8 .head) (omega arith) (omega arith) (omega arith),
   inr (
-    rule-2 v 1 master8 (omega arith) (omega arith),
+    rule-2 v master8 (omega arith) (omega arith) (omega arith),
     inr (
-      rule-3 v 1 master8 (omega arith) (λ n h. empty n),
+      rule-3 v master8 (omega arith) (λ n h. empty n),
       inr (
         rule4-none v nobody,
         inr (
-          rule-5 v 1 master8 (omega arith) (omega arith) (λ n h. empty n) (λ u h. nobody u),
+          rule-5 v master8 (omega arith) (omega arith) (λ n h. empty n) (λ u h. nobody u),
           inr (rule6-none v nothing, inr (rule7-none v nothing 16, inl (refl, no))),
         ),
       ),
@@ -172,36 +182,30 @@ breaks8 = inr (
     empty n = bare broken8 1 n (omega arith) (omega arith) (omega arith)
 
     nobody : (u : ℕ) → used (user (volume broken8) u) ≡ 0
-    nobody = no-users (volume broken8) 1 master8 empty
+    nobody = no-users (volume broken8) master8 empty
 
     nothing : (e : ℕ) → used (object (volume broken8) e) ≡ 0
-    nothing = no-objects (volume broken8) 1 master8 empty
+    nothing = no-objects (volume broken8) master8 empty
 
     no : Rule8 16 (volume broken8) → ⊥
-    no r = let q : ⊥ = omega (
-      arith,
-      r 1 (omega arith),
-      hit-same 1 (omega arith),
-      top-le (volume broken8) (hit 1) (userFile (volume broken8)) 1 (user-root (volume broken8) 1 master8),
-      top-le (volume broken8) (hit 1) (objectFile (volume broken8)) 1 (object-root (volume broken8) 1 master8),
-    ) in q
+    no r = held-twice (r 1 (omega arith))
 
 -- ---- rules 9 and 10: a fresh volume, one bit or one count off
 
 -- what the master page of a fresh yard disk says
 pub record Fresh (v : Vol) : Type 0 where
-  pub head : Head v
+  pub head : Head v 8
   pub users : Zero (v 0) userPointer
   pub objects : Zero (v 0) objectPointer
 
 module _ (v : Vol) (F : Fresh v) where
-  fresh-all : (g : ℕ → ℕ) → all 16 v g ≡ g 8
+  pub fresh-all : (g : ℕ → ℕ) → all 16 v g ≡ g 8
   unfolding bitFile bitPages weighR page
   fresh-all g =
       all-none v (F .users) (F .objects) 16 g ∙ sum-suc 0 (λ i. g (v 0 bitPointer % flagsAbove * 65536 + v 0 (suc bitPointer) + i))
       ∙ omega (arith, sum-zero (λ i. g (v 0 bitPointer % flagsAbove * 65536 + v 0 (suc bitPointer) + i)), ap g (let e : v 0 bitPointer % flagsAbove * 65536 + v 0 (suc bitPointer) + 0 ≡ 8 = omega (arith, F .head .high, F .head .low) in e))
 
-  fresh-holders : (p : ℕ) → holders 16 v p ≡ is p 0 + hit p 8
+  pub fresh-holders : (p : ℕ) → holders 16 v p ≡ is p 0 + hit p 8
   unfolding holders
   fresh-holders p = ap (λ (x : ℕ). is p 0 + x) (fresh-all (hit p))
 
@@ -214,7 +218,7 @@ module _ (v : Vol) (F : Fresh v) where
       (row 7 (Rule7 16 v) (row 8 (Rule8 16 v) t)))))))) r
   unfolding Lowest Rule2
   fresh-rules r t l = inr (
-    head-rule v (F .head),
+    head-rule v (F .head) (omega arith) (omega arith) (omega arith),
     inr (
       inl (F .users, F .objects),
       inr (
@@ -230,7 +234,7 @@ module _ (v : Vol) (F : Fresh v) where
     ),
   )
 
-fresh9 : Fresh (volume broken9)
+pub fresh9 : Fresh (volume broken9)
 unfolding volume Off put pick is Zero
 fresh9 = record { head = record { first = refl; second = refl; tail = λ k a b. volume-off broken9 0 k (omega arith); high = refl; low = refl }; users = (refl, refl); objects = (refl, refl) }
 
@@ -241,15 +245,15 @@ breaks9 = fresh-rules (volume broken9) fresh9 9 (row 9 (Rule9 16 (volume broken9
     no : Rule9 16 (volume broken9) → ⊥
     no r = let q : ⊥ = omega (arith, r 5 (omega arith) .0 refl, fresh-holders (volume broken9) fresh9 5) in q
 
-fresh10 : Fresh (volume broken10)
+pub fresh10 : Fresh (volume broken10)
 unfolding volume Off put pick is Zero
 fresh10 = record { head = record { first = refl; second = refl; tail = λ k a b. volume-off broken10 0 k (omega arith); high = refl; low = refl }; users = (refl, refl); objects = (refl, refl) }
 
 -- two functions that a computed sum finds equal below n
-agree : (n : ℕ) (f g : ℕ → ℕ) → sum n (λ p. (f p - g p) + (g p - f p)) ≡ 0 → (p : ℕ) → p < n → f p ≡ g p
+pub agree : (n : ℕ) (f g : ℕ → ℕ) → sum n (λ p. (f p - g p) + (g p - f p)) ≡ 0 → (p : ℕ) → p < n → f p ≡ g p
 agree n f g h p i = omega (arith, h, sum-at n (λ p. (f p - g p) + (g p - f p)) p i)
 
-bits10 : (p : ℕ) → p < 16 → bit 16 (volume broken10) p ≡ is p 0 + hit p 8
+pub bits10 : (p : ℕ) → p < 16 → bit 16 (volume broken10) p ≡ is p 0 + hit p 8
 unfolding sum bit bitPage bitFile bitPages pageAt upto page digit word volume put pick is hit
 bits10 = agree 16 (bit 16 (volume broken10)) (λ p. is p 0 + hit p 8) refl
 

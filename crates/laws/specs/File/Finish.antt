@@ -96,14 +96,14 @@ module _ {P : ℕ} {v : Vol} {hand : ℕ → ℕ} {a f : ℕ} (here : Owned P v 
 
   pub owner-used : 0 < used (user v a)
   unfolding Rule6
-  owner-used = here .spot .good .most .r6 .0 a f (here .spot .ha) (here .spot .hf) (here .uf) .owner
+  owner-used = here .seat .good .most .r6 .0 a f (here .seat .ha) (here .seat .hf) (here .uf) .owner
 
   pub isU : 0 < UU
   unfolding user
   isU = used-page v (userFile v) a owner-used
 
   pub UO : UU ≢ OO
-  UO i = omega (arith, pageAt-le v (hit UU) (hit-zero UU) (objectFile v) (ee / 32), user-page P v hand (here .spot .good) (here .spot .pos) (a / 32) .1, subst (λ (y : ℕ). hit UU y ≡ 1) i (hit-same UU isU))
+  UO i = omega (arith, pageAt-le v (hit UU) (hit-zero UU) (objectFile v) (ee / 32), user-page P v hand (here .seat .good) (here .seat .pos) (a / 32) .1, subst (λ (y : ℕ). hit UU y ≡ 1) i (hit-same UU isU))
 
   -- the blocks have changed: v₂ differs from v only at D, where only this file and the hand hold pages
   pub record Blocks (D : ℕ → ℕ) (v₂ : Vol) : Type 0 where
@@ -118,7 +118,7 @@ module _ {P : ℕ} {v : Vol} {hand : ℕ → ℕ} {a f : ℕ} (here : Owned P v 
 
     D-none : (weighR v (userFile v) D ≡ 0) × (weighR v (objectFile v) D ≡ 0)
     unfolding rest
-    D-none = (omega (arith, all-rest P v D, K .only, file-le v D a f (here .spot .ha) (here .spot .hf)), omega (arith, all-rest P v D, K .only, file-le v D a f (here .spot .ha) (here .spot .hf)))
+    D-none = (omega (arith, all-rest P v D, K .only, file-le v D a f (here .seat .ha) (here .seat .hf)), omega (arith, all-rest P v D, K .only, file-le v D a f (here .seat .ha) (here .seat .hf)))
 
     sameO : (k : ℕ) → word v₂ OO k ≡ word v OO k
     unfolding Agree
@@ -135,7 +135,7 @@ module _ {P : ℕ} {v : Vol} {hand : ℕ → ℕ} {a f : ℕ} (here : Owned P v 
     inU : (k : ℕ) → k ≢ 32 * (a % 32) + 16 → k ≢ 32 * (a % 32) + 17 → word v₃ UU k ≡ word v UU k
     inU k i j = word-pos v₃ UU k isU ∙ fin-U v₂ UU OO a ee n (pointer kind t) x UO k i j ∙ sym (word-pos v₂ UU k isU) ∙ sameU k
 
-    pub change : Change (here .spot) D v₃
+    pub change : Change (here .seat) D v₃
     unfolding Agree Outside
     change = record {
       none = K .none;
@@ -162,10 +162,10 @@ module _ {P : ℕ} {v : Vol} {hand : ℕ → ℕ} {a f : ℕ} (here : Owned P v 
     -- the two entries
     pub obj-kept : (k : ℕ) → k < 26 → object v₃ ee k ≡ object v ee k
     unfolding object entry
-    obj-kept k h = obj-at (here .spot) change k ∙ inO (32 * (ee % 32) + k) (inl (omega arith))
+    obj-kept k h = obj-at (here .seat) change k ∙ inO (32 * (ee % 32) + k) (inl (omega arith))
 
     o-word : (k : ℕ) → object v₃ ee k ≡ v₃ OO (32 * (ee % 32) + k)
-    o-word k = obj-at (here .spot) change k ∙ word-pos v₃ OO (32 * (ee % 32) + k) isO
+    o-word k = obj-at (here .seat) change k ∙ word-pos v₃ OO (32 * (ee % 32) + k) isO
 
     pub new-pages : two (object v₃ ee) 26 ≡ n
     unfolding two
@@ -185,10 +185,10 @@ module _ {P : ℕ} {v : Vol} {hand : ℕ → ℕ} {a f : ℕ} (here : Owned P v 
 
     pub user-kept : (k : ℕ) → k ≢ 16 → k ≢ 17 → user v₃ a k ≡ user v a k
     unfolding user entry
-    user-kept k i j = user-at (here .spot) change k ∙ inU (32 * (a % 32) + k) (omega arith) (omega arith)
+    user-kept k i j = user-at (here .seat) change k ∙ inU (32 * (a % 32) + k) (omega arith) (omega arith)
 
     u-word : (k : ℕ) → user v₃ a k ≡ v₃ UU (32 * (a % 32) + k)
-    u-word k = user-at (here .spot) change k ∙ word-pos v₃ UU (32 * (a % 32) + k) isU
+    u-word k = user-at (here .seat) change k ∙ word-pos v₃ UU (32 * (a % 32) + k) isU
 
     pub new-spent : usedPages (user v₃) a ≡ x
     unfolding usedPages two
@@ -219,7 +219,7 @@ module _ {P : ℕ} {v : Vol} {hand : ℕ → ℕ} {a f : ℕ} (here : Owned P v 
       unfolding rest
       handO = omega (
         arith,
-        here .spot .good .held OO (pageAt-below v P (here .spot .pos) (objectFile v) (sound-within P v (here .spot .good .most) .objs) (ee / 32)),
+        here .seat .good .held OO (pageAt-below v P (here .seat .pos) (objectFile v) (sound-within P v (here .seat .good .most) .objs) (ee / 32)),
         bit-le P v OO,
         all-rest P v (hit OO),
         pageAt-le v (hit OO) (hit-zero OO) (objectFile v) (ee / 32),
@@ -230,7 +230,7 @@ module _ {P : ℕ} {v : Vol} {hand : ℕ → ℕ} {a f : ℕ} (here : Owned P v 
       unfolding rest
       handU = omega (
         arith,
-        here .spot .good .held UU (pageAt-below v P (here .spot .pos) (userFile v) (sound-within P v (here .spot .good .most) .users) (a / 32)),
+        here .seat .good .held UU (pageAt-below v P (here .seat .pos) (userFile v) (sound-within P v (here .seat .good .most) .users) (a / 32)),
         bit-le P v UU,
         all-rest P v (hit UU),
         pageAt-le v (hit UU) (hit-zero UU) (userFile v) (a / 32),
@@ -246,10 +246,10 @@ module _ {P : ℕ} {v : Vol} {hand : ℕ → ℕ} {a f : ℕ} (here : Owned P v 
         R .weight (hit UU) (hit-zero UU),
         R .fresh OO handO,
         R .fresh UU handU,
-        file-le v (hit OO) a f (here .spot .ha) (here .spot .hf),
-        obj-page P v hand (here .spot .good) (here .spot .pos) (ee / 32) .3,
-        file-le v (hit UU) a f (here .spot .ha) (here .spot .hf),
-        user-page P v hand (here .spot .good) (here .spot .pos) (a / 32) .3,
+        file-le v (hit OO) a f (here .seat .ha) (here .seat .hf),
+        obj-page P v hand (here .seat .good) (here .seat .pos) (ee / 32) .3,
+        file-le v (hit UU) a f (here .seat .ha) (here .seat .hf),
+        user-page P v hand (here .seat .good) (here .seat .pos) (a / 32) .3,
       )
 
       used-kept : used (object v₃ ee) ≡ used (object v ee)
@@ -270,15 +270,15 @@ module _ {P : ℕ} {v : Vol} {hand : ℕ → ℕ} {a f : ℕ} (here : Owned P v 
       given-kept = two-ext (user v₃ a) (user v a) 14 (user-kept 14 (omega arith) (omega arith)) (user-kept 15 (omega arith) (omega arith))
 
       E : Entries v v₃ a ee
-      E = entries (here .spot) change
+      E = entries (here .seat) change
 
       owner-ok : UserOk (user v) a
       unfolding Rule4
-      owner-ok = here .spot .good .most .r4 .0 a (here .spot .ha) owner-used
+      owner-ok = here .seat .good .most .r4 .0 a (here .seat .ha) owner-used
 
       file-ok : FileOk (user v) (object v) a ee
       unfolding Rule6
-      file-ok = here .spot .good .most .r6 .0 a f (here .spot .ha) (here .spot .hf) (here .uf)
+      file-ok = here .seat .good .most .r6 .0 a f (here .seat .ha) (here .seat .hf) (here .uf)
 
       shaped : FileShape P v₃ ee
       unfolding FileShape
@@ -293,12 +293,12 @@ module _ {P : ℕ} {v : Vol} {hand : ℕ → ℕ} {a f : ℕ} (here : Owned P v 
 
       high : flags (v 0) objectPointer ≡ 1 → 63 < a → used (user v a) ≡ 0
       unfolding Rule5 Rule5By
-      high q i = subst (λ (x : ℕ). Rule5By P v x (page (v 0) objectPointer)) q (here .spot .good .most .r5) .1 a i (here .spot .ha)
+      high q i = subst (λ (x : ℕ). Rule5By P v x (page (v 0) objectPointer)) q (here .seat .good .most .r5) .1 a i (here .seat .ha)
 
       pub master : (k : ℕ) → v₃ 0 k ≡ v 0 k
       master k = fin-page v₂ UU OO a ee n (pointer kind t) x UO 0 k (λ i. omega (arith, i, isO)) (λ i. omega (arith, i, isU)) ∙ K .master k
 
-      fine : Fine (here .spot) change gone new hand′
+      fine : Fine (here .seat) change gone new hand′
       unfolding Rule4 Rule6 Rule10 grant
       fine = record {
         weight = weight;
@@ -309,7 +309,7 @@ module _ {P : ℕ} {v : Vol} {hand : ℕ → ℕ} {a f : ℕ} (here : Owned P v 
             name = Legal-ext (user v₃ a) (user v a) 1 1 16 (λ i j. user-kept (1 + i / 2) (omega arith) (omega arith)) (owner-ok .name);
             within = omega (arith, new-spent, given-kept, R .within);
           };
-          alone = λ u h m i j s. m (here .spot .good .most .r4 .1 u a h (here .spot .ha) (omega (arith, used-same P v v₃ a f (here .spot .ha) (here .spot .hf) E u h m)) owner-used
+          alone = λ u h m i j s. m (here .seat .good .most .r4 .1 u a h (here .seat .ha) (omega (arith, used-same P v v₃ a f (here .seat .ha) (here .seat .hf) E u h m)) owner-used
               (SameName-ext (user v u) (user v a) (user v₃ u) (user v₃ a) (λ k l. E .users u h m (1 + k) (omega arith)) (λ k l. user-kept (1 + k) (omega arith) (omega arith)) s));
         };
         fileNew = record {
@@ -320,8 +320,8 @@ module _ {P : ℕ} {v : Vol} {hand : ℕ → ℕ} {a f : ℕ} (here : Owned P v 
             name = Legal-ext (object v₃ ee) (object v ee) 1 1 16 (λ i j. obj-kept (1 + i / 2) (omega arith)) (file-ok .name);
             type = Legal-ext (object v₃ ee) (object v ee) 9 0 4 (λ i j. obj-kept (9 + i / 2) (omega arith)) (file-ok .type);
           };
-          alone = λ h i m j l s. m (here .spot .good .most .r6 .1 a h f (here .spot .ha) i (here .spot .hf)
-              (omega (arith, obj-used-same P v v₃ a f (here .spot .ha) (here .spot .hf) E (256 * a + h) (omega arith) (λ q. m (omega arith)))) (here .uf)
+          alone = λ h i m j l s. m (here .seat .good .most .r6 .1 a h f (here .seat .ha) i (here .seat .hf)
+              (omega (arith, obj-used-same P v v₃ a f (here .seat .ha) (here .seat .hf) E (256 * a + h) (omega arith) (λ q. m (omega arith)))) (here .uf)
               (SameFile-ext (object v (256 * a + h)) (object v ee) (object v₃ (256 * a + h)) (object v₃ ee)
               (λ k o. E .files (256 * a + h) (omega arith) (λ q. m (omega arith)) (1 + k) (omega arith)) (λ k o. obj-kept (1 + k) (omega arith)) s));
           shape = λ h. shaped;
@@ -329,11 +329,11 @@ module _ {P : ℕ} {v : Vol} {hand : ℕ → ℕ} {a f : ℕ} (here : Owned P v 
         owner = λ h i q. omega (arith, user-used, owner-used);
         high = λ q i. user-used ∙ high q i;
         balance = omega (arith, two-ext (v₃ 0) (v 0) unreservedCount (master unreservedCount) (master (suc unreservedCount)), ap₂ (λ (x y : ℕ). pick x y 0) user-used given-kept);
-        count = λ h. omega (arith, R .count, new-spent, here .spot .good .most .r10 .0 a (here .spot .ha) owner-used, weight some some-zero, edit-mine (here .spot) change some);
+        count = λ h. omega (arith, R .count, new-spent, here .seat .good .most .r10 .0 a (here .seat .ha) owner-used, weight some some-zero, edit-mine (here .seat) change some);
       }
 
       pub finish-good : Good P v₃ hand′
-      finish-good = edit-good (here .spot) change gone new hand′ fine
+      finish-good = edit-good (here .seat) change gone new hand′ fine
 
       -- the file's pages are those of the changed blocks
       pub finish-page : (m : ℕ) → pageAt v₃ (fileAt v₃ ee) m ≡ pageAt v₂ (rootBy kind t n) m

@@ -42,7 +42,7 @@ module _ {P : ℕ} {v : Vol} {hand : ℕ → ℕ} {a f : ℕ} (here : Owned P v 
   unfolding userPage objectPage
   finished = record {
     good = finish-good here K n x t y gone new hand′ R;
-    beside = edit-beside (here .spot) (change here K n x t y)
+    beside = edit-beside (here .seat) (change here K n x t y)
         (master here K n x t y gone new hand′ R) (λ k h i j. user-kept here K n x t y k i j);
     count = new-pages here K n x t y;
     entry = obj-kept here K n x t y;

@@ -12,7 +12,7 @@ use Rattle.book.specs.Rules.{Rule6, Rule10}
 use Rattle.book.specs.Trees.{Root, weighR, pageAt}
 use Rattle.book.specs.Words.{Vol}
 use Rattle.laws.specs.Count.Good.{Good, free, free-count}
-use Rattle.laws.specs.Frame.Edit.{Change, c-users, c-objs, c-file, file-root, w-file, zeroB, users-words, objs-words, edit-all, Spot}
+use Rattle.laws.specs.Frame.Edit.{Change, c-users, c-objs, c-file, file-root, w-file, zeroB, users-words, objs-words, edit-all, Seat}
 use Rattle.laws.specs.Frame.Roots.{pageAt-frame}
 use Rattle.laws.specs.Frame.Still.{SamePlaces, Still, places-refl, places-trans, places-frame}
 use Rattle.laws.specs.Tree.Pointer.{used-ext}
@@ -69,7 +69,7 @@ module _ (P : ℕ) (v v′ : Vol) (a e : ℕ) (B : Beside P v v′ a e) where
   pub beside-used : used (user v′ a) ≡ used (user v a)
   beside-used = used-ext (user v′ a) (user v a) (B .owner 0 (omega arith) (omega arith) (omega arith))
 
-module _ {P : ℕ} {v : Vol} {hand : ℕ → ℕ} {a f : ℕ} (spot : Spot P v hand a f) {D : ℕ → ℕ} {v′ : Vol} (E : Change spot D v′) where
+module _ {P : ℕ} {v : Vol} {hand : ℕ → ℕ} {a f : ℕ} (seat : Seat P v hand a f) {D : ℕ → ℕ} {v′ : Vol} (E : Change seat D v′) where
   -- over entry numbers
   by-entry : (Q : ℕ → Type 0) → ((u h : ℕ) → u < 256 → h < 256 → 256 * u + h ≢ 256 * a + f → Q (256 * u + h)) → (x : ℕ) → x < 65536 → x ≢ 256 * a + f → Q x
   by-entry Q q x h n = let s : 256 * (x / 256) + x % 256 ≡ x = omega arith in
@@ -77,15 +77,15 @@ module _ {P : ℕ} {v : Vol} {hand : ℕ → ℕ} {a f : ℕ} (spot : Spot P v h
 
   pub edit-beside : ((k : ℕ) → v′ 0 k ≡ v 0 k) → ((k : ℕ) → k < 32 → k ≢ 16 → k ≢ 17 → user v′ a k ≡ user v a k) → Beside P v v′ a (256 * a + f)
   edit-beside m o = record {
-    places = places-frame v v′ _ (E .agree) m (c-users spot E) (c-objs spot E);
-    users = users-words spot E;
+    places = places-frame v v′ _ (E .agree) m (c-users seat E) (c-objs seat E);
+    users = users-words seat E;
     owner = o;
-    files = objs-words spot E;
+    files = objs-words seat E;
     address = by-entry (λ x. (m : ℕ) → pageAt v′ (fileAt v′ x) m ≡ pageAt v (fileAt v x) m)
-        (λ u h i j n m. ap (λ (r : Root). pageAt v′ r m) (file-root spot E (256 * u + h) n)
-        ∙ pageAt-frame v v′ _ (E .agree) (fileAt v (256 * u + h)) (zeroB spot E _ (c-file spot E u h i j n)) m);
-    holding = by-entry (λ x. (g : ℕ → ℕ) → weighR v′ (fileAt v′ x) g ≡ weighR v (fileAt v x) g) (λ u h i j n g. w-file spot E g u h i j n);
-    held = edit-all spot E;
+        (λ u h i j n m. ap (λ (r : Root). pageAt v′ r m) (file-root seat E (256 * u + h) n)
+        ∙ pageAt-frame v v′ _ (E .agree) (fileAt v (256 * u + h)) (zeroB seat E _ (c-file seat E u h i j n)) m);
+    holding = by-entry (λ x. (g : ℕ → ℕ) → weighR v′ (fileAt v′ x) g ≡ weighR v (fileAt v x) g) (λ u h i j n g. w-file seat E g u h i j n);
+    held = edit-all seat E;
   }
 
 -- what the owner's files hold changes as the file does

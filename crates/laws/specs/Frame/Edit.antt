@@ -113,13 +113,13 @@ module _ (v v′ : Vol) (C : ℕ → ℕ) (A : Agree C v v′) (r : Root) (bz : 
 -- ---- the change
 
 -- file f of user a, in a good volume
-pub record Spot (P : ℕ) (v : Vol) (hand : ℕ → ℕ) (a f : ℕ) : Type 0 where
+pub record Seat (P : ℕ) (v : Vol) (hand : ℕ → ℕ) (a f : ℕ) : Type 0 where
   pub good : Good P v hand
   pub pos : 0 < P
   pub ha : a < 256
   pub hf : f < 256
 
-module _ {P : ℕ} {v : Vol} {hand : ℕ → ℕ} {a f : ℕ} (spot : Spot P v hand a f) where
+module _ {P : ℕ} {v : Vol} {hand : ℕ → ℕ} {a f : ℕ} (seat : Seat P v hand a f) where
   -- the pages of his entry, and of the file's
   abbrev U : ℕ
   U = pageAt v (userFile v) (a / 32)
@@ -158,18 +158,18 @@ module _ {P : ℕ} {v : Vol} {hand : ℕ → ℕ} {a f : ℕ} (spot : Spot P v h
     D-else = omega (arith, all-rest P v D, E .only)
 
     c-bits : weighR v (bitFile P v) C ≡ 0
-    c-bits = omega (arith, parts (bitFile P v), D-else, file-le v D a f (spot .ha) (spot .hf), obj-page P v hand (spot .good) (spot .pos) (e / 32) .0, user-page P v hand (spot .good) (spot .pos) (a / 32) .0)
+    c-bits = omega (arith, parts (bitFile P v), D-else, file-le v D a f (seat .ha) (seat .hf), obj-page P v hand (seat .good) (seat .pos) (e / 32) .0, user-page P v hand (seat .good) (seat .pos) (a / 32) .0)
 
     pub c-users : blocksR v (userFile v) C ≡ 0
     c-users = omega (
       arith,
       partsB (userFile v),
       D-else,
-      file-le v D a f (spot .ha) (spot .hf),
+      file-le v D a f (seat .ha) (seat .hf),
       blocksR-le v (userFile v) D,
       blocksR-le v (userFile v) (hit O),
-      obj-page P v hand (spot .good) (spot .pos) (e / 32) .1,
-      user-page P v hand (spot .good) (spot .pos) (a / 32) .2,
+      obj-page P v hand (seat .good) (seat .pos) (e / 32) .1,
+      user-page P v hand (seat .good) (seat .pos) (a / 32) .2,
     )
 
     pub c-objs : blocksR v (objectFile v) C ≡ 0
@@ -177,11 +177,11 @@ module _ {P : ℕ} {v : Vol} {hand : ℕ → ℕ} {a f : ℕ} (spot : Spot P v h
       arith,
       partsB (objectFile v),
       D-else,
-      file-le v D a f (spot .ha) (spot .hf),
+      file-le v D a f (seat .ha) (seat .hf),
       blocksR-le v (objectFile v) D,
       blocksR-le v (objectFile v) (hit U),
-      obj-page P v hand (spot .good) (spot .pos) (e / 32) .2,
-      user-page P v hand (spot .good) (spot .pos) (a / 32) .1,
+      obj-page P v hand (seat .good) (seat .pos) (e / 32) .2,
+      user-page P v hand (seat .good) (seat .pos) (a / 32) .1,
     )
 
     pub c-file : (u h : ℕ) → u < 256 → h < 256 → 256 * u + h ≢ e → weighR v (fileAt v (256 * u + h)) C ≡ 0
@@ -189,11 +189,11 @@ module _ {P : ℕ} {v : Vol} {hand : ℕ → ℕ} {a f : ℕ} (spot : Spot P v h
       arith,
       parts (fileAt v (256 * u + h)),
       D-else,
-      file-le₂ v D u h a f hu hh (spot .ha) (spot .hf) ne,
+      file-le₂ v D u h a f hu hh (seat .ha) (seat .hf) ne,
       file-le v (hit O) u h hu hh,
       file-le v (hit U) u h hu hh,
-      obj-page P v hand (spot .good) (spot .pos) (e / 32) .3,
-      user-page P v hand (spot .good) (spot .pos) (a / 32) .3,
+      obj-page P v hand (seat .good) (seat .pos) (e / 32) .3,
+      user-page P v hand (seat .good) (seat .pos) (a / 32) .3,
     )
 
     roots : Roots v v′
@@ -209,7 +209,7 @@ module _ {P : ℕ} {v : Vol} {hand : ℕ → ℕ} {a f : ℕ} (spot : Spot P v h
     unfolding user
     users-words u n k h = ap (λ (r : Root). entry v′ r u k) (users-root v v′ roots)
         ∙ entry-other v v′ C (E .agree) (userFile v) c-users a
-        (λ i p q. position P v hand (spot .good) (spot .pos) (userFile v) (W P v hand (spot .good) (spot .pos) .users) (λ q i. omega (arith, one P v hand (spot .good) (spot .pos) q i)) (a / 32) i p q)
+        (λ i p q. position P v hand (seat .good) (seat .pos) (userFile v) (W P v hand (seat .good) (seat .pos) .users) (λ q i. omega (arith, one P v hand (seat .good) (seat .pos) q i)) (a / 32) i p q)
         (λ i q. let x : ℕ = pageAt v (userFile v) i in
         omega (
           arith,
@@ -217,8 +217,8 @@ module _ {P : ℕ} {v : Vol} {hand : ℕ → ℕ} {a f : ℕ} (spot : Spot P v h
           pageAt-le v (hit O) (hit-zero O) (userFile v) i,
           hit-other U x q,
           D-else,
-          file-le v D a f (spot .ha) (spot .hf),
-          obj-page P v hand (spot .good) (spot .pos) (e / 32) .1,
+          file-le v D a f (seat .ha) (seat .hf),
+          obj-page P v hand (seat .good) (seat .pos) (e / 32) .1,
         ))
         (E .onU) u n k h
 
@@ -226,7 +226,7 @@ module _ {P : ℕ} {v : Vol} {hand : ℕ → ℕ} {a f : ℕ} (spot : Spot P v h
     unfolding object
     objs-words x n k h = ap (λ (r : Root). entry v′ r x k) (objs-root v v′ roots)
         ∙ entry-other v v′ C (E .agree) (objectFile v) c-objs e
-        (λ i p q. position P v hand (spot .good) (spot .pos) (objectFile v) (W P v hand (spot .good) (spot .pos) .objs) (λ q i. omega (arith, one P v hand (spot .good) (spot .pos) q i)) (e / 32) i p q)
+        (λ i p q. position P v hand (seat .good) (seat .pos) (objectFile v) (W P v hand (seat .good) (seat .pos) .objs) (λ q i. omega (arith, one P v hand (seat .good) (seat .pos) q i)) (e / 32) i p q)
         (λ i q. let y : ℕ = pageAt v (objectFile v) i in
         omega (
           arith,
@@ -234,8 +234,8 @@ module _ {P : ℕ} {v : Vol} {hand : ℕ → ℕ} {a f : ℕ} (spot : Spot P v h
           pageAt-le v (hit U) (hit-zero U) (objectFile v) i,
           hit-other O y q,
           D-else,
-          file-le v D a f (spot .ha) (spot .hf),
-          user-page P v hand (spot .good) (spot .pos) (a / 32) .1,
+          file-le v D a f (seat .ha) (seat .hf),
+          user-page P v hand (seat .good) (seat .pos) (a / 32) .1,
         ))
         (E .onO) x n k h
 
@@ -290,13 +290,13 @@ module _ {P : ℕ} {v : Vol} {hand : ℕ → ℕ} {a f : ℕ} (spot : Spot P v h
     edit-sys g = omega (arith, w-bits g, w-users g, w-objs g)
 
     pub edit-all : (g : ℕ → ℕ) → all P v′ g + weighR v (fileAt v e) g ≡ all P v g + weighR v′ (fileAt v′ e) g
-    edit-all g = all-change P v v′ g a f (spot .ha) (spot .hf) (w-bits g) (w-users g) (w-objs g) (w-file g)
+    edit-all g = all-change P v v′ g a f (seat .ha) (seat .hf) (w-bits g) (w-users g) (w-objs g) (w-file g)
 
     pub edit-mine : (g : ℕ → ℕ) → mine v′ a g + weighR v (fileAt v e) g ≡ mine v a g + weighR v′ (fileAt v′ e) g
-    edit-mine g = mine-change P v v′ g a f (spot .ha) (spot .hf) (w-bits g) (w-users g) (w-objs g) (w-file g)
+    edit-mine g = mine-change P v v′ g a f (seat .ha) (seat .hf) (w-bits g) (w-users g) (w-objs g) (w-file g)
 
     pub edit-others : (g : ℕ → ℕ) (u : ℕ) → u < 256 → u ≢ a → mine v′ u g ≡ mine v u g
-    edit-others g = mine-other P v v′ g a f (spot .ha) (spot .hf) (w-bits g) (w-users g) (w-objs g) (w-file g)
+    edit-others g = mine-other P v v′ g a f (seat .ha) (seat .hf) (w-bits g) (w-users g) (w-objs g) (w-file g)
 
     -- ---- so the rules hold again, if they do for his entry and the file's
 
@@ -312,7 +312,7 @@ module _ {P : ℕ} {v : Vol} {hand : ℕ → ℕ} {a f : ℕ} (spot : Spot P v h
 
     module _ (gone new : (ℕ → ℕ) → ℕ) (hand′ : ℕ → ℕ) (F : Fine gone new hand′) where
       grant-else : (u : ℕ) → u < 256 → u ≢ a → grant (user v′) u ≡ grant (user v) u
-      grant-else u h n = grant-same P v v′ a f (spot .ha) (spot .hf) entries u h n
+      grant-else u h n = grant-same P v v′ a f (seat .ha) (seat .hf) entries u h n
 
       b-file : (x : ℕ) → x < 65536 → x ≢ e → blocksR v (fileAt v x) C ≡ 0
       b-file x h n = let s : 256 * (x / 256) + x % 256 ≡ x = omega arith in
@@ -320,36 +320,36 @@ module _ {P : ℕ} {v : Vol} {hand : ℕ → ℕ} {a f : ℕ} (spot : Spot P v h
 
       ten : Rule10 P v′
       unfolding Rule10 unreserved systemPages
-      ten = (each, omega (arith, spot .good .most .r10 .1, F .balance, edit-sys some, sum-change 256 (grant (user v)) (grant (user v′)) a (spot .ha) grant-else))
+      ten = (each, omega (arith, seat .good .most .r10 .1, F .balance, edit-sys some, sum-change 256 (grant (user v)) (grant (user v′)) a (seat .ha) grant-else))
         where
           each : (u : ℕ) → u < 256 → 0 < used (user v′ u) → usedPages (user v′) u ≡ mine v′ u some
           each u h q = elim (ℕ-discrete u a) [
             | yes i ↦ subst (λ (x : ℕ). usedPages (user v′) x ≡ mine v′ x some) (sym i) (F .count (subst (λ (x : ℕ). 0 < used (user v′ x)) i q))
             | no n ↦ omega (
               arith,
-              spent-same P v v′ a f (spot .ha) (spot .hf) entries u h n,
+              spent-same P v v′ a f (seat .ha) (seat .hf) entries u h n,
               edit-others some u h n,
-              spot .good .most .r10 .0 u h (omega (arith, used-same P v v′ a f (spot .ha) (spot .hf) entries u h n)),
+              seat .good .most .r10 .0 u h (omega (arith, used-same P v v′ a f (seat .ha) (seat .hf) entries u h n)),
             )
           ]
 
       five : flags (v 0) objectPointer ≡ 1 → (u : ℕ) → 63 < u → u < 256 → used (user v u) ≡ 0 → used (user v′ u) ≡ 0
       five k u i j z = elim (ℕ-discrete u a) [
         | yes q ↦ subst (λ (x : ℕ). used (user v′ x) ≡ 0) (sym q) (F .high k (omega arith))
-        | no n ↦ used-same P v v′ a f (spot .ha) (spot .hf) entries u j n ∙ z
+        | no n ↦ used-same P v v′ a f (seat .ha) (seat .hf) entries u j n ∙ z
       ]
 
       pub edit-good : Good P v′ hand′
       edit-good = record {
         most = record {
-          r1 = rule1 P v v′ mast (spot .good .most .r1);
-          r2 = rule2 P v v′ mast (spot .good .most .r2);
-          r3 = rule3 P v v′ mast C c0 (E .agree) (spot .good .most .r2) c-users (spot .good .most .r3);
-          r4 = rule4 P v v′ a f (spot .ha) (spot .hf) entries (F .userNew) (spot .good .most .r4);
-          r5 = rule5 P v v′ mast C c0 (E .agree) (spot .good .most .r2) c-objs five (spot .good .most .r5);
-          r6 = rule6 P v v′ a f (spot .ha) (spot .hf) entries (F .fileNew) (F .owner) (spot .good .most .r6);
-          r7 = rule7 P v v′ a f (spot .ha) (spot .hf) entries (F .fileNew) C (E .agree) b-file (spot .good .most .r7);
+          r1 = rule1 P v v′ mast (seat .good .most .r1);
+          r2 = rule2 P v v′ mast (seat .good .most .r2);
+          r3 = rule3 P v v′ mast C c0 (E .agree) (seat .good .most .r2) c-users (seat .good .most .r3);
+          r4 = rule4 P v v′ a f (seat .ha) (seat .hf) entries (F .userNew) (seat .good .most .r4);
+          r5 = rule5 P v v′ mast C c0 (E .agree) (seat .good .most .r2) c-objs five (seat .good .most .r5);
+          r6 = rule6 P v v′ a f (seat .ha) (seat .hf) entries (F .fileNew) (F .owner) (seat .good .most .r6);
+          r7 = rule7 P v v′ a f (seat .ha) (seat .hf) entries (F .fileNew) C (E .agree) b-file (seat .good .most .r7);
           r10 = ten;
         };
-        held = λ p h. omega (arith, bits-same p h, spot .good .held p h, edit-all (hit p), F .weight (hit p) (hit-zero p), F .hands p h);
+        held = λ p h. omega (arith, bits-same p h, seat .good .held p h, edit-all (hit p), F .weight (hit p) (hit-zero p), F .hands p h);
       }

@@ -118,7 +118,7 @@ module _ {P : ℕ} {v : Vol} {hand : ℕ → ℕ} {a f : ℕ} (here : Owned P v 
         K = record { none = hit-zero b; only = omega (arith, lo); agree = setSlot-agree v b 0 d; master = λ k. setSlot-page v b 0 d 0 k (omega arith) }
 
         W : Grown P v v₂ 1 0 b 0 d (λ g. g b + g d)
-        W = grown-block P v v₂ 0 b d d (λ g. g d) (here .spot .pos) pb hb (slot-here v b 0 d pb) (λ k ne. slot-other v b 0 d pb k ne ∙ bare k) (grown-page P v v₂ d pd hd)
+        W = grown-block P v v₂ 0 b d d (λ g. g d) (here .seat .pos) pb hb (slot-here v b 0 d pb) (λ k ne. slot-other v b 0 d pb k ne ∙ bare k) (grown-page P v v₂ d pd hd)
 
         R : Regrown here K 1 1 b (usedPages (user v) a + 2) (λ g. 0) (λ g. g b + g d) (λ p. 0)
         R = record {

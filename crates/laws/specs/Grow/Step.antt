@@ -44,7 +44,7 @@ module _ {choose : Vol → ℕ} {P : ℕ} {v : Vol} (stock : Stock choose P v) (
   G0 = good P v (stock .sound)
 
   here : Owned P v (λ p. 0) a f
-  here = record { spot = record { good = G0; pos = stock .pos; ha = ha; hf = hf }; big = omega arith; uf = uf }
+  here = record { seat = record { good = G0; pos = stock .pos; ha = ha; hf = hf }; big = omega arith; uf = uf }
 
   -- the file is not contiguous
   module _ (kind : flags (object v e) 30 ≡ 0 → n ≡ 0) (le : usedPages (user v) a + need n ≤ given (user v) a) where
@@ -123,7 +123,7 @@ module _ {choose : Vol → ℕ} {P : ℕ} {v : Vol} (stock : Stock choose P v) (
       hand p = sum i (λ j. hit (new j) p)
 
       there : Owned P (w i) hand a f
-      there = record { spot = record { good = C .good; pos = stock .pos; ha = ha; hf = hf }; big = omega arith; uf = subst (λ (O : Table). 0 < used (O e)) (sym (C .still .objects)) uf }
+      there = record { seat = record { good = C .good; pos = stock .pos; ha = ha; hf = hf }; big = omega arith; uf = subst (λ (O : Table). 0 < used (O e)) (sym (C .still .objects)) uf }
 
       count-now : two (object (w i) e) 26 ≡ n
       count-now = ap (λ (O : Table). two (O e) 26) (C .still .objects)

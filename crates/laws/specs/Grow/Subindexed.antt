@@ -190,7 +190,7 @@ module _ {P : ℕ} {v : Vol} {hand : ℕ → ℕ} {a f : ℕ} (here : Owned P v 
             (λ j h ne. omega (arith, one, lo, whole (hit t), whole (hit b), hit-same t pt, sum-at 512 (child (hit t)) j h, sum-at 512 (child (hit b)) j h, sum-none 512 (λ k. 0) (λ k l. refl)))
             (S .2) (S .3)
             (subst₃ (λ (x y z : ℕ). Grown P v v₂ 1 x y z d (λ g. g b + g d)) (sym was) (sym now) (sym start)
-            (grown-block P v v₂ 0 b d d (λ g. g d) (here .spot .pos) pb hb (slot-here v₁ b 0 d pb) (λ k ne. slot-other v₁ b 0 d pb k ne ∙ at-b k ∙ bare k) (grown-page P v v₂ d pd hd)))
+            (grown-block P v v₂ 0 b d d (λ g. g d) (here .seat .pos) pb hb (slot-here v₁ b 0 d pb) (λ k ne. slot-other v₁ b 0 d pb k ne ∙ at-b k ∙ bare k) (grown-page P v v₂ d pd hd)))
 
         R : Regrown here K (suc n) 2 t (usedPages (user v) a + 2) (λ g. 0) (λ g. g b + g d) (λ p. 0)
         R = record {
@@ -221,7 +221,7 @@ module _ {P : ℕ} {v : Vol} {hand : ℕ → ℕ} {a f : ℕ} (here : Owned P v 
     grew-raise = grew P v v₃ _ a e n d 2 s _ 513 (λ g. g s + (g b + g d)) hand
         (finished here K 513 2 s (usedPages (user v) a + 3) (λ g. 0) (λ g. g s + (g b + g d)) (λ p. 0) R)
         refl (sym (ap suc full)) (ap (λ (k : ℕ). usedPages (user v) a + k) (sym (need-raise n full)))
-        (λ m h. upto-in m 262144 (leaf v₃ 2 s m) (omega (arith, full)) ∙ raise-old P v v₃ D agree 1 t s b d (λ g. g b + g d) (here .spot .pos) ps hs s0 s1 so bz F B W m (omega (arith, full))
+        (λ m h. upto-in m 262144 (leaf v₃ 2 s m) (omega (arith, full)) ∙ raise-old P v v₃ D agree 1 t s b d (λ g. g b + g d) (here .seat .pos) ps hs s0 s1 so bz F B W m (omega (arith, full))
         ∙ sym (upto-in m 512 (leaf v 1 t m) (omega (arith, full))) ∙ sym (ap (λ (r : Root). pageAt v r m) (root-is here 1 fl))) pg
         lastly (λ p. omega (arith, hand-is p, hit-sym p d, hit-sym p b, hit-sym p s))
         (only-trans _ v v₂ v₃ (only-trans _ v v₁ v₂ (only-slot _ v s 0 t (λ p j h. inl (top p (h .0)))) (only-slot _ v₁ s 1 b (λ p j h. inl (top p (h .0))))) (only-slot _ v₂ b 0 d (λ p j h. inl (index p (h .0)))))
@@ -293,12 +293,12 @@ module _ {P : ℕ} {v : Vol} {hand : ℕ → ℕ} {a f : ℕ} (here : Owned P v 
         bz = omega (arith, lo, lo′, blocks-le v D 1 t, whole D, weighR-add v (hit s) (hit b) (fileAt v e))
 
         W : Grown P v v₃ 1 0 b 0 d (λ g. g b + g d)
-        W = grown-block P v v₃ 0 b d d (λ g. g d) (here .spot .pos) pb hb (slot-here v₂ b 0 d pb) (λ k ne. slot-other v₂ b 0 d pb k ne ∙ at-b k ∙ bare k) (grown-page P v v₃ d pd hd)
+        W = grown-block P v v₃ 0 b d d (λ g. g d) (here .seat .pos) pb hb (slot-here v₂ b 0 d pb) (λ k ne. slot-other v₂ b 0 d pb k ne ∙ at-b k ∙ bare k) (grown-page P v v₃ d pd hd)
 
         R : Regrown here K 513 2 s (usedPages (user v) a + 3) (λ g. 0) (λ g. g s + (g b + g d)) (λ p. 0)
         R = record {
-          weight = λ g g0. omega (arith, ap (λ (r : Root). weighR v r g) (root-is here 1 fl), raise-weight P v v₃ D agree 1 t s b d (λ g. g b + g d) (here .spot .pos) ps hs s0 s1 so bz F B W g g0);
-          shape = (omega arith, omega arith, raise-fill P v v₃ D agree 1 t s b d (λ g. g b + g d) (here .spot .pos) ps hs s0 s1 so bz F B W, raise-below P v v₃ D agree 1 t s b d (λ g. g b + g d) (here .spot .pos) ps hs s0 s1 so bz F B W);
+          weight = λ g g0. omega (arith, ap (λ (r : Root). weighR v r g) (root-is here 1 fl), raise-weight P v v₃ D agree 1 t s b d (λ g. g b + g d) (here .seat .pos) ps hs s0 s1 so bz F B W g g0);
+          shape = (omega arith, omega arith, raise-fill P v v₃ D agree 1 t s b d (λ g. g b + g d) (here .seat .pos) ps hs s0 s1 so bz F B W, raise-below P v v₃ D agree 1 t s b d (λ g. g b + g d) (here .seat .pos) ps hs s0 s1 so bz F B W);
           top = hs;
           hands = λ p h. omega (arith, hand-is p, hit-sym p d, hit-sym p b, hit-sym p s);
           fresh = λ q z. omega (arith, hand-is q, hit-sym q d, hit-sym q b, hit-sym q s);
@@ -307,7 +307,7 @@ module _ {P : ℕ} {v : Vol} {hand : ℕ → ℕ} {a f : ℕ} (here : Owned P v 
         }
 
         pg : upto n 262144 (leaf v₃ 2 s n) ≡ d
-        pg = upto-in n 262144 (leaf v₃ 2 s n) (omega (arith, full)) ∙ ap (leaf v₃ 2 s) full ∙ raise-at P v v₃ D agree 1 t s b d (λ g. g b + g d) (here .spot .pos) ps hs s0 s1 so bz F B W
+        pg = upto-in n 262144 (leaf v₃ 2 s n) (omega (arith, full)) ∙ ap (leaf v₃ 2 s) full ∙ raise-at P v v₃ D agree 1 t s b d (λ g. g b + g d) (here .seat .pos) ps hs s0 s1 so bz F B W
 
         lastly : (g : ℕ → ℕ) → last v₃ (tree 2 s) n g ≡ g s + (g b + g d)
         lastly g = omega (arith, last-raise v₃ (tree 2 s) n g full, ap g pg, ap g (ap (indexAt v₃ (tree 2 s)) (let q : n / 512 ≡ 1 = omega (arith, full) in q) ∙ index-2 v₃ s 1 (omega arith) ∙ s1))

@@ -73,15 +73,15 @@ module _ {P : ℕ} {v : Vol} {a f : ℕ} (here : Owned P v (λ p. 0) a f) where
   -- what leaves the file is paid back
   mine-file : weighR v (fileAt v e) some ≤ mine v a some
   unfolding mine
-  mine-file = sum-at 256 (λ f. weighR v (fileAt v (256 * a + f)) some) f (here .spot .hf)
+  mine-file = sum-at 256 (λ f. weighR v (fileAt v (256 * a + f)) some) f (here .seat .hf)
 
   pub paid : (k : ℕ) → k ≤ weighR v (fileAt v e) some → k ≤ usedPages (user v) a
   unfolding Rule10
-  paid k h = omega (arith, here .spot .good .most .r10 .0 a (here .spot .ha) (owner-used here), mine-file)
+  paid k h = omega (arith, here .seat .good .most .r10 .0 a (here .seat .ha) (owner-used here), mine-file)
 
   pub within : usedPages (user v) a ≤ given (user v) a
   unfolding Rule4
-  within = here .spot .good .most .r4 .0 a (here .spot .ha) (owner-used here) .within
+  within = here .seat .good .most .r4 .0 a (here .seat .ha) (owner-used here) .within
 
   -- ---- the only page of a file: the index block goes too
   module _ (n1 : n ≡ 1) (fl : flags (object v e) 30 ≡ 1) where
@@ -95,7 +95,7 @@ module _ {P : ℕ} {v : Vol} {a f : ℕ} (here : Owned P v (λ p. 0) a f) where
           (finished here K 0 0 0 (usedPages (user v) a - 2) (λ g. g t + g d₁) (λ g. 0) (λ p. hit p t + hit p d₁) record {
             weight = λ g g0. omega (arith, ap (λ (r : Root). weighR v r g) (root-is here 1 fl), W .weight g g0, weigh-none v g g0 1, sum-zero (λ i. g (0 + i)));
             shape = inl (refl, refl);
-            top = (here .spot .pos);
+            top = (here .seat .pos);
             hands = λ p h. omega arith;
             fresh = λ q z. refl;
             count = omega (arith, some-pos t pt, some-pos d₁ pd, two′);
@@ -119,7 +119,7 @@ module _ {P : ℕ} {v : Vol} {a f : ℕ} (here : Owned P v (λ p. 0) a f) where
         pd = F .2 0 (omega arith) .0 (omega arith)
 
         W : Shrunk P v v 1 t 0 0 (λ g. g t + g d₁)
-        W = shrunk-block P v v 0 t (λ g. g d₁) (here .spot .pos) F (shrunk-page P v v d₁ (here .spot .pos))
+        W = shrunk-block P v v 0 t (λ g. g d₁) (here .seat .pos) F (shrunk-page P v v d₁ (here .seat .pos))
 
         two′ : 2 ≤ usedPages (user v) a
         two′ = paid 2 (omega (arith, ap (λ (r : Root). weighR v r some) (root-is here 1 fl), some-pos t pt, some-pos d₁ pd, sum-at 512 (λ k. some (slot v t k)) 0 (omega arith)))
@@ -178,7 +178,7 @@ module _ {P : ℕ} {v : Vol} {a f : ℕ} (here : Owned P v (λ p. 0) a f) where
         lt = omega (arith, S .1)
 
         W : Shrunk P v v₂ 1 t t m (λ g. g d)
-        W = shrunk-leaf P v t m (here .spot .pos) pt pm lt F (S .3)
+        W = shrunk-leaf P v t m (here .seat .pos) pt pm lt F (S .3)
 
         pd : 0 < d
         pd = F .2 m lt .0 (omega arith)

@@ -64,7 +64,7 @@ module _ (P : ℕ) (v : Vol) (S : Sound P v) (pos : 0 < P) (big : P ≤ 10737418
   G = good P v S
 
   here : Owned P v (λ p. 0) a f
-  here = record { spot = record { good = G; pos = pos; ha = ha; hf = hf }; big = big; uf = uf }
+  here = record { seat = record { good = G; pos = pos; ha = ha; hf = hf }; big = big; uf = uf }
 
   he : e < 65536
   he = omega arith

@@ -127,7 +127,7 @@ module _ {P : ℕ} {v : Vol} {a f : ℕ} (here : Owned P v (λ p. 0) a f) where
         W : Shrunk P v v₂ 2 t t m (λ g. g d₂)
         W = shrunk-up P v v₂ (hit X) (setSlot-agree v X (m % 512) 0) 1 t m (λ g. g d₂) pt (omega arith) lt (λ j ne. top j)
             (λ j h ne. omega (arith, one, whole (hit X), at, sum-at₂ 512 child j (m / 512) h i ne, sum-none 512 (λ k. 0) (λ k l. refl)))
-            F (S .3) (subst (λ (y : ℕ). Shrunk P v v₂ 1 X y (m % 512) (λ g. g d₂)) (sym (top (m / 512))) (shrunk-leaf P v X (m % 512) (here .spot .pos) pX mid (mod-lt m (omega arith)) FX BX))
+            F (S .3) (subst (λ (y : ℕ). Shrunk P v v₂ 1 X y (m % 512) (λ g. g d₂)) (sym (top (m / 512))) (shrunk-leaf P v X (m % 512) (here .seat .pos) pX mid (mod-lt m (omega arith)) FX BX))
 
         pg : (i : ℕ) → pageAt v (fileAt v e) i ≡ pageAt v (tree 2 t) i
         pg i = ap (λ (r : Root). pageAt v r i) (root-is here 2 fl)
@@ -212,7 +212,7 @@ module _ {P : ℕ} {v : Vol} {a f : ℕ} (here : Owned P v (λ p. 0) a f) where
         W = shrunk-up P v v₂ (hit t) (setSlot-agree v t (m / 512) 0) 1 t m (λ g. g b₃ + g d₃) pt (omega arith) lt (λ j ne. slot-other v t (m / 512) 0 pt j ne)
             (λ j h ne. omega (arith, one, whole (hit t), hit-same t pt, sum-at 512 (λ k. weigh v 1 (slot v t k) (hit t)) j h, sum-none 512 (λ k. 0) (λ k l. refl)))
             F (S .3) (subst₂ (λ (y z : ℕ). Shrunk P v v₂ 1 b₃ y z (λ g. g b₃ + g d₃)) (sym (slot-here v t (m / 512) 0 pt)) (sym start)
-            (shrunk-block P v v₂ 0 b₃ (λ g. g d₃) (here .spot .pos) Fb (shrunk-page P v v₂ d₃ (here .spot .pos))))
+            (shrunk-block P v v₂ 0 b₃ (λ g. g d₃) (here .seat .pos) Fb (shrunk-page P v v₂ d₃ (here .seat .pos))))
 
         pg : (i : ℕ) → pageAt v (fileAt v e) i ≡ pageAt v (tree 2 t) i
         pg i = ap (λ (r : Root). pageAt v r i) (root-is here 2 fl)
@@ -282,7 +282,7 @@ module _ {P : ℕ} {v : Vol} {a f : ℕ} (here : Owned P v (λ p. 0) a f) where
         sd = some-pos d₄ pd
 
         Wb : Shrunk P v v 1 b₄ 0 0 (λ g. g b₄ + g d₄)
-        Wb = shrunk-block P v v 0 b₄ (λ g. g d₄) (here .spot .pos) Fb (shrunk-page P v v d₄ (here .spot .pos))
+        Wb = shrunk-block P v v 0 b₄ (λ g. g d₄) (here .seat .pos) Fb (shrunk-page P v v d₄ (here .seat .pos))
 
         others : (j : ℕ) → j < 512 → j ≢ 0 → j ≢ 1 → slot v t j ≡ 0
         others j h p q = F .2 j h .1 (omega arith)

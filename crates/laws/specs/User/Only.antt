@@ -14,7 +14,7 @@ use Rattle.book.specs.Trees.{Root, weighR, blocksR, pageAt}
 use Rattle.book.specs.Words.{Vol, two, word}
 use Rattle.laws.specs.Count.Good.{Good}
 use Rattle.laws.specs.File.Named.{Legal-ext, SameFile-ext}
-use Rattle.laws.specs.Frame.Edit.{Change, user-page, obj-at, objs-words, user-at, users-words, bits-same, edit-mine, edit-good, Spot}
+use Rattle.laws.specs.Frame.Edit.{Change, user-page, obj-at, objs-words, user-at, users-words, bits-same, edit-mine, edit-good, Seat}
 use Rattle.laws.specs.Frame.Fields.{Outside}
 use Rattle.laws.specs.Frame.Renewed.{UserNew, FileNew, shape-same}
 use Rattle.laws.specs.Frame.Rest.{file-le}
@@ -42,31 +42,31 @@ module _ (P : ℕ) (v : Vol) (hand : ℕ → ℕ) (G : Good P v hand) (pos : 0 <
   zero256 : 0 < 256
   zero256 = omega arith
 
-  spot : Spot P v hand a 0
-  spot = record { good = G; pos = pos; ha = ha; hf = zero256 }
+  seat : Seat P v hand a 0
+  seat = record { good = G; pos = pos; ha = ha; hf = zero256 }
 
-  change : Change spot (λ x. 0) v′
+  change : Change seat (λ x. 0) v′
   unfolding Agree
   change = record { none = refl; only = all-zero P v ∙ sym (weighR-nobody v (λ x. 0) (λ x. refl) (fileAt v e)); agree = λ q h k. agree q (omega (arith, h)) k; master = master; onO = λ k h. sameO k; onU = onU }
 
   -- his entry is where it was, and every other user's stays
   pub user-there : (k : ℕ) → user v′ a k ≡ word v′ U (32 * (a % 32) + k)
-  user-there k = user-at spot change k
+  user-there k = user-at seat change k
 
   pub users-else : (u : ℕ) → u ≢ a → (k : ℕ) → k < 32 → user v′ u k ≡ user v u k
-  users-else u n k h = users-words spot change u n k h
+  users-else u n k h = users-words seat change u n k h
 
   -- every object entry stays
   words : (x k : ℕ) → k < 32 → object v′ x k ≡ object v x k
   unfolding object entry
   words x k h = elim (ℕ-discrete x e) [
-    | yes q ↦ subst (λ (y : ℕ). object v′ y k ≡ object v y k) (sym q) (obj-at spot change k ∙ sameO (32 * (e % 32) + k))
-    | no n ↦ objs-words spot change x n k h
+    | yes q ↦ subst (λ (y : ℕ). object v′ y k ≡ object v y k) (sym q) (obj-at seat change k ∙ sameO (32 * (e % 32) + k))
+    | no n ↦ objs-words seat change x n k h
   ]
 
   -- the bits stay
   pub bits-else : (p : ℕ) → p < P → bit P v′ p ≡ bit P v p
-  bits-else p h = bits-same spot change p h
+  bits-else p h = bits-same seat change p h
 
   quiet : blocksR v (fileAt v e) (hit U) ≡ 0
   quiet = omega (arith, blocksR-le v (fileAt v e) (hit U), file-le v (hit U) a 0 ha zero256, user-page P v hand G pos (a / 32) .3)
@@ -105,7 +105,7 @@ module _ (P : ℕ) (v : Vol) (hand : ℕ → ℕ) (G : Good P v hand) (pos : 0 <
     }
 
     pub user-good : Good P v′ hand
-    user-good = edit-good spot change (λ g. 0) (λ g. 0) hand record {
+    user-good = edit-good seat change (λ g. 0) (λ g. 0) hand record {
       weight = λ g g0. omega (arith, weight g);
       hands = λ p h. refl;
       userNew = N;
@@ -113,5 +113,5 @@ module _ (P : ℕ) (v : Vol) (hand : ℕ → ℕ) (G : Good P v hand) (pos : 0 <
       owner = λ h i q. owner h i (omega (arith, used-obj (256 * a + h)));
       high = high;
       balance = balance;
-      count = λ h. omega (arith, count h, edit-mine spot change some, weight some);
+      count = λ h. omega (arith, count h, edit-mine seat change some, weight some);
     }

@@ -29,10 +29,20 @@ enum-known-verdict-2 : tie.Need-enum-known-verdict-2
 enum-known-verdict-2 c = search needs
 
 returns-3 : tie.Need-returns-3
-returns-3 c = let j = judged-right _ _ (c .before .before .before .judge .result) _ (c .before .before .before .judge .ensures) (c .before .verdict .given .1) in (record { whole = holds (c .before .before .before .before .before .before .whole .result) _ (c .before .before .before .before .before .before .whole .ensures) (c .before .before .before .before .before .if1 .left); sound = j .0 }, not-false _ (c .before .before .before .before .if2 .left), j .1)
+returns-3 c =
+    let m = c .before in let j = m .before .before in let i = j .before in let k = i .before in let w = k .before in
+    let v = judged-right _ _ (j .judge .result) _ (j .judge .ensures) (m .verdict .given .1) in
+    (record { whole = holds (w .whole .result) _ (w .whole .ensures) (k .if1 .left); sound = v .0 }, not-false _ (i .if2 .left), v .1)
+
+tell-requires : tie.Need-tell-requires
+tell-requires c κs =
+    let m = c .before in let j = m .before .before in let i = j .before in let k = i .before in let w = k .before in
+    record { whole = holds (w .whole .result) _ (w .whole .ensures) (k .if1 .left); lowest = judged-broken _ _ (j .judge .result) _ (j .judge .ensures) (m .verdict2 .given .1) }
 
 returns-4 : tie.Need-returns-4
-returns-4 c = (holds (c .before .before .before .before .before .before .whole .result) _ (c .before .before .before .before .before .before .whole .ensures) (c .before .before .before .before .before .if1 .left), not-false _ (c .before .before .before .before .if2 .left), judged-broken _ _ (c .before .before .before .judge .result) _ (c .before .before .before .judge .ensures) (c .before .verdict2 .given .1))
+returns-4 c =
+    let m = c .before .before in let j = m .before .before in let i = j .before in let k = i .before in let w = k .before in
+    (holds (w .whole .result) _ (w .whole .ensures) (k .if1 .left), not-false _ (i .if2 .left), c .tell .ensures)
 
 pub gate-spec : {M : Type 1} → statement M
 gate-spec =
@@ -44,5 +54,6 @@ gate-spec =
     judge-requires
     enum-known-verdict
     enum-known-verdict-2
+    tell-requires
     returns-3
     returns-4)

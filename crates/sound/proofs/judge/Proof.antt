@@ -1,3 +1,4 @@
+use borrow.Author.Tests.{not-false}
 use native.Mathlib.Omega.{arith}
 use Rattle.book.specs.Decides.{holds, fails}
 use Rattle.laws.specs.Count.Reach.{below-objects}
@@ -11,117 +12,114 @@ rule1-requires c κs = search needs
 
 returns : tie.Need-returns
 returns c =
-    low-1 _ _
-    (fails (c .before .rule1 .result) _ (c .before .rule1 .ensures) (c .if1 .taken))
+    let i1 = c in let r1 = i1 .before in
+    low-1 _ _ (fails (r1 .rule1 .result) _ (r1 .rule1 .ensures) (i1 .if1 .taken))
 
 rule2-requires : tie.Need-rule2-requires
 rule2-requires c κs = search needs
 
 returns-2 : tie.Need-returns-2
 returns-2 c =
-    low-2 _ _
-    (holds (c .before .before .before .rule1 .result) _ (c .before .before .before .rule1 .ensures) (c .before .before .if1 .left))
-    (fails (c .before .rule2 .result) _ (c .before .rule2 .ensures) (c .if2 .taken))
+    let i2 = c in let r2 = i2 .before in let i1 = r2 .before in let r1 = i1 .before in
+    low-2 _ _ (holds (r1 .rule1 .result) _ (r1 .rule1 .ensures) (i1 .if1 .left)) (fails (r2 .rule2 .result) _ (r2 .rule2 .ensures) (i2 .if2 .taken))
 
 rule3-requires : tie.Need-rule3-requires
-rule3-requires c κs = (c .before .before .before .before .before .pre, search needs, (holds (c .before .rule2 .result) _ (c .before .rule2 .ensures) (c .if2 .left)))
+rule3-requires c κs =
+    let i2 = c in let r2 = i2 .before in let s = r2 .before .before .before .before in
+    (s .pre, search needs, (holds (r2 .rule2 .result) _ (r2 .rule2 .ensures) (i2 .if2 .left)))
 
 returns-3 : tie.Need-returns-3
 returns-3 c =
-    low-3 _ _
-    (holds (c .before .before .before .before .before .rule1 .result) _ (c .before .before .before .before .before .rule1 .ensures) (c .before .before .before .before .if1 .left))
-    (holds (c .before .before .before .rule2 .result) _ (c .before .before .before .rule2 .ensures) (c .before .before .if2 .left))
-    (fails (c .before .rule3 .result) _ (c .before .rule3 .ensures) (c .if3 .taken))
+    let i3 = c in let r3 = i3 .before in let i2 = r3 .before in let r2 = i2 .before in let i1 = r2 .before in let r1 = i1 .before in
+    low-3 _ _ (holds (r1 .rule1 .result) _ (r1 .rule1 .ensures) (i1 .if1 .left)) (holds (r2 .rule2 .result) _ (r2 .rule2 .ensures) (i2 .if2 .left))
+    (fails (r3 .rule3 .result) _ (r3 .rule3 .ensures) (i3 .if3 .taken))
+
+room-requires : tie.Need-room-requires
+room-requires c κs = search needs
 
 rule4-requires : tie.Need-rule4-requires
-rule4-requires c κs = (
-  c .before .before .before .before .before .before .before .pre,
-  (holds (c .before .before .before .rule2 .result) _ (c .before .before .before .rule2 .ensures) (c .before .before .if2 .left)),
-  (holds (c .before .rule3 .result) _ (c .before .rule3 .ensures) (c .if3 .left)),
-)
+rule4-requires c κs =
+    let m = c .before in let i3 = m .before in let r3 = i3 .before in let i2 = r3 .before in let r2 = i2 .before in let s = r2 .before .before .before .before in
+    (s .pre, (holds (r2 .rule2 .result) _ (r2 .rule2 .ensures) (i2 .if2 .left)), (holds (r3 .rule3 .result) _ (r3 .rule3 .ensures) (i3 .if3 .left)), m .room .ensures)
 
 returns-4 : tie.Need-returns-4
 returns-4 c =
-    low-4 _ _
-    (holds (c .before .before .before .before .before .before .before .rule1 .result) _ (c .before .before .before .before .before .before .before .rule1 .ensures) (c .before .before .before .before .before .before .if1 .left))
-    (holds (c .before .before .before .before .before .rule2 .result) _ (c .before .before .before .before .before .rule2 .ensures) (c .before .before .before .before .if2 .left))
-    (holds (c .before .before .before .rule3 .result) _ (c .before .before .before .rule3 .ensures) (c .before .before .if3 .left))
-    (fails (c .before .rule4 .result) _ (c .before .rule4 .ensures) (c .if4 .taken))
+    let i4 = c in let r4 = i4 .before in let i3 = r4 .before .before .before in let r3 = i3 .before in let i2 = r3 .before in let r2 = i2 .before in let i1 = r2 .before in
+    let r1 = i1 .before in
+    low-4 _ _ (holds (r1 .rule1 .result) _ (r1 .rule1 .ensures) (i1 .if1 .left)) (holds (r2 .rule2 .result) _ (r2 .rule2 .ensures) (i2 .if2 .left))
+    (holds (r3 .rule3 .result) _ (r3 .rule3 .ensures) (i3 .if3 .left)) (fails (r4 .rule4 .result) _ (r4 .rule4 .ensures .0) (i4 .if4 .taken))
 
 rule5-requires : tie.Need-rule5-requires
-rule5-requires c κs = (
-  c .before .before .before .before .before .before .before .before .before .pre,
-  search needs,
-  (holds (c .before .before .before .before .before .rule2 .result) _ (c .before .before .before .before .before .rule2 .ensures) (c .before .before .before .before .if2 .left)),
-  (holds (c .before .before .before .rule3 .result) _ (c .before .before .before .rule3 .ensures) (c .before .before .if3 .left)),
-)
+rule5-requires c κs =
+    let i3 = c .before .before .before .before in let r3 = i3 .before in let i2 = r3 .before in let r2 = i2 .before in let s = r2 .before .before .before .before in
+    (s .pre, search needs, (holds (r2 .rule2 .result) _ (r2 .rule2 .ensures) (i2 .if2 .left)), (holds (r3 .rule3 .result) _ (r3 .rule3 .ensures) (i3 .if3 .left)))
 
 returns-5 : tie.Need-returns-5
 returns-5 c =
-    low-5 _ _
-    (holds (c .before .before .before .before .before .before .before .before .before .rule1 .result) _ (c .before .before .before .before .before .before .before .before .before .rule1 .ensures) (c .before .before .before .before .before .before .before .before .if1 .left))
-    (holds (c .before .before .before .before .before .before .before .rule2 .result) _ (c .before .before .before .before .before .before .before .rule2 .ensures) (c .before .before .before .before .before .before .if2 .left))
-    (holds (c .before .before .before .before .before .rule3 .result) _ (c .before .before .before .before .before .rule3 .ensures) (c .before .before .before .before .if3 .left))
-    (holds (c .before .before .before .rule4 .result) _ (c .before .before .before .rule4 .ensures) (c .before .before .if4 .left))
-    (fails (c .before .rule5 .result) _ (c .before .rule5 .ensures) (c .if5 .taken))
+    let i5 = c in let r5 = i5 .before in let i4 = r5 .before in let r4 = i4 .before in let i3 = r4 .before .before .before in let r3 = i3 .before in let i2 = r3 .before in
+    let r2 = i2 .before in let i1 = r2 .before in let r1 = i1 .before in
+    low-5 _ _ (holds (r1 .rule1 .result) _ (r1 .rule1 .ensures) (i1 .if1 .left)) (holds (r2 .rule2 .result) _ (r2 .rule2 .ensures) (i2 .if2 .left))
+    (holds (r3 .rule3 .result) _ (r3 .rule3 .ensures) (i3 .if3 .left)) (holds (r4 .rule4 .result) _ (r4 .rule4 .ensures .0) (i4 .if4 .left))
+    (fails (r5 .rule5 .result) _ (r5 .rule5 .ensures) (i5 .if5 .taken))
 
 object-ends-requires : tie.Need-object-ends-requires
-object-ends-requires c κs = record { some = omega (arith, (c .before .before .before .before .before .before .before .before .before .before .before .pre) .least); below = below-objects _ _ (holds (c .before .before .before .before .before .before .before .rule2 .result) _ (c .before .before .before .before .before .before .before .rule2 .ensures) (c .before .before .before .before .before .before .if2 .left)) (holds (c .before .rule5 .result) _ (c .before .rule5 .ensures) (c .if5 .left)) }
+object-ends-requires c κs =
+    let i5 = c in let r5 = i5 .before in let i2 = r5 .before .before .before .before .before .before .before in let r2 = i2 .before in let s = r2 .before .before .before .before in
+    record { some = omega (arith, s .pre .least); below = below-objects _ _ (holds (r2 .rule2 .result) _ (r2 .rule2 .ensures) (i2 .if2 .left)) (holds (r5 .rule5 .result) _ (r5 .rule5 .ensures) (i5 .if5 .left)) }
 
 rule6-requires : tie.Need-rule6-requires
-rule6-requires c κs = (
-  c .before .before .before .before .before .before .before .before .before .before .before .before .pre,
-  (holds (c .before .before .before .before .before .before .before .before .rule2 .result) _ (c .before .before .before .before .before .before .before .before .rule2 .ensures) (c .before .before .before .before .before .before .before .if2 .left)),
-  (holds (c .before .before .before .before .before .before .rule3 .result) _ (c .before .before .before .before .before .before .rule3 .ensures) (c .before .before .before .before .before .if3 .left)),
-  (holds (c .before .before .rule5 .result) _ (c .before .before .rule5 .ensures) (c .before .if5 .left)),
-  c .object-ends .ensures,
-)
+rule6-requires c κs =
+    let o = c .before in let i5 = o .before in let r5 = i5 .before in let i4 = r5 .before in let r4 = i4 .before in let i3 = r4 .before .before .before in let r3 = i3 .before in
+    let i2 = r3 .before in let r2 = i2 .before in let s = r2 .before .before .before .before in (
+      s .pre,
+      (holds (r2 .rule2 .result) _ (r2 .rule2 .ensures) (i2 .if2 .left)),
+      (holds (r3 .rule3 .result) _ (r3 .rule3 .ensures) (i3 .if3 .left)),
+      (holds (r5 .rule5 .result) _ (r5 .rule5 .ensures) (i5 .if5 .left)),
+      o .object-ends .ensures,
+      r4 .rule4 .ensures .1 (not-false _ (i4 .if4 .left)),
+    )
 
 returns-6 : tie.Need-returns-6
 returns-6 c =
-    low-6 _ _
-    (holds (c .before .before .before .before .before .before .before .before .before .before .before .before .rule1 .result) _ (c .before .before .before .before .before .before .before .before .before .before .before .before .rule1 .ensures) (c .before .before .before .before .before .before .before .before .before .before .before .if1 .left))
-    (holds (c .before .before .before .before .before .before .before .before .before .before .rule2 .result) _ (c .before .before .before .before .before .before .before .before .before .before .rule2 .ensures) (c .before .before .before .before .before .before .before .before .before .if2 .left))
-    (holds (c .before .before .before .before .before .before .before .before .rule3 .result) _ (c .before .before .before .before .before .before .before .before .rule3 .ensures) (c .before .before .before .before .before .before .before .if3 .left))
-    (holds (c .before .before .before .before .before .before .rule4 .result) _ (c .before .before .before .before .before .before .rule4 .ensures) (c .before .before .before .before .before .if4 .left))
-    (holds (c .before .before .before .before .rule5 .result) _ (c .before .before .before .before .rule5 .ensures) (c .before .before .before .if5 .left))
-    (fails (c .before .rule6 .result) _ (c .before .rule6 .ensures) (c .if6 .taken))
+    let i6 = c in let r6 = i6 .before in let i5 = r6 .before .before .before in let r5 = i5 .before in let i4 = r5 .before in let r4 = i4 .before in
+    let i3 = r4 .before .before .before in let r3 = i3 .before in let i2 = r3 .before in let r2 = i2 .before in let i1 = r2 .before in let r1 = i1 .before in
+    low-6 _ _ (holds (r1 .rule1 .result) _ (r1 .rule1 .ensures) (i1 .if1 .left)) (holds (r2 .rule2 .result) _ (r2 .rule2 .ensures) (i2 .if2 .left))
+    (holds (r3 .rule3 .result) _ (r3 .rule3 .ensures) (i3 .if3 .left)) (holds (r4 .rule4 .result) _ (r4 .rule4 .ensures .0) (i4 .if4 .left))
+    (holds (r5 .rule5 .result) _ (r5 .rule5 .ensures) (i5 .if5 .left)) (fails (r6 .rule6 .result) _ (r6 .rule6 .ensures) (i6 .if6 .taken))
 
 rule7-requires : tie.Need-rule7-requires
-rule7-requires c κs = (
-  c .before .before .before .before .before .before .before .before .before .before .before .before .before .before .pre,
-  search needs,
-  (holds (c .before .before .before .before .before .before .before .before .before .before .rule2 .result) _ (c .before .before .before .before .before .before .before .before .before .before .rule2 .ensures) (c .before .before .before .before .before .before .before .before .before .if2 .left)),
-  (holds (c .before .before .before .before .rule5 .result) _ (c .before .before .before .before .rule5 .ensures) (c .before .before .before .if5 .left)),
-  c .before .before .object-ends .ensures,
-)
+rule7-requires c κs =
+    let o = c .before .before .before in let i5 = o .before in let r5 = i5 .before in let i2 = r5 .before .before .before .before .before .before .before in let r2 = i2 .before in
+    let s = r2 .before .before .before .before in
+    (s .pre, search needs, (holds (r2 .rule2 .result) _ (r2 .rule2 .ensures) (i2 .if2 .left)), (holds (r5 .rule5 .result) _ (r5 .rule5 .ensures) (i5 .if5 .left)), o .object-ends .ensures)
 
 returns-7 : tie.Need-returns-7
 returns-7 c =
-    low-7 _ _
-    (holds (c .before .before .before .before .before .before .before .before .before .before .before .before .before .before .rule1 .result) _ (c .before .before .before .before .before .before .before .before .before .before .before .before .before .before .rule1 .ensures) (c .before .before .before .before .before .before .before .before .before .before .before .before .before .if1 .left))
-    (holds (c .before .before .before .before .before .before .before .before .before .before .before .before .rule2 .result) _ (c .before .before .before .before .before .before .before .before .before .before .before .before .rule2 .ensures) (c .before .before .before .before .before .before .before .before .before .before .before .if2 .left))
-    (holds (c .before .before .before .before .before .before .before .before .before .before .rule3 .result) _ (c .before .before .before .before .before .before .before .before .before .before .rule3 .ensures) (c .before .before .before .before .before .before .before .before .before .if3 .left))
-    (holds (c .before .before .before .before .before .before .before .before .rule4 .result) _ (c .before .before .before .before .before .before .before .before .rule4 .ensures) (c .before .before .before .before .before .before .before .if4 .left))
-    (holds (c .before .before .before .before .before .before .rule5 .result) _ (c .before .before .before .before .before .before .rule5 .ensures) (c .before .before .before .before .before .if5 .left))
-    (holds (c .before .before .before .rule6 .result) _ (c .before .before .before .rule6 .ensures) (c .before .before .if6 .left))
-    (fails (c .before .rule7 .result) _ (c .before .rule7 .ensures) (c .if7 .taken))
+    let i7 = c in let r7 = i7 .before in let i6 = r7 .before in let r6 = i6 .before in let i5 = r6 .before .before .before in let r5 = i5 .before in let i4 = r5 .before in
+    let r4 = i4 .before in let i3 = r4 .before .before .before in let r3 = i3 .before in let i2 = r3 .before in let r2 = i2 .before in let i1 = r2 .before in let r1 = i1 .before in
+    low-7 _ _ (holds (r1 .rule1 .result) _ (r1 .rule1 .ensures) (i1 .if1 .left)) (holds (r2 .rule2 .result) _ (r2 .rule2 .ensures) (i2 .if2 .left))
+    (holds (r3 .rule3 .result) _ (r3 .rule3 .ensures) (i3 .if3 .left)) (holds (r4 .rule4 .result) _ (r4 .rule4 .ensures .0) (i4 .if4 .left))
+    (holds (r5 .rule5 .result) _ (r5 .rule5 .ensures) (i5 .if5 .left)) (holds (r6 .rule6 .result) _ (r6 .rule6 .ensures) (i6 .if6 .left))
+    (fails (r7 .rule7 .result) _ (r7 .rule7 .ensures) (i7 .if7 .taken))
 
 judge-held-requires : tie.Need-judge-held-requires
-judge-held-requires c κs = (
-  c .before .before .before .before .before .before .before .before .before .before .before .before .before .before .before .before .pre,
-  search needs,
-  record {
-    r1 = (holds (c .before .before .before .before .before .before .before .before .before .before .before .before .before .before .rule1 .result) _ (c .before .before .before .before .before .before .before .before .before .before .before .before .before .before .rule1 .ensures) (c .before .before .before .before .before .before .before .before .before .before .before .before .before .if1 .left));
-    r2 = (holds (c .before .before .before .before .before .before .before .before .before .before .before .before .rule2 .result) _ (c .before .before .before .before .before .before .before .before .before .before .before .before .rule2 .ensures) (c .before .before .before .before .before .before .before .before .before .before .before .if2 .left));
-    r3 = (holds (c .before .before .before .before .before .before .before .before .before .before .rule3 .result) _ (c .before .before .before .before .before .before .before .before .before .before .rule3 .ensures) (c .before .before .before .before .before .before .before .before .before .if3 .left));
-    r4 = (holds (c .before .before .before .before .before .before .before .before .rule4 .result) _ (c .before .before .before .before .before .before .before .before .rule4 .ensures) (c .before .before .before .before .before .before .before .if4 .left));
-    r5 = (holds (c .before .before .before .before .before .before .rule5 .result) _ (c .before .before .before .before .before .before .rule5 .ensures) (c .before .before .before .before .before .if5 .left));
-    r6 = (holds (c .before .before .before .rule6 .result) _ (c .before .before .before .rule6 .ensures) (c .before .before .if6 .left));
-    r7 = (holds (c .before .rule7 .result) _ (c .before .rule7 .ensures) (c .if7 .left));
-  },
-  c .before .before .before .before .object-ends .ensures,
-)
+judge-held-requires c κs =
+    let i7 = c in let r7 = i7 .before in let i6 = r7 .before in let r6 = i6 .before in let o = r6 .before .before in let i5 = o .before in let r5 = i5 .before in
+    let i4 = r5 .before in let r4 = i4 .before in let i3 = r4 .before .before .before in let r3 = i3 .before in let i2 = r3 .before in let r2 = i2 .before in let i1 = r2 .before in
+    let r1 = i1 .before in let s = r1 .before .before in (
+      s .pre,
+      search needs,
+      record {
+        r1 = holds (r1 .rule1 .result) _ (r1 .rule1 .ensures) (i1 .if1 .left);
+        r2 = holds (r2 .rule2 .result) _ (r2 .rule2 .ensures) (i2 .if2 .left);
+        r3 = holds (r3 .rule3 .result) _ (r3 .rule3 .ensures) (i3 .if3 .left);
+        r4 = holds (r4 .rule4 .result) _ (r4 .rule4 .ensures .0) (i4 .if4 .left);
+        r5 = holds (r5 .rule5 .result) _ (r5 .rule5 .ensures) (i5 .if5 .left);
+        r6 = holds (r6 .rule6 .result) _ (r6 .rule6 .ensures) (i6 .if6 .left);
+        r7 = holds (r7 .rule7 .result) _ (r7 .rule7 .ensures) (i7 .if7 .left);
+      },
+      o .object-ends .ensures,
+    )
 
 returns-8 : tie.Need-returns-8
 returns-8 c = late-judged _ _ (judge-held-requires (c .before) (c .judge-held .lifetimes) .2) (c .judge-held .result) (c .judge-held .ensures)
@@ -136,6 +134,7 @@ judge-spec =
     returns-2
     rule3-requires
     returns-3
+    room-requires
     rule4-requires
     returns-4
     rule5-requires

@@ -29,23 +29,19 @@ returns c =
     rule6-wrong (s .args .img .now) (f .result) (p .result) (s .args .ends) (s .pre .4) (f .ensures .0) (p .ensures .0)
     (fails (c .before .files-ok .result) _ (c .before .files-ok .ensures) (c .if1 .taken))
 
-room-requires : tie.Need-room-requires
-room-requires c κs = search needs
-
 owners-requires : tie.Need-owners-requires
 owners-requires c κs = search needs
 
 all-apart-requires : tie.Need-all-apart-requires
 all-apart-requires c κs =
-    let s = c .before .before .before .before .before .before .before .before in let f = c .before .before .before .before .before .before .flags-at in let p = c .before .before .before .before .before .page-at in
-    (objects-reached _ (omega arith) (s .pre .1) (s .pre .3) (f .result) (p .result) (f .ensures .0) (p .ensures .0), c .owners .ensures .0, c .before .before .room .ensures)
+    let p = c .before .before .before .before in let f = p .before in let s = f .before .before in
+    (objects-reached _ (omega arith) (s .pre .1) (s .pre .3) (f .flags-at .result) (p .page-at .result) (f .flags-at .ensures .0) (p .page-at .ensures .0), c .owners .ensures .0, s .pre .5)
 
 returns-2 : tie.Need-returns-2
 returns-2 c =
-    let s = c .before .before .before .before .before .before .before .before .before in let f = c .before .before .before .before .before .before .before .flags-at in let p = c .before .before .before .before .before .before .page-at in
-    let w = c .before .owners in let o = c .before .before .before .before .before .files-ok in
-    rule6-right (s .args .img .now) (f .result) (p .result) (s .args .ends) (s .pre .4) (f .ensures .0) (p .ensures .0) (w .result) (w .ensures .0) (w .ensures .1) (c .all-apart .result)
-    (holds (o .result) _ (o .ensures) (c .before .before .before .before .if1 .left)) (c .all-apart .ensures)
+    let w = c .before in let i = w .before .before in let o = i .before in let p = o .before in let f = p .before in let s = f .before .before in
+    rule6-right (s .args .img .now) (f .flags-at .result) (p .page-at .result) (s .args .ends) (s .pre .4) (f .flags-at .ensures .0) (p .page-at .ensures .0) (w .owners .result) (w .owners .ensures .0) (w .owners .ensures .1)
+    (c .all-apart .result) (holds (o .files-ok .result) _ (o .files-ok .ensures) (i .if1 .left)) (c .all-apart .ensures)
 
 pub rule6-spec : {M : Type 1} → statement M
 rule6-spec =
@@ -56,7 +52,6 @@ rule6-spec =
     cast-top
     files-ok-requires
     returns
-    room-requires
     owners-requires
     all-apart-requires
     returns-2)

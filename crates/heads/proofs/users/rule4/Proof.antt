@@ -14,7 +14,7 @@ users-ok-requires : tie.Need-users-ok-requires
 users-ok-requires c κs = let s = c .before in users-reach _ (omega arith) (s .pre .1) (s .pre .2)
 
 returns : tie.Need-returns
-returns c = λ r. fails (c .before .users-ok .result) _ (c .before .users-ok .ensures) (c .if1 .taken) (rule4-users _ r)
+returns c = ((λ r. fails (c .before .users-ok .result) _ (c .before .users-ok .ensures) (c .if1 .taken) (rule4-users _ r)), λ e. c .before .before .before .pre .3)
 
 flags-at-requires : tie.Need-flags-at-requires
 flags-at-requires c κs = search needs
@@ -25,17 +25,18 @@ page-at-requires c κs = search needs
 cast-top : tie.Need-cast-top
 cast-top c = search needs
 
-room-requires : tie.Need-room-requires
-room-requires c κs = search needs
-
 apart-requires : tie.Need-apart-requires
-apart-requires c κs = let s = c .before .before .before .before .before .before .before in (users-reached _ (omega arith) (s .pre .1) (s .pre .2) (c .before .before .before .flags-at .result) (c .before .before .page-at .result) (c .before .before .before .flags-at .ensures .0) (c .before .before .page-at .ensures .0), omega arith, omega arith, omega arith, c .before .room .ensures)
+apart-requires c κs =
+    let p = c .before in let f = p .before in let s = f .before .before .before .before in
+    (users-reached _ (omega arith) (s .pre .1) (s .pre .2) (f .flags-at .result) (p .page-at .result) (f .flags-at .ensures .0) (p .page-at .ensures .0), omega arith, omega arith, omega arith, s .pre .3)
 
 returns-2 : tie.Need-returns-2
 returns-2 c =
-    let v = vol (c .before .before .before .before .before .before .before .before .args .img .now) in
-    rule4-by _ (c .apart .result) (holds (c .before .before .before .before .before .before .users-ok .result) _ (c .before .before .before .before .before .before .users-ok .ensures) (c .before .before .before .before .before .if1 .left))
-    (subst (λ (E : Table). Decides (c .apart .result) (Apart E 8 0 256)) (users-table v (c .before .before .before .before .flags-at .result) (c .before .before .before .page-at .result) (c .before .before .before .before .flags-at .ensures .0) (c .before .before .before .page-at .ensures .0)) (c .apart .ensures .0))
+    let p = c .before .before in let f = p .before in let i = f .before in let o = i .before in let s = o .before .before in let v = vol (s .args .img .now) in (
+      rule4-by _ (c .apart .result) (holds (o .users-ok .result) _ (o .users-ok .ensures) (i .if1 .left))
+          (subst (λ (E : Table). Decides (c .apart .result) (Apart E 8 0 256)) (users-table v (f .flags-at .result) (p .page-at .result) (f .flags-at .ensures .0) (p .page-at .ensures .0)) (c .apart .ensures .0)),
+      c .apart .ensures .1,
+    )
 
 pub rule4-spec : {M : Type 1} → statement M
 rule4-spec =
@@ -46,6 +47,5 @@ rule4-spec =
     flags-at-requires
     page-at-requires
     cast-top
-    room-requires
     apart-requires
     returns-2)

@@ -17,7 +17,7 @@ returns c = search needs
 returns-2 : tie.Need-returns-2
 returns-2 c =
     let a = c .before .before .before .args in
-    tested-no (a .img .now) (Filled (pages (a .img .now)) (vol (a .img .now)) 1 (a .b) (a .n)) _ (λ f. omega (arith, filled-top _ (vol (a .img .now)) (a .n) (omega arith) 1 (a .b) f .1))
+    tested-no (Filled (pages (a .img .now)) (vol (a .img .now)) 1 (a .b) (a .n)) _ (λ f. omega (arith, filled-top _ (vol (a .img .now)) (a .n) (omega arith) 1 (a .b) f .1))
 
 mark-requires : tie.Need-mark-requires
 mark-requires c κs = search needs
@@ -25,7 +25,7 @@ mark-requires c κs = search needs
 returns-3 : tie.Need-returns-3
 returns-3 c =
     let s = c .before .before .before .before .before .before in let a = s .args in
-    once-old (a .img .now) (a .b) (a .n) (omega arith) (a .seen .now) _ (c .before .mark .result) (s .pre .0 .known) (c .before .mark .ensures) (c .if3 .taken)
+    once-old (a .img .now) (a .b) (a .n) (omega arith) (a .seen .now) _ (c .before .mark .result) (s .pre .0 .memory) (c .before .mark .ensures) (c .if3 .taken)
 
 index-ok-requires-2 : tie.Need-index-ok-requires-2
 index-ok-requires-2 c κs = search needs
@@ -33,7 +33,7 @@ index-ok-requires-2 c κs = search needs
 returns-4 : tie.Need-returns-4
 returns-4 c =
     let s = c .before .before .before .before .before .before .before in let a = s .args in
-    once-new (a .img .now) (a .b) (a .n) (omega arith) (a .seen .now) _ (c .before .before .mark .result) (s .pre .0 .known) (c .before .before .mark .ensures) (c .index-ok2 .result) (c .index-ok2 .ensures)
+    once-new (a .img .now) (a .b) (a .n) (omega arith) (a .seen .now) _ (c .before .before .mark .result) (s .pre .0 .memory) (c .before .before .mark .ensures) (c .index-ok2 .result) (c .index-ok2 .ensures)
 
 pub index-once-spec : {M : Type 1} → statement M
 index-once-spec =

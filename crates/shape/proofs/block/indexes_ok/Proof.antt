@@ -12,13 +12,13 @@ use Rattle.shape.proofs.block.indexes_ok.Statement.{statement}
 use Rattle.shape.proofs.block.indexes_ok.Tie as tie
 
 abbrev Inv-loop : tie.InvT-loop
-Inv-loop img total seen₀ block n m k₀ seen k = (k ≤ m) × Known (pages img) (vol img) seen × Indexes (pages img) (vol img) block n k
+Inv-loop img total seen₀ block n m k₀ seen k = (k ≤ m) × Known img seen × Indexes (pages img) (vol img) block n k
 
 abbrev μ-loop : tie.MeasureT-loop
 μ-loop img total seen₀ block n m k₀ seen k = m - k
 
 loop-holds : tie.Need-loop-holds Inv-loop μ-loop
-loop-holds c = (omega arith, c .before .before .pre .0 .known, below-none _)
+loop-holds c = (omega arith, c .before .before .pre .0 .memory, below-none _)
 
 mul-dword : tie.Need-mul-dword Inv-loop μ-loop
 mul-dword c = omega arith
@@ -35,14 +35,14 @@ share-requires c κs = omega arith
 index-once-requires : tie.Need-index-once-requires Inv-loop μ-loop
 index-once-requires c κs =
     let s = c .before .before .before .before .before .before .before in
-    (record { whole = s .pre .0 .whole; count = s .pre .0 .count; known = c .before .before .before .before .loop .inv .1 }, omega arith, omega arith)
+    (record { whole = s .pre .0 .whole; count = s .pre .0 .count; memory = c .before .before .before .before .loop .inv .1 }, omega arith, omega arith)
 
 returns : tie.Need-returns Inv-loop μ-loop
 returns c =
     let l = c .before .before .before .before .before .before .loop in let a = c .before .before .before .before .before .before .before .before .before .args in let P = pages (a .img .now) in let v = vol (a .img .now) in
     let x = pointer-read (a .block .now) (l .k) _ (c .before .before .before .dword .ensures .0) in let y = c .before .before .share .ensures .0 in
-    tested-no (a .img .now) (Indexes P v (a .block .now) (a .n) (a .m)) _ (λ all.
-    failed _ _ _ (c .before .index-once .result) (c .before .index-once .ensures) (c .if1 .taken) (subst₂ (λ (p q : ℕ). Filled P v 1 p q) (sym x) (sym y) (all (l .k) (omega arith))))
+    tested-no (Indexes P v (a .block .now) (a .n) (a .m)) _ (λ all.
+    failed _ _ (c .before .index-once .result) (c .before .index-once .ensures) (c .if1 .taken) (subst₂ (λ (p q : ℕ). Filled P v 1 p q) (sym x) (sym y) (all (l .k) (omega arith))))
 
 add-k : tie.Need-add-k Inv-loop μ-loop
 add-k c = omega arith
@@ -54,13 +54,13 @@ loop-again : tie.Need-loop-again Inv-loop μ-loop
 loop-again c =
     let l = c .before .before .before .before .before .before .loop in let a = c .before .before .before .before .before .before .before .before .before .args in let P = pages (a .img .now) in let v = vol (a .img .now) in
     let x = pointer-read (a .block .now) (l .k) _ (c .before .before .before .dword .ensures .0) in let y = c .before .before .share .ensures .0 in
-    let w = passed _ _ _ (c .before .index-once .result) (c .before .index-once .ensures) (c .if1 .left) in
+    let w = passed _ _ (c .before .index-once .result) (c .before .index-once .ensures) (c .if1 .left) in
     (omega arith, w .1, below-more _ (l .k) (l .inv .2) (subst₂ (λ (p q : ℕ). Filled P v 1 p q) x y (w .0)))
 
 returns-2 : tie.Need-returns-2 Inv-loop μ-loop
 returns-2 c =
     let l = c .before .loop in let a = c .before .before .before .before .args in
-    tested-yes (a .img .now) (Indexes (pages (a .img .now)) (vol (a .img .now)) (a .block .now) (a .n) (a .m)) _ (λ k h. l .inv .2 k (omega arith)) (l .inv .1)
+    tested-yes (Indexes (pages (a .img .now)) (vol (a .img .now)) (a .block .now) (a .n) (a .m)) _ (λ k h. l .inv .2 k (omega arith)) (l .inv .1)
 
 pub indexes-ok-spec : {M : Type 1} → statement M
 indexes-ok-spec =

@@ -21,7 +21,7 @@ bytes-ok-requires c κs = search needs
 returns : tie.Need-returns
 returns c =
     let a = c .before .before .before .before .before .args in let v = vol (a .img .now) in
-    tested-no _ _ _ (wrong-bytes (pages (a .img .now)) v (entryIn v (a .q) (a .e)) _ _ _ _ refl refl (c .before .before .before .entry-two .ensures .0) (c .before .before .entry-two2 .ensures .0)
+    tested-no _ _ (wrong-bytes (pages (a .img .now)) v (entryIn v (a .q) (a .e)) _ _ _ _ refl refl (c .before .before .before .entry-two .ensures .0) (c .before .before .entry-two2 .ensures .0)
     (fails (c .before .bytes-ok .result) _ (c .before .bytes-ok .ensures) (c .if1 .taken)))
 
 entry-flags-requires : tie.Need-entry-flags-requires
@@ -38,10 +38,10 @@ shape-ok-requires c κs = search needs
 
 returns-2 : tie.Need-returns-2
 returns-2 c =
-    let a = c .before .before .before .before .before .before .before .before .before .args in let v = vol (a .img .now) in
-    tested-as _ _ _ (c .shape-ok .result) _ (decides-shaped (pages (a .img .now)) v (entryIn v (a .q) (a .e)) _ _ _ _ (c .before .before .before .entry-flags .ensures .0) (c .before .before .entry-page .ensures .0)
-    (c .before .before .before .before .before .before .before .entry-two .ensures .0) (c .before .before .before .before .before .before .entry-two2 .ensures .0) (c .shape-ok .result)
-    (holds (c .before .before .before .before .before .bytes-ok .result) _ (c .before .before .before .before .before .bytes-ok .ensures) (c .before .before .before .before .if1 .left))) (c .shape-ok .ensures)
+    let a = c .before .before .before .before .before .before .before .before .before .before .args in let v = vol (a .img .now) in
+    tested-as _ _ (c .shape-ok .result) _ (decides-shaped (pages (a .img .now)) v (entryIn v (a .q) (a .e)) _ _ _ _ (c .before .before .before .before .entry-flags .ensures .0) (c .before .before .before .entry-page .ensures .0)
+    (c .before .before .before .before .before .before .before .before .entry-two .ensures .0) (c .before .before .before .before .before .before .before .entry-two2 .ensures .0) (c .shape-ok .result)
+    (holds (c .before .before .before .before .before .before .bytes-ok .result) _ (c .before .before .before .before .before .before .bytes-ok .ensures) (c .before .before .before .before .before .if1 .left))) (c .shape-ok .ensures)
 
 pub file-ok-spec : {M : Type 1} → statement M
 file-ok-spec =

@@ -17,7 +17,7 @@ index-once-requires c κs = search needs
 
 returns-3 : tie.Need-returns-3
 returns-3 c =
-    tested-as _ _ _ (c .index-once .result) _ (decides-iff (c .index-once .result) _ _ (λ h. (omega arith, omega arith, h .0, h .1)) (λ h. (h .2, h .3))) (c .index-once .ensures)
+    tested-as _ _ (c .index-once .result) _ (decides-iff (c .index-once .result) _ _ (λ h. (omega arith, omega arith, h .0, h .1)) (λ h. (h .2, h .3))) (c .index-once .ensures)
 
 pub indexed-ok-spec : {M : Type 1} → statement M
 indexed-ok-spec = tie.close (tie.spec returns returns-2 index-once-requires returns-3)

@@ -11,12 +11,12 @@ returns c = search needs
 returns-2 : tie.Need-returns-2
 returns-2 c = search needs
 
-subindex-ok-requires : tie.Need-subindex-ok-requires
-subindex-ok-requires c κs = search needs
+subindex-once-requires : tie.Need-subindex-once-requires
+subindex-once-requires c κs = search needs
 
 returns-3 : tie.Need-returns-3
 returns-3 c =
-    tested-as _ _ _ (c .subindex-ok .result) _ (decides-iff (c .subindex-ok .result) _ _ (λ h. (omega arith, omega arith, h .0, h .1)) (λ h. (h .2, h .3))) (c .subindex-ok .ensures)
+    tested-as _ _ (c .subindex-once .result) _ (decides-iff (c .subindex-once .result) _ _ (λ h. (omega arith, omega arith, h .0, h .1)) (λ h. (h .2, h .3))) (c .subindex-once .ensures)
 
 pub subindexed-ok-spec : {M : Type 1} → statement M
-subindexed-ok-spec = tie.close (tie.spec returns returns-2 subindex-ok-requires returns-3)
+subindexed-ok-spec = tie.close (tie.spec returns returns-2 subindex-once-requires returns-3)

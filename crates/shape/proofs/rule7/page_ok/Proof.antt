@@ -2,7 +2,7 @@ use Prim.Native.Nat.{_+_, _-_, _*_, _≤_}
 use Rattle.book.specs.Image.{pages}
 use Rattle.book.specs.Words.{vol}
 use Rattle.tree.specs.Reach.{entryIn}
-use Rattle.shape.specs.Seen.{Known}
+use Rattle.shape.specs.Seen.{Recalled}
 use Rattle.shape.specs.Shapes.{EntryRight, FilesRight}
 use Rattle.shape.proofs.Memory.{tested-no, tested-yes, passed, failed}
 use Rattle.shape.proofs.Objects.{right-at, at-right, right-none, right-more}
@@ -11,28 +11,28 @@ use Rattle.shape.proofs.rule7.page_ok.Statement.{statement}
 use Rattle.shape.proofs.rule7.page_ok.Tie as tie
 
 abbrev Inv-loop : tie.InvT-loop
-Inv-loop img total seen₀ q n e k₀ seen k = (k ≤ 32) × Known (pages img) (vol img) seen × FilesRight (pages img) (vol img) (32 * n) (32 * n + k)
+Inv-loop img total seen₀ trees₀ q n e k₀ seen trees k = (k ≤ 32) × Recalled img seen trees × FilesRight (pages img) (vol img) (32 * n) (32 * n + k)
 
 abbrev μ-loop : tie.MeasureT-loop
-μ-loop img total seen₀ q n e k₀ seen k = 32 - k
+μ-loop img total seen₀ trees₀ q n e k₀ seen trees k = 32 - k
 
 mul-e : tie.Need-mul-e Inv-loop μ-loop
 mul-e c = omega arith
 
 loop-holds : tie.Need-loop-holds Inv-loop μ-loop
-loop-holds c = (omega arith, c .before .pre .0 .known, right-none _ _ _)
+loop-holds c = (omega arith, c .before .pre .0 .memory, right-none _ _ _)
 
 add-entry-ok : tie.Need-add-entry-ok Inv-loop μ-loop
 add-entry-ok c = omega arith
 
 entry-ok-requires : tie.Need-entry-ok-requires Inv-loop μ-loop
 entry-ok-requires c κs =
-    let s = c .before .before .before .before in (record { whole = s .pre .0 .whole; count = s .pre .0 .count; known = c .before .before .loop .inv .1 }, omega arith)
+    let s = c .before .before .before .before .before in (record { whole = s .pre .0 .whole; count = s .pre .0 .count; memory = c .before .before .before .loop .inv .1 }, omega arith)
 
 returns : tie.Need-returns Inv-loop μ-loop
 returns c =
-    let l = c .before .before .before .before .loop in let s = c .before .before .before .before .before .before in let a = s .args in let v = vol (a .img .now) in let P = pages (a .img .now) in
-    tested-no _ _ _ (λ all. failed (a .img .now) (EntryRight P v (entryIn v (a .q) (32 * a .n + l .k))) _ (c .before .entry-ok .result) (c .before .entry-ok .ensures) (c .if1 .taken) (at-right v (a .n) (l .k) (a .q) (omega arith) (s .pre .3) P (all (32 * a .n + l .k) (omega arith) (omega arith))))
+    let l = c .before .before .before .before .before .loop in let s = c .before .before .before .before .before .before .before in let a = s .args in let v = vol (a .img .now) in let P = pages (a .img .now) in
+    tested-no _ _ (λ all. failed (EntryRight P v (entryIn v (a .q) (32 * a .n + l .k))) _ (c .before .entry-ok .result) (c .before .entry-ok .ensures) (c .if1 .taken) (at-right v (a .n) (l .k) (a .q) (omega arith) (s .pre .3) P (all (32 * a .n + l .k) (omega arith) (omega arith))))
 
 add-k : tie.Need-add-k Inv-loop μ-loop
 add-k c = omega arith
@@ -42,12 +42,12 @@ loop-less c = omega arith
 
 loop-again : tie.Need-loop-again Inv-loop μ-loop
 loop-again c =
-    let l = c .before .before .before .before .loop in let s = c .before .before .before .before .before .before in let a = s .args in let v = vol (a .img .now) in let P = pages (a .img .now) in
-    let w = passed (a .img .now) (EntryRight P v (entryIn v (a .q) (32 * a .n + l .k))) _ (c .before .entry-ok .result) (c .before .entry-ok .ensures) (c .if1 .left) in
+    let l = c .before .before .before .before .before .loop in let s = c .before .before .before .before .before .before .before in let a = s .args in let v = vol (a .img .now) in let P = pages (a .img .now) in
+    let w = passed (EntryRight P v (entryIn v (a .q) (32 * a .n + l .k))) _ (c .before .entry-ok .result) (c .before .entry-ok .ensures) (c .if1 .left) in
     (omega arith, w .1, right-more P v (32 * a .n) (l .k) (l .inv .2) (right-at v (a .n) (l .k) (a .q) (omega arith) (s .pre .3) P (w .0)))
 
 returns-2 : tie.Need-returns-2 Inv-loop μ-loop
-returns-2 c = tested-yes _ _ _ (λ e h. c .before .loop .inv .2 e (omega arith)) (c .before .loop .inv .1)
+returns-2 c = tested-yes _ _ (λ e h. c .before .loop .inv .2 e (omega arith)) (c .before .loop .inv .1)
 
 pub page-ok-spec : {M : Type 1} → statement M
 page-ok-spec =

@@ -1,20 +1,19 @@
 use Prim.Native.Nat.{_-_, _+_, _*_, _≤_}
+use borrow.Author.Tests.{not-false}
 use Rattle.book.specs.Image.{pages}
 use Rattle.book.specs.Words.{vol}
-use Rattle.shape.specs.Seen.{Known}
 use Rattle.shape.specs.Shapes.{FilesRight}
-use Rattle.shape.proofs.Memory.{known-none, passed, failed}
-use Rattle.shape.proofs.Objects.{objects-at, right-none, right-page, right-all, all-right}
+use Rattle.shape.proofs.Objects.{objects-at, right-none, right-page, right-all}
 use native.Mathlib.Omega.{arith}
 use borrow.Author.Needs.{needs}
 use Rattle.shape.proofs.rule7.rule7.Statement.{statement}
 use Rattle.shape.proofs.rule7.rule7.Tie as tie
 
 abbrev Inv-loop : tie.InvT-loop
-Inv-loop img total ends flags top seen₀ n₀ seen n = (n ≤ ends) × Known (pages img) (vol img) seen × FilesRight (pages img) (vol img) 0 (32 * n)
+Inv-loop img total ends flags top n₀ n = (n ≤ ends) × FilesRight (pages img) (vol img) 0 (32 * n)
 
 abbrev μ-loop : tie.MeasureT-loop
-μ-loop img total ends flags top seen₀ n₀ seen n = ends - n
+μ-loop img total ends flags top n₀ n = ends - n
 
 flags-at-requires : tie.Need-flags-at-requires Inv-loop μ-loop
 flags-at-requires c κs = omega arith
@@ -25,24 +24,24 @@ page-at-requires c κs = omega arith
 cast-top : tie.Need-cast-top Inv-loop μ-loop
 cast-top c = omega arith
 
-no-marks-requires : tie.Need-no-marks-requires Inv-loop μ-loop
-no-marks-requires c κs = search needs
-
 loop-holds : tie.Need-loop-holds Inv-loop μ-loop
-loop-holds c = (omega arith, known-none _ _ _ (c .no-marks .ensures), right-none _ _ 0)
+loop-holds c = (omega arith, right-none _ _ 0)
 
-position-ok-requires : tie.Need-position-ok-requires Inv-loop μ-loop
-position-ok-requires c κs =
-    let s = c .before .before .before .before .before .before .before in (
-      record { whole = s .pre .0; count = s .pre .1; known = c .before .before .loop .inv .1 },
-      objects-at (s .args .img .now) _ _ (s .pre .0) (s .pre .2) (s .pre .3) (c .before .before .before .before .before .flags-at .ensures .0) (c .before .before .before .before .page-at .ensures .0),
+plain-position-requires : tie.Need-plain-position-requires Inv-loop μ-loop
+plain-position-requires c κs =
+    let s = c .before .before .before .before .before in (
+      s .pre .0,
+      s .pre .1,
+      objects-at (s .args .img .now) _ _ (s .pre .0) (s .pre .2) (s .pre .3) (c .before .before .before .flags-at .ensures .0) (c .before .before .page-at .ensures .0),
       omega (arith, s .pre .4 .most),
     )
 
+rest-ok-requires : tie.Need-rest-ok-requires Inv-loop μ-loop
+rest-ok-requires c κs =
+    let l = c .before .before .before .loop in let s = c .before .before .before .before .before .before .before in (s .pre .0, s .pre .1, s .pre .2, s .pre .3, s .pre .4, l .inv .0, l .inv .1)
+
 returns : tie.Need-returns Inv-loop μ-loop
-returns c = λ r.
-    let l = c .before .before .before .before .loop in let s = c .before .before .before .before .before .before .before .before .before in let v = vol (s .args .img .now) in let P = pages (s .args .img .now) in
-    failed (s .args .img .now) (FilesRight P v (32 * l .n) (32 * l .n + 32)) _ (c .before .position-ok .result) (c .before .position-ok .ensures) (c .if1 .taken) (all-right P v r (32 * l .n) (32 * l .n + 32) (omega (arith, s .pre .4 .most)))
+returns c = search needs
 
 add-n : tie.Need-add-n Inv-loop μ-loop
 add-n c = omega arith
@@ -52,14 +51,13 @@ loop-less c = omega arith
 
 loop-again : tie.Need-loop-again Inv-loop μ-loop
 loop-again c =
-    let l = c .before .before .before .before .loop in let a = c .before .before .before .before .before .before .before .before .before .args in let v = vol (a .img .now) in let P = pages (a .img .now) in
-    let w = passed (a .img .now) (FilesRight P v (32 * l .n) (32 * l .n + 32)) _ (c .before .position-ok .result) (c .before .position-ok .ensures) (c .if1 .left) in
-    (omega arith, w .1, right-page P v (l .n) (l .inv .2) (w .0))
+    let l = c .before .before .before .loop in let a = c .before .before .before .before .before .before .before .args in
+    (omega arith, right-page (pages (a .img .now)) (vol (a .img .now)) (l .n) (l .inv .1) (c .before .plain-position .ensures (not-false (c .before .plain-position .result) (c .if1 .left))))
 
 returns-2 : tie.Need-returns-2 Inv-loop μ-loop
 returns-2 c =
-    let s = c .before .before .before .before .before .before in
-    right-all (s .args .img .now) (s .args .ends) (s .pre .4) (λ e h. c .before .loop .inv .2 e (omega arith))
+    let s = c .before .before .before .before .before in
+    right-all (s .args .img .now) (s .args .ends) (s .pre .4) (λ e h. c .before .loop .inv .1 e (omega arith))
 
 pub rule7-spec : {M : Type 1} → statement M
 rule7-spec =
@@ -70,9 +68,9 @@ rule7-spec =
     flags-at-requires
     page-at-requires
     cast-top
-    no-marks-requires
     loop-holds
-    position-ok-requires
+    plain-position-requires
+    rest-ok-requires
     returns
     add-n
     loop-less

@@ -1,0 +1,4 @@
+pub mod Found
+pub mod Low
+pub mod Tell
+pub mod Rows

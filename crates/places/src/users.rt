@@ -1,0 +1,101 @@
+// The places of rule 4: the used users.
+use crate::Fault;
+use crate::entry::place_of;
+use crate::named::name_ok;
+use page::USERS;
+use page::entry::GIVEN;
+use page::entry::INDEX;
+use page::entry::NAME;
+use page::entry::USED;
+use page::read::flags_at;
+use page::read::page_at;
+use tree::entry::entry_two;
+use tree::entry::entry_used;
+use tree::entry::entry_word;
+use tree::root::root_page;
+ghost use mathlib.Core.Path.{_≡_};
+ghost use Prim.Native.Nat.{_≤_, _<_};
+ghost use Rattle.book.specs.Words.{vol, two};
+ghost use Rattle.book.specs.Decides.{Decides};
+ghost use Rattle.book.specs.Entries.{user, used};
+ghost use Rattle.book.specs.Image.{pages, Whole};
+ghost use Rattle.book.specs.Rules.{Rule2, Rule3};
+ghost use Rattle.book.specs.Spots.{when};
+ghost use Rattle.tree.specs.Reach.{entryIn};
+ghost use Rattle.places.specs.Found.{Finds, Users, UserAt};
+ghost use Rattle.book.specs.Places.{userSpots, spots4};
+
+// Whether user u on page q uses no more than he was given.
+fn within(img: &[u16], q: usize, u: usize) -> bool
+    requires { ⌜ q < pages (now img) ⌝ }
+    ensures { λ r. ⌜ Decides r (two (entryIn (vol (now (img .entry))) q u) 16 ≤ two (entryIn (vol (now (img .entry))) q u) 14) ⌝ }
+{
+    if entry_two(img, q, u, GIVEN) < entry_two(img, q, u, USED) {
+        return false;
+    }
+    true
+}
+
+// Whether user u on page q has his own index.
+fn own(img: &[u16], q: usize, u: usize) -> bool
+    requires { ⌜ q < pages (now img) ⌝ }
+    ensures { λ r. ⌜ Decides r (entryIn (vol (now (img .entry))) q u 18 ≡ u) ⌝ }
+{
+    if entry_word(img, q, u, INDEX) as usize != u {
+        return false;
+    }
+    true
+}
+
+// The first of the places of user u, who is used and lies on page q of the file with these flags and top page.
+fn used_user(img: &[u16], flags: u16, top: usize, q: usize, u: usize) -> Fault
+    requires { ⌜ UserAt (now img) flags top q u ⌝ }
+    ensures { λ r. ⌜ Finds (userSpots (vol (now (img .entry))) u) r ⌝ }
+{
+    if !name_ok(img, flags, top, 8, 0, q, u) {
+        return Fault::At {
+            place: place_of(q, u, NAME),
+        };
+    }
+    if !within(img, q, u) {
+        return Fault::At {
+            place: place_of(q, u, USED),
+        };
+    }
+    if !own(img, q, u) {
+        return Fault::At {
+            place: place_of(q, u, INDEX),
+        };
+    }
+    Fault::Nowhere
+}
+
+// The same of any user: an unused one has no places.
+fn any_user(img: &[u16], flags: u16, top: usize, u: usize) -> Fault
+    requires { ⌜ Users (now img) flags top × (u < 256) ⌝ }
+    ensures { λ r. ⌜ Finds (when (used (user (vol (now (img .entry))) u)) (userSpots (vol (now (img .entry))) u)) r ⌝ }
+{
+    let q = root_page(img, flags, top, 0, u / 32);
+    if !entry_used(img, q, u) {
+        return Fault::Nowhere;
+    }
+    used_user(img, flags, top, q, u)
+}
+
+// The first place that breaks rule 4.
+pub fn first4(img: &[u16]) -> Fault
+    requires { ⌜ Whole (now img) × Rule2 (pages (now img)) (vol (now img)) × Rule3 (pages (now img)) (vol (now img)) ⌝ }
+    ensures { λ r. ⌜ Finds (spots4 (vol (now (img .entry)))) r ⌝ }
+{
+    let flags = flags_at(img, 0, USERS);
+    let top = page_at(img, 0, USERS) as usize;
+    let mut u: usize = 0;
+    while u < 256 {
+        let found = any_user(img, flags, top, u);
+        if let Fault::At { place } = found {
+            return Fault::At { place };
+        }
+        u += 1;
+    }
+    Fault::Nowhere
+}
