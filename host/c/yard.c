@@ -1,5 +1,6 @@
 /* Calls every function of nord.h with known results: the yard examples of document 01 that a program runs, by single calls and by one run,
- * and beside them each number, each rule and each kind of holder once. One line for each case; the exit status is 1 where one is wrong. */
+ * and beside them each number, each rule with its place and each kind of holder once. One line for each case; the exit status is 1 where one
+ * is wrong. */
 #include <nord.h>
 
 #include <stdio.h>
@@ -23,36 +24,79 @@ static void told(const char *what, int right)
     printf("%s  %s\n", right ? "ok   " : "WRONG", what);
 }
 
-/* An answer of three numbers. */
-static void is(const char *what, nord_reply got, uint32_t number, uint32_t rule, uint32_t value)
+/* The numbers of an answer, in the order of its struct. */
+static void numbers(const char *who, const uint32_t *of, size_t count)
 {
-    int right = got.number == number && got.rule == rule && got.value == value;
-    told(what, right);
-    if (!right)
-        printf("       %u %u %u, and %u %u %u is right\n", (unsigned)got.number, (unsigned)got.rule, (unsigned)got.value, (unsigned)number,
-               (unsigned)rule, (unsigned)value);
+    size_t n;
+    printf("       %s:", who);
+    for (n = 0; n < count; n++)
+        printf(" %u", (unsigned)of[n]);
+    printf("\n");
+}
+
+/* An answer is right in all of its numbers. */
+static void same(const char *what, const uint32_t *got, const uint32_t *right, size_t count)
+{
+    int all = memcmp(got, right, count * sizeof *got) == 0;
+    told(what, all);
+    if (!all) {
+        numbers("answered", got, count);
+        numbers("right is", right, count);
+    }
+}
+
+/* Answers are nothing but numbers. */
+static void is(const char *what, nord_reply got, nord_reply right)
+{
+    same(what, (const uint32_t *)&got, (const uint32_t *)&right, NORD_REPLIES(1));
 }
 
 static void done(const char *what, nord_reply got, uint32_t value)
 {
-    is(what, got, NORD_DONE, 0, value);
+    nord_reply right = {.number = NORD_DONE, .value = value};
+    is(what, got, right);
 }
 
 /* A refusal, which has no other number. */
 static void refused(const char *what, nord_reply got, uint32_t number)
 {
-    is(what, got, number, 0, 0);
+    nord_reply right = {.number = number};
+    is(what, got, right);
 }
 
-/* A holder, all six numbers. */
-static void holds(const char *what, nord_holder got, uint32_t kind, uint32_t user, uint32_t file, uint32_t position)
+/* A rule that is broken at a place. */
+static void broken(const char *what, nord_reply got, uint32_t rule, uint32_t page, uint32_t word)
 {
-    int right = got.number == NORD_DONE && got.rule == 0 && got.kind == kind;
-    right = right && got.user == user && got.file == file && got.position == position;
-    told(what, right);
-    if (!right)
-        printf("       number %u kind %u user %u file %u position %u\n", (unsigned)got.number, (unsigned)got.kind, (unsigned)got.user,
-               (unsigned)got.file, (unsigned)got.position);
+    nord_reply right = {.number = NORD_UNSOUND, .rule = rule, .place = {page, word}};
+    is(what, got, right);
+}
+
+/* A page that is held twice. */
+static void twice(const char *what, nord_reply got, uint32_t page, nord_holder first, nord_holder second)
+{
+    nord_reply right = {.number = NORD_UNSOUND, .rule = NORD_RULE_HOLDERS, .place = {page, 0}};
+    right.first = first;
+    right.second = second;
+    is(what, got, right);
+}
+
+/* What nord_who_holds answers has more numbers. */
+static void holder_is(const char *what, nord_holder_reply got, nord_holder_reply right)
+{
+    same(what, (const uint32_t *)&got, (const uint32_t *)&right, sizeof got / sizeof got.number);
+}
+
+static void holds(const char *what, nord_holder_reply got, uint32_t kind, uint32_t user, uint32_t file, uint32_t position)
+{
+    nord_holder_reply right = {.number = NORD_DONE, .holder = {kind, user, file, position}};
+    holder_is(what, got, right);
+}
+
+/* The holder's answer where an image is unsound, or an argument wrong. */
+static void holds_not(const char *what, nord_holder_reply got, uint32_t number, uint32_t rule, uint32_t page, uint32_t word)
+{
+    nord_holder_reply right = {.number = number, .rule = rule, .place = {page, word}};
+    holder_is(what, got, right);
 }
 
 /* A two-word number of the image, the more significant word first. */
@@ -181,8 +225,8 @@ static void refusals(uint16_t *img, size_t words)
     refused("take 2^32 + 1 pages: 2", nord_take(img, words, 0, WIDE + 1), NORD_ARGUMENT);
     refused("a run of 2^32 + 1 pages: 2", nord_create_contiguous(img, words, 0, TEXT("LONG"), TEXT(""), 0, WIDE + 1), NORD_ARGUMENT);
     refused("bit page 2^32 + 1: 2", nord_format(img, words, TEXT("YARD"), WIDE + 1), NORD_ARGUMENT);
-    told("page 2^32: 2", nord_who_holds(img, words, WIDE).number == NORD_ARGUMENT);
-    told("page 154: 2", nord_who_holds(img, words, words / PAGE).number == NORD_ARGUMENT);
+    holds_not("page 2^32: 2", nord_who_holds(img, words, WIDE), NORD_ARGUMENT, 0, 0, 0);
+    holds_not("page 154: 2", nord_who_holds(img, words, words / PAGE), NORD_ARGUMENT, 0, 0, 0);
     refused("bit page 154: 2", nord_format(img, words, TEXT("YARD"), 154), NORD_ARGUMENT);
     refused("a name of 17 bytes: 2", nord_create_user(img, words, TEXT("SEVENTEEN-LETTERS")), NORD_ARGUMENT);
     refused("user 1: 4", nord_give(img, words, 1, 1), NORD_MISSING);
@@ -199,7 +243,6 @@ static void refusals(uint16_t *img, size_t words)
 /* Everything back again. */
 static void way_back(uint16_t *img, size_t words)
 {
-    nord_holder holder;
     done("shrink", nord_shrink(img, words, 0, 0), 0);
     refused("shrink of an empty file: 6", nord_shrink(img, words, 0, 0), NORD_KIND);
     done("delete RUN", nord_delete_file(img, words, 0, 1), 0);
@@ -210,10 +253,28 @@ static void way_back(uint16_t *img, size_t words)
     told("unreserved 148", unreserved(img) == 148);
     done("check visits 6", nord_check(img, words), 6);
     img[1023]++;
-    is("a page too many unreserved: rule 10", nord_check(img, words), NORD_UNSOUND, NORD_RULE_COUNTS, 0);
-    holder = nord_who_holds(img, words, 0);
-    told("who holds page 0, then: 3, rule 10",
-         holder.number == NORD_UNSOUND && holder.rule == NORD_RULE_COUNTS && holder.kind == NORD_FREE && holder.position == 0);
+    broken("a page too many unreserved: rule 10", nord_check(img, words), NORD_RULE_COUNTS, 0, 1022);
+    holds_not("who holds page 0, then: 3, rule 10", nord_who_holds(img, words, 0), NORD_UNSOUND, NORD_RULE_COUNTS, 0, 1022);
+}
+
+/* The volume of 154 pages with its first user: user index 1, user page 2, object index 3, bit page 77. Each time one thing is wrong. */
+static void places(void)
+{
+    size_t words = 154 * PAGE;
+    uint16_t *img = blank(154);
+    nord_format_default(img, words, TEXT("YARD"));
+    nord_create_user(img, words, TEXT("DOCK"));
+    img[2 * PAGE + 17] = 1;
+    broken("one page used, none given: page 2, word 16", nord_check(img, words), NORD_RULE_USERS, 2, 16);
+    img[2 * PAGE + 17] = 0;
+    img[1023]++;
+    broken("unreserved one too many: page 0, word 1,022", nord_check(img, words), NORD_RULE_COUNTS, 0, 1022);
+    img[1023]--;
+    img[77 * PAGE + 6] = 1 << 4;
+    broken("the bit of page 100: page 77, word 6", nord_check(img, words), NORD_RULE_BITS, 77, 6);
+    img[77 * PAGE + 6] = 0;
+    done("nothing is wrong", nord_check(img, words), 5);
+    free(img);
 }
 
 /* The holders that small volumes lack: object subindex and a file's subindex block; and all 256 users. */
@@ -246,6 +307,9 @@ static void great_volume(void)
     free(img);
 }
 
+/* A holder that is none: free. */
+#define NOBODY {NORD_FREE, 0, 0, 0}
+
 /* Document 01's volume of 16 pages: user index 1, user page 2, object index 3, object page 4, data page 5, index block 6, bit page 8. */
 static uint16_t *yard16(void)
 {
@@ -259,35 +323,89 @@ static uint16_t *yard16(void)
     return img;
 }
 
-/* A word of that volume that breaks a rule, for each of them. */
+/* A word of that volume that breaks a rule, for each of them, and the place that is told. */
 static void rules(void)
 {
     static const struct {
         const char *what;
         size_t at;
         uint16_t value;
-        uint32_t rule;
-    } broken[] = {
-        {"no volume name", 1008, 0, NORD_RULE_VOLUME},
-        {"an object pointer with both flags", 1016, 0xC000, NORD_RULE_POINTERS},
-        {"slot 8 of the user index", 1 * PAGE + 17, 5, NORD_RULE_USER_INDEX},
-        {"user 0 says 1", 2 * PAGE + 18, 1, NORD_RULE_USERS},
-        {"an object page past the end", 3 * PAGE + 1, 16, NORD_RULE_OBJECT_BLOCKS},
-        {"an owner who is not there", 4 * PAGE + 16, 1, NORD_RULE_OBJECTS},
-        {"bytes of no whole page", 4 * PAGE + 29, 1, NORD_RULE_SHAPES},
-        {"the object page as a data page", 6 * PAGE + 1, 4, NORD_RULE_HOLDERS},
-        {"no bit set", 8 * PAGE, 0, NORD_RULE_BITS},
-        {"a page too many unreserved", 1023, 6, NORD_RULE_COUNTS},
+        nord_reply right;
+    } wrongs[] = {
+        {"no volume name", 1008, 0, {NORD_UNSOUND, NORD_RULE_VOLUME, 0, {0, 1008}, NOBODY, NOBODY}},
+        {"an object pointer with both flags", 1016, 0xC000, {NORD_UNSOUND, NORD_RULE_POINTERS, 0, {0, 1016}, NOBODY, NOBODY}},
+        {"slot 8 of the user index", 1 * PAGE + 17, 5, {NORD_UNSOUND, NORD_RULE_USER_INDEX, 0, {1, 16}, NOBODY, NOBODY}},
+        {"user 0 says 1", 2 * PAGE + 18, 1, {NORD_UNSOUND, NORD_RULE_USERS, 0, {2, 18}, NOBODY, NOBODY}},
+        {"an object page past the end", 3 * PAGE + 1, 16, {NORD_UNSOUND, NORD_RULE_OBJECT_BLOCKS, 0, {3, 0}, NOBODY, NOBODY}},
+        {"an owner who is not there", 4 * PAGE + 16, 1, {NORD_UNSOUND, NORD_RULE_OBJECTS, 0, {4, 16}, NOBODY, NOBODY}},
+        {"bytes of no whole page", 4 * PAGE + 29, 1, {NORD_UNSOUND, NORD_RULE_SHAPES, 0, {4, 28}, NOBODY, NOBODY}},
+        {"the object page as a data page", 6 * PAGE + 1, 4,
+         {NORD_UNSOUND, NORD_RULE_HOLDERS, 0, {4, 0}, {NORD_OBJECT_PAGE, 0, 0, 0}, {NORD_FILE_DATA, 0, 0, 0}}},
+        {"no bit set", 8 * PAGE, 0, {NORD_UNSOUND, NORD_RULE_BITS, 0, {8, 0}, NOBODY, NOBODY}},
+        {"a page too many unreserved", 1023, 6, {NORD_UNSOUND, NORD_RULE_COUNTS, 0, {0, 1022}, NOBODY, NOBODY}},
     };
     size_t words = 16 * PAGE, n;
     uint16_t *img = yard16();
-    for (n = 0; n < sizeof broken / sizeof broken[0]; n++) {
-        uint16_t kept = img[broken[n].at];
-        img[broken[n].at] = broken[n].value;
-        is(broken[n].what, nord_check(img, words), NORD_UNSOUND, broken[n].rule, 0);
-        img[broken[n].at] = kept;
+    for (n = 0; n < sizeof wrongs / sizeof wrongs[0]; n++) {
+        uint16_t kept = img[wrongs[n].at];
+        img[wrongs[n].at] = wrongs[n].value;
+        is(wrongs[n].what, nord_check(img, words), wrongs[n].right);
+        img[wrongs[n].at] = kept;
     }
     done("all put right again", nord_check(img, words), 8);
+    free(img);
+}
+
+/* That volume with a run of two pages, 14 and 15, as file 1: its pointer's page is word 63 of page 4. */
+static void held_twice(void)
+{
+    static const nord_holder index = {NORD_FILE_INDEX, 0, 0, 0}, data = {NORD_FILE_DATA, 0, 0, 0};
+    static const nord_holder run_0 = {NORD_FILE_DATA, 0, 1, 0}, run_1 = {NORD_FILE_DATA, 0, 1, 1};
+    size_t words = 16 * PAGE;
+    uint16_t *img = yard16();
+    done("a run of two pages", nord_create_contiguous(img, words, 0, TEXT("RUN"), TEXT(""), 0, 2), 1);
+    img[6 * PAGE + 1] = 15;
+    twice("page 15: data 0 of file 0, data 1 of file 1", nord_check(img, words), 15, data, run_1);
+    img[6 * PAGE + 1] = 5;
+    img[4 * PAGE + 63] = 6;
+    twice("page 6: an index block before a data page", nord_check(img, words), 6, index, run_0);
+    img[6 * PAGE + 1] = 6;
+    twice("page 6, held three times: the first two", nord_check(img, words), 6, index, data);
+    img[6 * PAGE + 1] = 5;
+    img[4 * PAGE + 63] = 5;
+    twice("pages 5 and 6: the lower", nord_check(img, words), 5, data, run_0);
+    twice("a call that changes says it too", nord_grow(img, words, 0, 0), 5, data, run_0);
+    free(img);
+}
+
+/* Each call that tests for it, format and the listing aside, says where an image is broken. */
+static void every_call(void)
+{
+    size_t words = 16 * PAGE;
+    uint16_t *img = yard16(), *before = blank(16);
+    uint16_t data[PAGE] = {0};
+    img[8 * PAGE] ^= 1 << 9;
+    memcpy(before, img, words * sizeof *img);
+    broken("check: page 8, word 0", nord_check(img, words), NORD_RULE_BITS, 8, 0);
+    broken("find user", nord_find_user(img, words, TEXT("DOCK")), NORD_RULE_BITS, 8, 0);
+    broken("find file", nord_find_file(img, words, 0, TEXT("READS"), TEXT("DATA")), NORD_RULE_BITS, 8, 0);
+    broken("address", nord_address(img, words, 0, 0, 0), NORD_RULE_BITS, 8, 0);
+    holds_not("who holds", nord_who_holds(img, words, 5), NORD_UNSOUND, NORD_RULE_BITS, 8, 0);
+    told("read: an empty part", nord_read_page(img, words, 0, 0, 0).length == 0);
+    broken("create user", nord_create_user(img, words, TEXT("GATE")), NORD_RULE_BITS, 8, 0);
+    broken("delete user", nord_delete_user(img, words, 0), NORD_RULE_BITS, 8, 0);
+    broken("give", nord_give(img, words, 0, 1), NORD_RULE_BITS, 8, 0);
+    broken("take", nord_take(img, words, 0, 1), NORD_RULE_BITS, 8, 0);
+    broken("create indexed", nord_create_indexed(img, words, 0, TEXT("MORE"), TEXT(""), 0), NORD_RULE_BITS, 8, 0);
+    broken("create contiguous", nord_create_contiguous(img, words, 0, TEXT("MORE"), TEXT(""), 0, 1), NORD_RULE_BITS, 8, 0);
+    broken("grow", nord_grow(img, words, 0, 0), NORD_RULE_BITS, 8, 0);
+    broken("shrink", nord_shrink(img, words, 0, 0), NORD_RULE_BITS, 8, 0);
+    broken("delete file", nord_delete_file(img, words, 0, 0), NORD_RULE_BITS, 8, 0);
+    broken("write", nord_write_page(img, words, 0, 0, 0, data, PAGE), NORD_RULE_BITS, 8, 0);
+    broken("note open", nord_note_open(img, words, 0, 0), NORD_RULE_BITS, 8, 0);
+    refused("a wrong argument comes first: 2", nord_note_open(img, words, 256, 0), NORD_ARGUMENT);
+    told("none changed anything", memcmp(before, img, words * sizeof *img) == 0);
+    free(before);
     free(img);
 }
 
@@ -366,7 +484,7 @@ static void by_one_run(uint16_t *img, uint16_t *single, size_t words)
     for (n = 0; n < STEPS - 2; n++)
         done("a step of the run", replies[n], values[n]);
     refused("the refused step: 6", replies[STEPS - 2], NORD_KIND);
-    told("the reply after it stays", replies[STEPS - 1].number == 0x55555555 && replies[STEPS - 1].value == 0x55555555);
+    told("the reply after it stays", replies[STEPS - 1].number == 0x55555555 && replies[STEPS - 1].second.position == 0x55555555);
     singly(single, words, data);
     told("the image is the single calls'", memcmp(img, single, words * sizeof *img) == 0);
 }
@@ -387,7 +505,7 @@ static void short_runs(uint16_t *img, size_t words)
 /* A run of one step, which is refused. */
 static nord_reply refused_step(uint16_t *img, size_t words, nord_step step)
 {
-    nord_reply reply = {0, 0, 0};
+    nord_reply reply = {.number = NORD_DONE};
     told("one reply", run(img, words, &step, NORD_STEPS(1), &reply, NORD_REPLIES(1)) == 1);
     return reply;
 }
@@ -404,7 +522,7 @@ static void wrong_steps(uint16_t *img, size_t words)
     refused("a type that begins after the text: 2", refused_step(img, words, no_type), NORD_ARGUMENT);
     refused("no page data: 2", refused_step(img, words, no_data), NORD_ARGUMENT);
     img[1023]++;
-    is("a step on an unsound image: 3", refused_step(img, words, script[4]), NORD_UNSOUND, NORD_RULE_COUNTS, 0);
+    broken("a step on an unsound image: 3", refused_step(img, words, script[4]), NORD_RULE_COUNTS, 0, 1022);
     img[1023]--;
 }
 
@@ -412,6 +530,8 @@ static void runs(void)
 {
     size_t words = 154 * PAGE;
     uint16_t *img = blank(154), *single = blank(154);
+    told("a step's numbers", sizeof(nord_step) == NORD_STEPS(1) * sizeof(uint32_t));
+    told("a reply's numbers", sizeof(nord_reply) == NORD_REPLIES(1) * sizeof(uint32_t));
     by_one_run(img, single, words);
     wrong_steps(img, words);
     told("wrong steps changed nothing", memcmp(img, single, words * sizeof *img) == 0);
@@ -450,8 +570,11 @@ int main(void)
     words_of_pages(img, words);
     refusals(img, words);
     way_back(img, words);
+    places();
     great_volume();
     rules();
+    held_twice();
+    every_call();
     listing();
     runs();
     nulls();

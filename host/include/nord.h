@@ -2,7 +2,7 @@
  *
  * An image is `words` 16-bit words, 1,024 to a page; the caller lends it for the time of a call. Every call first sees that the image is of
  * a whole number of 8 to 16,384 pages (else number 1), that its arguments are right (else 2) and, format aside, that the image is sound
- * (else 3, with the lowest broken rule). A refused call changes no word of the image.
+ * (else 3, with the lowest broken rule and the first place that breaks it). A refused call changes no word of the image.
  *
  * What a caller owes
  *
@@ -44,7 +44,7 @@ enum {
     NORD_DONE = 0,
     NORD_SIZE = 1,        /* the length is no whole number of pages, or there are fewer than 8 or more than 16,384 */
     NORD_ARGUMENT = 2,    /* an argument is wrong */
-    NORD_UNSOUND = 3,     /* the image is unsound: `rule` is the lowest broken rule */
+    NORD_UNSOUND = 3,     /* the image is unsound: `rule` is the lowest broken rule, `place` where it is broken */
     NORD_MISSING = 4,     /* the named user, file or position does not exist */
     NORD_TAKEN = 5,       /* the name is taken */
     NORD_KIND = 6,        /* wrong kind: grow or shrink of a contiguous file, shrink of an empty one */
@@ -84,24 +84,60 @@ enum {
     NORD_FILE_DATA = 10
 };
 
-/* number: above. rule: with NORD_UNSOUND the lowest broken rule, else 0. value: with NORD_DONE, of check the pages visited, of find and
- * create the index, of address and grow the data page's number; else 0. */
+/* A place: a page of the image, and a word 0 .. 1,023 within that page. Zeros are no place: no rule can be broken there.
+ *
+ * With NORD_UNSOUND `place` is the first place that breaks the lowest broken rule. Each rule has its places in an order of its own:
+ *
+ *   rule  its places, in order
+ *      1  page 0: word 1,008 the volume's name, 1,020 the bit pointer
+ *      2  page 0: word 1,016 the object pointer, or exactly one of the two pointers is zero; 1,018 the user pointer
+ *      3  the user index: word 2s for slot s
+ *      4  each used user: word 1 name (illegal, or a lower user's), 16 used is above given, 18 own index
+ *      5  page 0, word 1,016: indexed, with a used user above 63; the subindex block, word 2s for slot s; the index blocks, the same
+ *      6  each used object: word 0 no such user, 1 name (illegal, or a lower file of his has it with the type), 9 type, 16 user, 17 number
+ *      7  each used object: word 28 bytes, 30 pointer against page count; its subindex block, word 2s for slot s; its index blocks, the same
+ *      8  word 0 of the lowest page that has two holders or more
+ *      9  the bit page: word p / 16 for the lowest page p whose bit is wrong
+ *     10  each used user: word 16 used; and if all are right, page 0, word 1,022 unreserved
+ *
+ * Users, objects, index blocks and slots come ascending by their numbers, wherever their pages lie. All that rule 7 asks of one file comes
+ * before the next file. Word k of entry e (a user's index, or 256 * user + file) is word 32 * (e % 32) + k of the page that it lies on. What has
+ * several words, as a name, a pointer and a count do, is told by its first. */
 typedef struct {
-    uint32_t number;
-    uint32_t rule;
-    uint32_t value;
-} nord_reply;
+    uint32_t page;
+    uint32_t word;
+} nord_place;
 
 /* Who holds a page. kind: above. user and file are 0 for system pages; position counts data pages, index blocks, bit, user and object pages
- * within their file from 0, and is 0 else. */
+ * within their file from 0, and is 0 else. Zeros are "free". */
 typedef struct {
-    uint32_t number;
-    uint32_t rule;
     uint32_t kind;
     uint32_t user;
     uint32_t file;
     uint32_t position;
 } nord_holder;
+
+/* number: above. rule, place: with NORD_UNSOUND the lowest broken rule and its first place, else zeros. value: with NORD_DONE, of check the
+ * pages visited, of find and create the index, of address and grow the data page's number; else 0. first, second: with NORD_RULE_HOLDERS the
+ * two lowest holders of the page, in the order kind, user, file, position (a third is not told); else free. */
+typedef struct {
+    uint32_t number;
+    uint32_t rule;
+    uint32_t value;
+    nord_place place;
+    nord_holder first;
+    nord_holder second;
+} nord_reply;
+
+/* What nord_who_holds answers: a reply that has a holder for its value. holder: with NORD_DONE, else free. */
+typedef struct {
+    uint32_t number;
+    uint32_t rule;
+    nord_holder holder;
+    nord_place place;
+    nord_holder first;
+    nord_holder second;
+} nord_holder_reply;
 
 /* Where a file's page lies in the image: `length` words from word `offset` on; length is 1,024, or 0 where the address call would refuse. */
 typedef struct {
@@ -114,7 +150,7 @@ nord_reply nord_check(const uint16_t *img, size_t words);
 nord_reply nord_find_user(const uint16_t *img, size_t words, const uint8_t *name, size_t name_bytes);
 nord_reply nord_find_file(const uint16_t *img, size_t words, size_t user, const uint8_t *name, size_t name_bytes, const uint8_t *type, size_t type_bytes);
 nord_reply nord_address(const uint16_t *img, size_t words, size_t user, size_t file, size_t position);
-nord_holder nord_who_holds(const uint16_t *img, size_t words, size_t page);
+nord_holder_reply nord_who_holds(const uint16_t *img, size_t words, size_t page);
 nord_part nord_read_page(const uint16_t *img, size_t words, size_t user, size_t file, size_t position);
 
 /* Lists the image: a line for the volume, for each user and for each of his files, ascending, each ended by byte 10; or `REFUSED n`, and
@@ -176,7 +212,7 @@ typedef struct {
 
 /* The lengths that nord_run is told: the numbers of so many steps, and of so many replies. */
 #define NORD_STEPS(n) ((size_t)(n) * 10)
-#define NORD_REPLIES(n) ((size_t)(n) * 3)
+#define NORD_REPLIES(n) ((size_t)(n) * 13)
 
 /* Makes a list of calls with one check of the image for all of them. The steps are made in order, as many as there are (whole ones) and as
  * have room for a reply; the result is the number of replies. Each step made has its reply, in its place; the first that is refused is the

@@ -1,5 +1,7 @@
 //! The seven calls that are measured, asked of either program, with what is asked of a volume.
 
+use crate::answers;
+use proved::{Holder, HolderReply, Reply};
 use std::fmt::Write;
 
 #[derive(Clone, Copy, Debug, PartialEq, Eq)]
@@ -116,8 +118,50 @@ impl Question {
     }
 }
 
-/// A call's numbers: number, rule, then the value or the holder.
-pub type Answer = [u32; 6];
+/// A call's numbers, with the holder that who-holds gives.
+#[derive(Clone, Copy, Debug, PartialEq, Eq)]
+pub struct Answer {
+    pub reply: Reply,
+    pub holder: Holder,
+}
+
+impl From<Reply> for Answer {
+    fn from(reply: Reply) -> Answer {
+        Answer {
+            reply,
+            holder: Holder::default(),
+        }
+    }
+}
+
+impl From<HolderReply> for Answer {
+    fn from(of: HolderReply) -> Answer {
+        let reply = Reply {
+            number: of.number,
+            rule: of.rule,
+            value: 0,
+            place: of.place,
+            first: of.first,
+            second: of.second,
+        };
+        Answer { reply, holder: of.holder }
+    }
+}
+
+impl From<second::Reply> for Answer {
+    fn from(reply: second::Reply) -> Answer {
+        answers::reply(reply).into()
+    }
+}
+
+impl From<second::HolderReply> for Answer {
+    fn from(of: second::HolderReply) -> Answer {
+        Answer {
+            reply: answers::reply(of.reply),
+            holder: answers::holder(of.holder),
+        }
+    }
+}
 
 /// Asks one program one call.
 pub fn ask(program: Program, call: Call, image: &mut [u16], q: &Question) -> Answer {
@@ -129,41 +173,26 @@ pub fn ask(program: Program, call: Call, image: &mut [u16], q: &Question) -> Ans
 
 fn ask_proved(call: Call, image: &mut [u16], q: &Question) -> Answer {
     let [user, file, position, page, growing] = q.numbers();
-    let reply = match call {
-        Call::Check => proved::check(image),
-        Call::Address => proved::address(image, user, file, position),
-        Call::FindUser => proved::find_user(image, q.user_name.as_bytes()),
-        Call::FindFile => proved::find_file(image, user, q.file_name.as_bytes(), q.kind.as_bytes()),
-        Call::Grow => proved::grow(image, user, growing),
-        Call::CreateFile => proved::create_indexed(image, user, NEW_NAME, q.kind.as_bytes(), 1),
-        Call::WhoHolds => {
-            let holder = proved::who_holds(image, page);
-            return [holder.number, holder.rule, holder.kind, holder.user, holder.file, holder.position];
-        }
-    };
-    [reply.number, reply.rule, reply.value, 0, 0, 0]
+    match call {
+        Call::Check => proved::check(image).into(),
+        Call::Address => proved::address(image, user, file, position).into(),
+        Call::FindUser => proved::find_user(image, q.user_name.as_bytes()).into(),
+        Call::FindFile => proved::find_file(image, user, q.file_name.as_bytes(), q.kind.as_bytes()).into(),
+        Call::Grow => proved::grow(image, user, growing).into(),
+        Call::CreateFile => proved::create_indexed(image, user, NEW_NAME, q.kind.as_bytes(), 1).into(),
+        Call::WhoHolds => proved::who_holds(image, page).into(),
+    }
 }
 
 fn ask_second(call: Call, image: &mut [u16], q: &Question) -> Answer {
     let [user, file, position, page, growing] = q.numbers();
-    let reply = match call {
-        Call::Check => second::check(image),
-        Call::Address => second::address(image, user, file, position),
-        Call::FindUser => second::find_user(image, q.user_name.as_bytes()),
-        Call::FindFile => second::find_file(image, user, q.file_name.as_bytes(), q.kind.as_bytes()),
-        Call::Grow => second::grow(image, user, growing),
-        Call::CreateFile => second::create_indexed(image, user, NEW_NAME, q.kind.as_bytes(), 1),
-        Call::WhoHolds => {
-            let holder = second::who_holds(image, page);
-            return [
-                holder.reply.number,
-                holder.reply.rule,
-                holder.kind,
-                holder.user,
-                holder.file,
-                holder.position,
-            ];
-        }
-    };
-    [reply.number, reply.rule, reply.value, 0, 0, 0]
+    match call {
+        Call::Check => second::check(image).into(),
+        Call::Address => second::address(image, user, file, position).into(),
+        Call::FindUser => second::find_user(image, q.user_name.as_bytes()).into(),
+        Call::FindFile => second::find_file(image, user, q.file_name.as_bytes(), q.kind.as_bytes()).into(),
+        Call::Grow => second::grow(image, user, growing).into(),
+        Call::CreateFile => second::create_indexed(image, user, NEW_NAME, q.kind.as_bytes(), 1).into(),
+        Call::WhoHolds => second::who_holds(image, page).into(),
+    }
 }

@@ -1,5 +1,6 @@
 //! Calls of both programs timed on one image in memory. A call that changes words has them put back outside the timed part.
 
+use crate::answers::agreed;
 use crate::calls::{ask, Call, Program, Question};
 use crate::timing::{race, side, Effort, Side, Spread, Times};
 use crate::volumes::Volume;
@@ -16,7 +17,7 @@ fn pages_changed(image: &[u16], call: Call, q: &Question) -> Vec<Kept> {
     let (mut first, mut other) = (image.to_vec(), image.to_vec());
     let answers = (ask(Program::Proved, call, &mut first, q), ask(Program::Second, call, &mut other, q));
     assert_eq!(answers.0, answers.1, "{}: the answers differ", call.name());
-    assert_eq!(answers.0[0], 0, "{}: a measured call is done", call.name());
+    assert_eq!(answers.0.reply.number, 0, "{}: a measured call is done", call.name());
     assert!(first == other, "{}: the words differ", call.name());
     changed(image, &first)
 }
@@ -85,15 +86,28 @@ pub fn contest(volume: &Volume, call: Call, effort: Effort) -> (Figures, Spread)
     (figures(&times), Spread::of_ratio(&times[0], &times[2]))
 }
 
-/// Times the check alone on words that need not be sound; both programs have to say the same.
-pub fn check_contest(words: &[u16], effort: Effort) -> Figures {
-    let (first, other) = (proved::check(words), second::check(words));
-    assert_eq!((first.number, first.rule, first.value), (other.number, other.rule, other.value));
+/// The check of words by the library, and by the second program.
+fn checks(words: &[u16]) -> [Side<'_>; 2] {
     let first = side(|| {
         black_box(proved::check(black_box(words)));
     });
     let other = side(|| {
         black_box(second::check(black_box(words)));
     });
-    figures(&race(&mut [first, other], effort))
+    [first, other]
+}
+
+/// Times the check alone on words that need not be sound; both programs have to say the same.
+pub fn check_contest(words: &[u16], effort: Effort) -> Figures {
+    agreed("a measured image", words);
+    figures(&race(&mut checks(words), effort))
+}
+
+/// The same in turns with the library's check of a sound image. Gives also the check over that one, both the library's. That both programs say
+/// the same has been seen.
+pub fn check_beside(words: &[u16], sound: &[u16], effort: Effort) -> (Figures, Spread) {
+    let [first, other] = checks(words);
+    let [beside, _] = checks(sound);
+    let times = race(&mut [first, other, beside], effort);
+    (figures(&times), Spread::of_ratio(&times[0], &times[2]))
 }

@@ -1,21 +1,58 @@
 //! Images made to cost a check the most: as many files as there are entries, which share blocks (rules 1 to 7 hold, rule 8 is broken), or
-//! whose names all fall into few slots of the library's table (these are sound).
+//! whose names all fall into few slots of the library's table (these are sound). Of the broken ones it is known which page is the lowest that
+//! is held twice, and by whom.
 
+use crate::calls::Question;
 use crate::disk::{Disk, Entry};
 use crate::names::{in_order, of_few_slots, COMMON};
-use second::image::put_pair;
+use proved::{Holder, Place, Reply};
+use second::image::{put_pair, PAGE_WORDS};
+use second::kind::{FILE_DATA, FILE_SUBINDEX};
 use second::pointer::{Pointer, SLOTS};
 
-/// An image, and the rule that it breaks: 0 where it is sound.
+/// An image.
 pub struct Hostile {
     pub name: &'static str,
     pub about: String,
     pub words: Vec<u16>,
     pub files: u32,
-    pub rule: u32,
+    /// What is wrong with it; nothing where it is sound.
+    pub twice: Option<Twice>,
+}
+
+/// The lowest page that is held twice, and its first two holders.
+#[derive(Clone, Copy)]
+pub struct Twice {
+    pub page: u32,
+    pub first: Holder,
+    pub second: Holder,
+}
+
+impl Twice {
+    /// What a check has to answer.
+    pub fn reply(self) -> Reply {
+        Reply {
+            number: 3,
+            rule: 8,
+            value: 0,
+            place: Place { page: self.page, word: 0 },
+            first: self.first,
+            second: self.second,
+        }
+    }
 }
 
 const FILES_OF_A_USER: u32 = 256;
+
+/// The holder that the n-th file is, of a page of its own.
+fn of_file(kind: u32, n: u32, position: u32) -> Holder {
+    Holder {
+        kind,
+        user: n / FILES_OF_A_USER,
+        file: n % FILES_OF_A_USER,
+        position,
+    }
+}
 
 fn disk(pages: u32, users: u32) -> Disk {
     let names: Vec<Vec<u8>> = (0..users).map(|user| format!("USER{user}").into_bytes()).collect();
@@ -42,20 +79,23 @@ fn tree(disk: &mut Disk, last: u32) -> u32 {
     top
 }
 
+/// The n-th file's entry, of this size and with this pointer.
+fn put_file(disk: &mut Disk, n: u32, pages: u32, pointer: Pointer) {
+    let (user, file) = (n / FILES_OF_A_USER, n % FILES_OF_A_USER);
+    let name = format!("FILE{file}");
+    disk.entry(&Entry {
+        user,
+        file,
+        name: name.as_bytes(),
+        kind: b"DATA",
+        pages,
+        pointer,
+    });
+}
+
 /// Each user has 256 files, all of this size and with this pointer.
 fn share(disk: &mut Disk, users: u32, pages: u32, pointer: Pointer) {
-    for number in 0..users * FILES_OF_A_USER {
-        let (user, file) = (number / FILES_OF_A_USER, number % FILES_OF_A_USER);
-        let name = format!("FILE{file}");
-        disk.entry(&Entry {
-            user,
-            file,
-            name: name.as_bytes(),
-            kind: b"DATA",
-            pages,
-            pointer,
-        });
-    }
+    (0..users * FILES_OF_A_USER).for_each(|n| put_file(disk, n, pages, pointer));
 }
 
 /// All files have one tree of 512 index blocks; `last` slots of the last block are filled.
@@ -70,7 +110,78 @@ pub fn one_tree(name: &'static str, pages: u32, users: u32, last: u32) -> Hostil
         about,
         words: disk.finish(0, 0),
         files: users * FILES_OF_A_USER,
-        rule: 8,
+        twice: Some(Twice {
+            page: top,
+            first: of_file(FILE_SUBINDEX, 0, 0),
+            second: of_file(FILE_SUBINDEX, 1, 0),
+        }),
+    }
+}
+
+/// The pages of a file under a full tree.
+const FULL: u32 = SLOTS * SLOTS;
+
+/// A tree of one file's own: the blocks of another one but for the last, and in the last, which is its own, one page at the last slots.
+fn own_tree(disk: &mut Disk, shared: u32, page: u32, slots: u32) -> u32 {
+    let (top, last) = (disk.take(), disk.take());
+    let blocks = disk.page_mut(shared).to_vec();
+    disk.page_mut(top).copy_from_slice(&blocks);
+    put_pair(disk.page_mut(top), PAGE_WORDS - 2, last);
+    for n in 0..SLOTS as usize {
+        let own = n >= (SLOTS - slots) as usize;
+        put_pair(disk.page_mut(last), 2 * n, if own { page } else { shared });
+    }
+    top
+}
+
+/// All files have the blocks of one tree, and the last ones of them a top and a last block of their own, in which the lowest page that is held
+/// twice lies at the last slots. It is taken before all others, so that all of the tree lies above it.
+fn last_of_one_tree(pages: u32, users: u32, owners: u32, slots: u32) -> (Vec<u16>, u32) {
+    let mut disk = disk(pages, users);
+    let (page, files) = (disk.take(), users * FILES_OF_A_USER);
+    let shared = tree(&mut disk, SLOTS);
+    share(&mut disk, users, FULL, Pointer::Subindexed(shared));
+    for n in files - owners..files {
+        let top = own_tree(&mut disk, shared, page, slots);
+        put_file(&mut disk, n, FULL, Pointer::Subindexed(top));
+    }
+    (disk.finish(0, 0), page)
+}
+
+/// The last two files alone hold the page, each at its last position.
+pub fn last_two(pages: u32, users: u32) -> Hostile {
+    let (words, page) = last_of_one_tree(pages, users, 2, 1);
+    let files = users * FILES_OF_A_USER;
+    Hostile {
+        name: "last two of one tree",
+        about:
+            "all files have the blocks of one tree; only the last two, each at its last position, hold the lowest page that is held twice"
+                .into(),
+        words,
+        files,
+        twice: Some(Twice {
+            page,
+            first: of_file(FILE_DATA, files - 2, FULL - 1),
+            second: of_file(FILE_DATA, files - 1, FULL - 1),
+        }),
+    }
+}
+
+/// The last file alone holds the page, at its last two positions: no holder comes after these.
+pub fn last_positions(pages: u32, users: u32) -> Hostile {
+    let (words, page) = last_of_one_tree(pages, users, 1, 2);
+    let files = users * FILES_OF_A_USER;
+    Hostile {
+        name: "holders last in the order",
+        about: "all files have the blocks of one tree; only the last, at its last two positions, holds the lowest page that is held twice"
+            .into(),
+        words,
+        files,
+        twice: Some(Twice {
+            page,
+            first: of_file(FILE_DATA, files - 1, FULL - 2),
+            second: of_file(FILE_DATA, files - 1, FULL - 1),
+        }),
     }
 }
 
@@ -86,7 +197,11 @@ pub fn one_block(pages: u32, users: u32) -> Hostile {
         about,
         words: disk.finish(0, 0),
         files: users * FILES_OF_A_USER,
-        rule: 8,
+        twice: Some(Twice {
+            page: target,
+            first: of_file(FILE_DATA, 0, 0),
+            second: of_file(FILE_DATA, 0, 1),
+        }),
     }
 }
 
@@ -110,7 +225,7 @@ fn named(name: &'static str, about: &str, pages: u32, users: u32, kinds: &[Vec<u
         about: about.into(),
         words: disk.finish(0, 0),
         files: users * FILES_OF_A_USER,
-        rule: 0,
+        twice: None,
     }
 }
 
@@ -136,13 +251,42 @@ pub fn names_of_few_slots(pages: u32, users: u32) -> Hostile {
     )
 }
 
+/// What may be asked of them all: of their first file.
+pub fn question() -> Question {
+    Question {
+        user_name: "USER0".into(),
+        file_name: "FILE0".into(),
+        kind: "DATA".into(),
+        ..Question::default()
+    }
+}
+
 /// All of them, for so many pages and users.
 pub fn all(pages: u32, users: u32) -> Vec<Hostile> {
     vec![
         one_tree("one full tree", pages, users, SLOTS),
         one_tree("one tree, last block not full", pages, users, SLOTS - 1),
         one_block(pages, users),
+        last_two(pages, users),
+        last_positions(pages, users),
         names_in_order(pages, users),
         names_of_few_slots(pages, users),
     ]
+}
+
+#[cfg(test)]
+mod tests {
+    use super::*;
+    use crate::answers::reply;
+
+    #[test]
+    fn the_second_program_finds_what_each_was_made_for() {
+        for image in all(1_200, 2) {
+            let found = reply(second::check(&image.words));
+            match image.twice {
+                Some(twice) => assert_eq!(found, twice.reply(), "{}", image.name),
+                None => assert_eq!(found.number, 0, "{}", image.name),
+            }
+        }
+    }
 }

@@ -1,5 +1,6 @@
 //! Benchmarks: the proved library beside the second program and e2fsck. host/benchmarks runs them all.
 
+pub mod answers;
 pub mod batch;
 pub mod callgrind;
 pub mod calls;

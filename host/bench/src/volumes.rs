@@ -1,5 +1,6 @@
 //! The sound volumes that are measured.
 
+use crate::answers::agreed;
 use crate::calls::Question;
 use crate::disk::Disk;
 use second::image::PAGE_WORDS;
@@ -33,15 +34,9 @@ impl Volume {
 
     /// The pages that are held; both programs have to say the same.
     pub fn held(&self) -> u32 {
-        let (first, other) = (proved::check(&self.words), second::check(&self.words));
-        assert_eq!(
-            (first.number, first.rule, first.value),
-            (other.number, other.rule, other.value),
-            "{}: the check",
-            self.name
-        );
-        assert_eq!(first.number, 0, "{}: a measured volume is sound", self.name);
-        first.value
+        let reply = agreed(&self.name, &self.words);
+        assert_eq!(reply.number, 0, "{}: a measured volume is sound", self.name);
+        reply.value
     }
 
     pub fn file_count(&self) -> usize {

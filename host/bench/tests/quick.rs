@@ -19,4 +19,8 @@ fn a_quick_run_prints_every_table() {
     for title in titles.iter().chain(&more) {
         assert!(text.contains(&format!("{title}\n")), "no table {title}");
     }
+    let refusals = text
+        .lines()
+        .filter(|line| line.starts_with("refusal of a hostile image, time over the full sound check "));
+    assert_eq!(refusals.count(), 5, "the hostile images that are refused");
 }

@@ -8,7 +8,9 @@ use crate::words::PAGE;
 use std::panic::{catch_unwind, AssertUnwindSafe};
 
 /// Stands for the answer of a program that panicked: no call answers so.
-const NO_ANSWER: Answer = Answer { number: u32::MAX, rule: 0, value: 0, kind: 0, user: 0, file: 0, position: 0, offset: 0, length: 0 };
+fn no_answer() -> Answer {
+    Answer { number: u32::MAX, ..Answer::default() }
+}
 
 /// The pages of the largest image that the listing program takes.
 const LISTED: usize = 32;
@@ -102,7 +104,7 @@ impl Both {
         self.second = before;
         match second {
             Ok(second) => self.same_run("the runs", &proved, &second)?,
-            Err(_) => return Err(self.disagreement("the run: the second program panicked".to_string(), NO_ANSWER, NO_ANSWER)),
+            Err(_) => return Err(self.disagreement("the run: the second program panicked".to_string(), no_answer(), no_answer())),
         }
         let check = self.one_call("the check after the run", &Call::Check, self.start.len())?;
         self.same_listing(check)?;
@@ -140,7 +142,7 @@ impl Both {
         let part = &mut self.second[..words];
         match catch_unwind(AssertUnwindSafe(|| call.on_second(part))) {
             Ok(second) => self.agree(of, proved, second).map(|()| proved),
-            Err(_) => self.agree(&format!("{of}: the second program panicked"), proved, NO_ANSWER).map(|()| proved),
+            Err(_) => self.agree(&format!("{of}: the second program panicked"), proved, no_answer()).map(|()| proved),
         }
     }
 
@@ -175,6 +177,7 @@ pub fn page_and_word(at: usize) -> (usize, usize) {
 mod tests {
     use super::*;
     use crate::script::Asked;
+    use proved::{Holder, Place};
 
     fn formatted() -> Both {
         let mut both = Both::new(vec![0; 16 * PAGE]);
@@ -200,9 +203,17 @@ mod tests {
         both.second[1023] += 1;
         let seen = both.call(Call::WhoHolds { page: 0 }, &mut Tally::default()).err().expect("a disagreement");
         assert_eq!((seen.proved.number, seen.second.number, seen.second.rule), (0, 3, 10));
-        let one = Answer::default();
-        let others = [Answer { position: 1, ..one }, Answer { offset: 1, ..one }, Answer { rule: 1, ..one }, Answer { kind: 1, ..one }];
-        assert_eq!(others.map(|two| one.first_difference(&two)), [Some("position"), Some("offset"), Some("rule"), Some("kind")]);
+        let (one, holder) = (Answer::default(), Holder { position: 1, ..Holder::default() });
+        let others = [
+            (Answer { holder, ..one }, "position"),
+            (Answer { offset: 1, ..one }, "offset"),
+            (Answer { rule: 1, ..one }, "rule"),
+            (Answer { place: Place { page: 1, word: 0 }, ..one }, "page of the place"),
+            (Answer { place: Place { page: 0, word: 1 }, ..one }, "word of the place"),
+            (Answer { first: holder, ..one }, "position of the first holder"),
+            (Answer { second: holder, ..one }, "position of the second holder"),
+        ];
+        others.into_iter().for_each(|(two, name)| assert_eq!(one.first_difference(&two), Some(name)));
     }
 
     /// A run that leaves another word, and one that gives another reply, are seen.

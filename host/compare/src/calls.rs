@@ -1,5 +1,7 @@
 //! The calls with their arguments, and how each is made of the proved library and of the second program.
 
+use proved::{Holder, Place};
+
 /// One call. `Format` without a bit page is the header's nord_format_default. Numbers are as wide as the header has them.
 #[derive(Clone, Debug, PartialEq)]
 pub enum Call {
@@ -65,60 +67,80 @@ pub struct Answer {
     pub number: u32,
     pub rule: u32,
     pub value: u32,
-    pub kind: u32,
-    pub user: u32,
-    pub file: u32,
-    pub position: u32,
+    /// The first place that breaks the rule, and with rule 8 the first two holders of its page.
+    pub place: Place,
+    pub first: Holder,
+    pub second: Holder,
+    /// Who holds a page.
+    pub holder: Holder,
+    /// A part of the image.
     pub offset: usize,
     pub length: usize,
 }
 
 impl Answer {
     /// Every number of an answer with its name.
-    pub fn fields(&self) -> [(&'static str, usize); 9] {
-        [
-            ("number", self.number as usize),
-            ("rule", self.rule as usize),
-            ("value", self.value as usize),
-            ("kind", self.kind as usize),
-            ("user", self.user as usize),
-            ("file", self.file as usize),
-            ("position", self.position as usize),
-            ("offset", self.offset),
-            ("length", self.length),
-        ]
+    fn fields(&self) -> Vec<(&'static str, usize)> {
+        let of = |names: [&'static str; 4], holder: Holder| {
+            names.into_iter().zip([holder.kind, holder.user, holder.file, holder.position].map(|number| number as usize))
+        };
+        let plain = [("number", self.number), ("rule", self.rule), ("value", self.value)];
+        let place = [("page of the place", self.place.page), ("word of the place", self.place.word)];
+        let mut fields: Vec<(&'static str, usize)> = plain.into_iter().chain(place).map(|(name, number)| (name, number as usize)).collect();
+        fields.extend(of(
+            ["kind of the first holder", "user of the first holder", "file of the first holder", "position of the first holder"],
+            self.first,
+        ));
+        fields.extend(of(
+            ["kind of the second holder", "user of the second holder", "file of the second holder", "position of the second holder"],
+            self.second,
+        ));
+        fields.extend(of(["kind", "user", "file", "position"], self.holder));
+        fields.extend([("offset", self.offset), ("length", self.length)]);
+        fields
     }
 
     /// The name of the first number in which two answers differ.
     pub fn first_difference(&self, other: &Answer) -> Option<&'static str> {
+        if self == other {
+            return None;
+        }
         let both = self.fields().into_iter().zip(other.fields());
         both.into_iter().find(|(one, two)| one.1 != two.1).map(|(one, _)| one.0)
     }
 }
 
 impl From<proved::Reply> for Answer {
-    fn from(reply: proved::Reply) -> Answer {
-        Answer { number: reply.number, rule: reply.rule, value: reply.value, ..Answer::default() }
+    fn from(of: proved::Reply) -> Answer {
+        let proved::Reply { number, rule, value, place, first, second } = of;
+        Answer { number, rule, value, place, first, second, ..Answer::default() }
     }
 }
 
 impl From<second::Reply> for Answer {
-    fn from(reply: second::Reply) -> Answer {
-        Answer { number: reply.number, rule: reply.rule, value: reply.value, ..Answer::default() }
+    fn from(of: second::Reply) -> Answer {
+        let second::Reply { number, rule, value, place: second::Place { page, word }, first, second } = of;
+        Answer { number, rule, value, place: Place { page, word }, first: same(first), second: same(second), ..Answer::default() }
     }
 }
 
-impl From<proved::Holder> for Answer {
-    fn from(of: proved::Holder) -> Answer {
-        let reply = Answer { number: of.number, rule: of.rule, ..Answer::default() };
-        Answer { kind: of.kind, user: of.user, file: of.file, position: of.position, ..reply }
+impl From<proved::HolderReply> for Answer {
+    fn from(of: proved::HolderReply) -> Answer {
+        let proved::HolderReply { number, rule, holder, place, first, second } = of;
+        Answer { number, rule, holder, place, first, second, ..Answer::default() }
     }
 }
 
 impl From<second::HolderReply> for Answer {
     fn from(of: second::HolderReply) -> Answer {
-        Answer { kind: of.kind, user: of.user, file: of.file, position: of.position, ..Answer::from(of.reply) }
+        Answer { holder: same(of.holder), ..Answer::from(of.reply) }
     }
+}
+
+/// A holder of the second program as one of the proved library.
+fn same(of: second::Holder) -> Holder {
+    let second::Holder { kind, user, file, position } = of;
+    Holder { kind, user, file, position }
 }
 
 /// A part of an image by its place. An empty part has no place, and no number comes with either.

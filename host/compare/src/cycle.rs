@@ -21,8 +21,14 @@ pub enum Kind {
     Lengths,
     /// Calls on a sound volume that no calls give.
     Scattered { calls: u32 },
-    /// Each rule broken so often, with a call on each broken image.
+    /// Each kind of place so often, rules by chance and two faults at once, with a call on each broken image.
     Damaged { times: u32 },
+    /// Each rule broken once, and some by chance.
+    DamagedLarge,
+    /// Pages with two holders of each pair of kinds, so often.
+    Twice { times: u32 },
+    /// Each kind of place, so often, on volumes whose long files share their pages.
+    Long { times: u32 },
     /// Images made to cost a check much.
     Hostile,
     /// Scripts by chance, of so many steps each.
@@ -72,11 +78,13 @@ pub const CYCLE: &[(u32, Kind, Size)] = &[
     (6, Kind::Scattered { calls: 20 }, Size::Of(1_100)),
     (6, Kind::Scattered { calls: 20 }, Size::Of(2_048)),
     (1, Kind::Scattered { calls: 30 }, Size::Of(16_384)),
-    (120, Kind::Damaged { times: 8 }, Size::Between(16, 160)),
-    (20, Kind::Damaged { times: 4 }, Size::Between(8, 16)),
-    (6, Kind::Damaged { times: 4 }, Size::Of(1_100)),
-    (4, Kind::Damaged { times: 4 }, Size::Of(2_048)),
-    (1, Kind::Damaged { times: 1 }, Size::Of(16_384)),
+    (90, Kind::Damaged { times: 2 }, Size::Between(16, 160)),
+    (20, Kind::Damaged { times: 1 }, Size::Between(8, 16)),
+    (4, Kind::Damaged { times: 1 }, Size::Of(1_100)),
+    (2, Kind::Damaged { times: 1 }, Size::Of(2_048)),
+    (1, Kind::DamagedLarge, Size::Of(16_384)),
+    (6, Kind::Twice { times: 2 }, Size::Between(45, 90)),
+    (10, Kind::Long { times: 2 }, Size::Between(45, 90)),
     (1, Kind::Hostile, Size::Of(16_384)),
     (60, Kind::Scripts { scripts: 6, steps: 30 }, Size::Between(8, 80)),
     (10, Kind::Scripts { scripts: 6, steps: 40 }, Size::Of(154)),

@@ -7,6 +7,7 @@ mod cases;
 mod choose;
 mod cycle;
 mod damage;
+mod damaged_rounds;
 mod lent;
 mod meets;
 mod random;
@@ -17,8 +18,10 @@ mod scattered;
 mod scene;
 mod script;
 mod script_rounds;
+mod spots;
 mod tally;
 mod text;
+mod twice;
 mod volumes;
 mod words;
 
@@ -29,7 +32,7 @@ use std::time::{Duration, SystemTime, UNIX_EPOCH};
 const HELP: &str = "\
 compare: the proved library against the second program, every answer and every word after every call
 
-    compare [--seed N] [--first N] [--seconds S | --rounds N]
+    compare [--seed N] [--first N] [--seconds S | --rounds N | --damaged N]
     compare --short
     compare --cases FOLDER
     compare --replay FOLDER
@@ -38,6 +41,7 @@ compare: the proved library against the second program, every answer and every w
   --first N        begin with round N (a round of its own begins from the seed and its number alone)
   --seconds S      go on so long, but for one cycle of rounds at least (without it, one cycle)
   --rounds N       so many rounds
+  --damaged N      go on until so many damaged images agreed, but for one cycle of rounds at least
   --short          two cycles with seed 1, as the gate runs it
   --cases FOLDER   run every case in the folder through both (host/cases/README.md)
   --replay FOLDER  go through a kept disagreement again
@@ -91,6 +95,7 @@ fn read_arguments(mut arguments: impl Iterator<Item = String>) -> Result<Asked, 
             "--first" => first = number(&value()?)?,
             "--seconds" => until = Until::Time(Duration::from_secs(number(&value()?)?)),
             "--rounds" => until = Until::Rounds(number(&value()?)?),
+            "--damaged" => until = Until::Damaged(number(&value()?)?),
             "--cases" => return Ok(Asked::Cases(value()?)),
             "--replay" => return Ok(Asked::Replay(value()?)),
             other => return Err(format!("{other} is no argument")),

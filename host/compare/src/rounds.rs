@@ -2,9 +2,8 @@
 
 use crate::both::{Answered, Both, Disagreement};
 use crate::calls::Call;
-use crate::choose::{Choice, Profile, ANY, ASKING, FILES, GROWING, MIXED, PROFILES, RUNS, SHRINKING, USERS};
+use crate::choose::{Choice, Profile, ASKING, FILES, GROWING, MIXED, PROFILES, RUNS, SHRINKING, USERS};
 use crate::cycle::{Kind, Size};
-use crate::damage::Damage;
 use crate::meets::{leaves, meets};
 use crate::random::Random;
 use crate::scattered::scattered;
@@ -39,6 +38,9 @@ impl Round<'_> {
             Kind::Lengths => self.lengths(pages),
             Kind::Scattered { calls } => self.scattered(pages, calls),
             Kind::Damaged { times } => self.damaged(pages, times),
+            Kind::DamagedLarge => self.damaged_large(pages),
+            Kind::Twice { times } => self.twice(times),
+            Kind::Long { times } => self.long_files(times),
             Kind::Hostile => self.hostile(),
             Kind::Scripts { scripts, steps } => self.scripts(pages, scripts, steps),
             Kind::EdgeScripts => self.edge_scripts(pages),
@@ -232,68 +234,18 @@ impl Round<'_> {
         image
     }
 
-    fn damaged(&mut self, pages: u32, times: u32) -> Agreed {
-        let base = self.base(pages);
-        let scene = Scene::read(&base);
-        let mut both = Both::new(base.clone());
-        let first = both.call(Call::Check, self.tally)?;
-        assert_eq!(first.call.number, 0, "the volume to be damaged was unsound before");
-        for _ in 0..times {
-            for rule in 1..=10 {
-                if let Some(words) = Damage::new(&mut self.random, &base, &scene).aimed(rule) {
-                    both.put(&words);
-                    self.on_damaged(&mut both, &scene, Some(rule))?;
-                }
-            }
-            for _ in 0..6 {
-                let words = Damage::new(&mut self.random, &base, &scene).by_chance();
-                both.put(&words);
-                self.on_damaged(&mut both, &scene, None)?;
-            }
-            self.damaged_twice(&mut both, &base, &scene)?;
-        }
-        Ok(())
-    }
-
-    /// Two rules broken at once: the lower one is to be told.
-    fn damaged_twice(&mut self, both: &mut Both, base: &[u16], scene: &Scene) -> Agreed {
-        for _ in 0..4 {
-            for _ in 0..2 {
-                let rule = self.random.between(1, 10);
-                let words = Damage::new(&mut self.random, base, scene).aimed(rule).unwrap_or_default();
-                both.put(&words);
-            }
-            self.on_damaged(both, scene, None)?;
-        }
-        Ok(())
-    }
-
-    /// A call or two on a damaged image, which is then put right again.
-    fn on_damaged(&mut self, both: &mut Both, scene: &Scene, aimed: Option<u32>) -> Agreed {
-        for _ in 0..self.random.between(1, 2) {
-            let mut choice = Choice { random: &mut self.random, image: both.image(), scene };
-            let (call, lent) = (choice.call(&ANY), choice.lent(30));
-            let is_format = matches!(call, Call::Format { .. });
-            let answered = both.lend(lent, call, self.tally)?;
-            if let (Some(rule), false) = (aimed, is_format) {
-                if answered.check.rule == rule {
-                    self.tally.hit(rule);
-                }
-            }
-        }
-        both.restart();
-        Ok(())
-    }
-
     fn hostile(&mut self) -> Agreed {
         let mut image = full_of_entries(262_144, S | 10_000);
         let circle = self.random.one_in(2);
         shared_blocks(&mut image, circle);
-        let mut both = Both::new(image);
+        let mut both = Both::new(image.clone());
         both.call(Call::WhoHolds { page: 10_000 }, self.tally)?;
         let last = 1_000 * PAGE + 32 * 65_535;
         both.put(&[(last + POINTER + 1, 16_384)]);
         both.call(Call::Grow { user: 255, file: 255 }, self.tally)?;
+        last_two(&mut image, 50);
+        let answered = Both::new(image).call(Call::WhoHolds { page: 50 }, self.tally)?;
+        assert_eq!(answered.call.place.page, 50, "the maker of the last two holders made another page the lowest");
         let length = self.random.between(16_383, 16_384);
         Both::new(full_of_entries(length, 1)).call(Call::Shrink { user: 0, file: 0 }, self.tally)?;
         Ok(())

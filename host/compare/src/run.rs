@@ -11,11 +11,12 @@ use std::panic::{catch_unwind, AssertUnwindSafe};
 use std::path::PathBuf;
 use std::time::{Duration, Instant};
 
-/// How long a run goes on; one with a time goes through a cycle at least.
+/// How long a run goes on; one with a time, or with a number of damaged images on which all agreed, goes through a cycle at least.
 pub enum Until {
     Cycles(u64),
     Rounds(u64),
     Time(Duration),
+    Damaged(u64),
 }
 
 pub struct Plan {
@@ -30,7 +31,7 @@ pub fn run(plan: &Plan) -> bool {
     let begun = Instant::now();
     let mut tally = Tally::default();
     let mut round = plan.first;
-    while !is_over(plan, round - plan.first, begun) {
+    while !is_over(plan, round - plan.first, begun, &tally) {
         progress(round, &tally, begun);
         if !one_round(plan.seed, round, &mut tally) {
             return false;
@@ -42,14 +43,16 @@ pub fn run(plan: &Plan) -> bool {
     let (calls, (runs, steps)) = (tally.compared(), tally.runs_and_steps());
     let (rounds, seconds) = (round - plan.first, begun.elapsed().as_secs_f64());
     println!("{calls} calls, and {steps} steps of {runs} runs, compared in {rounds} rounds and {seconds:.1} s, seed {}", plan.seed);
+    println!("{} damaged images, on which all agreed", tally.damaged_images());
     enough(plan, &tally)
 }
 
-fn is_over(plan: &Plan, done: u64, begun: Instant) -> bool {
+fn is_over(plan: &Plan, done: u64, begun: Instant, tally: &Tally) -> bool {
     match plan.until {
         Until::Cycles(cycles) => done >= cycles * rounds_of_a_cycle(),
         Until::Rounds(rounds) => done >= rounds,
         Until::Time(time) => done >= rounds_of_a_cycle() && begun.elapsed() >= time,
+        Until::Damaged(images) => done >= rounds_of_a_cycle() && tally.damaged_images() >= images,
     }
 }
 

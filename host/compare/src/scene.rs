@@ -38,6 +38,10 @@ impl File {
         self.pointer & (S | I) == I
     }
 
+    pub fn is_subindexed(&self) -> bool {
+        self.pointer & (S | I) == S
+    }
+
     /// The page that the pointer names, flags aside.
     pub fn page(&self) -> u32 {
         self.pointer & !(S | I)

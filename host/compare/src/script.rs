@@ -56,7 +56,14 @@ pub struct Played {
 }
 
 /// What a reply is before a run: no call answers so.
-const UNTOUCHED: proved::Reply = proved::Reply { number: 0xAAAA_AAAA, rule: 0x5555_5555, value: 0x3333_3333 };
+const UNTOUCHED: proved::Reply = proved::Reply {
+    number: 0xAAAA_AAAA,
+    rule: 0x5555_5555,
+    value: 0x3333_3333,
+    place: proved::Place { page: 0, word: 0 },
+    first: proved::Holder { kind: 0, user: 0, file: 0, position: 0 },
+    second: proved::Holder { kind: 0, user: 0, file: 0, position: 0 },
+};
 
 impl Script {
     /// By one run of the proved library.
@@ -71,8 +78,7 @@ impl Script {
     pub fn on_second(&self, image: &mut [u16]) -> Played {
         let Lent { steps, text, data } = Lent::of(&self.asked);
         let steps: Vec<second::Step> = steps.into_iter().map(second_step).collect();
-        let untouched = second::Reply { number: UNTOUCHED.number, rule: UNTOUCHED.rule, value: UNTOUCHED.value };
-        let mut replies = vec![untouched; self.room];
+        let mut replies = vec![second_reply(UNTOUCHED); self.room];
         let made = second::run(image, &steps, &text, &data, &mut replies);
         Played { made, replies: replies.into_iter().map(Answer::from).collect() }
     }
@@ -128,6 +134,15 @@ pub fn used(call: &Call) -> &'static [Part] {
         Call::WritePage { .. } => &[Part::Data],
         _ => &[],
     }
+}
+
+fn second_reply(reply: proved::Reply) -> second::Reply {
+    let proved::Reply { number, rule, value, place: proved::Place { page, word }, first, second } = reply;
+    let of = |holder: proved::Holder| {
+        let proved::Holder { kind, user, file, position } = holder;
+        second::Holder { kind, user, file, position }
+    };
+    second::Reply { number, rule, value, place: second::Place { page, word }, first: of(first), second: of(second) }
 }
 
 fn second_step(step: proved::Step) -> second::Step {

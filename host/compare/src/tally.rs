@@ -3,6 +3,8 @@
 
 use crate::calls::{Answer, NAMES};
 use crate::script::{is_step, Asked, Played, Script};
+use crate::spots::{Spot, SPOTS};
+use crate::twice::{pairs, FILE_SUBINDEX};
 use std::collections::BTreeMap;
 use std::fmt::Write;
 
@@ -10,6 +12,10 @@ use std::fmt::Write;
 const EACH_NUMBER: u64 = 50;
 const EACH_RULE: u64 = 200;
 const EACH_AIMED: u64 = 50;
+
+/// How often at least each kind of place was told where damage was aimed at it, and each pair of kinds of holder with rule 8.
+const EACH_SPOT: u64 = 8;
+const EACH_PAIR: u64 = 4;
 
 /// Every call was answered with 0 so often at least; read_page gives no number, its empty and full parts are counted apart.
 const EACH_CALL_DONE: u64 = 20;
@@ -50,9 +56,15 @@ pub enum Met {
     NameOutside,
     TypeOutside,
     DataOutside,
+    FirstOfTwo,
+    NotByPage,
+    TwoPositions,
+    OneFileTwice,
+    TwoFiles,
+    TwoUsers,
 }
 
-const MINIMUMS: [(Met, &str, u64); 30] = [
+const MINIMUMS: [(Met, &str, u64); 36] = [
     (Met::FilePast512, "files grown past 512 pages", 2),
     (Met::FilePast1024, "files grown past 1,024 pages", 2),
     (Met::BackTo512, "files shrunk back to 512 pages", 2),
@@ -83,6 +95,12 @@ const MINIMUMS: [(Met, &str, u64); 30] = [
     (Met::NameOutside, "names outside the text lent", 5),
     (Met::TypeOutside, "types outside the text lent", 5),
     (Met::DataOutside, "page data outside the words lent", 3),
+    (Met::FirstOfTwo, "one rule broken in two places, one of them told", 200),
+    (Met::NotByPage, "one rule broken in two places, the one told on the higher page", 50),
+    (Met::TwoPositions, "two holders that differ in their position alone", 20),
+    (Met::OneFileTwice, "two holders of one file, of two kinds", 4),
+    (Met::TwoFiles, "two holders of one user and two of his files", 20),
+    (Met::TwoUsers, "two holders of two users", 20),
 ];
 
 /// How often at least each number came to a step of a run, and each call that can be one was done as one.
@@ -103,6 +121,12 @@ pub struct Tally {
     rules: [u64; 11],
     /// Damage aimed at a rule that this rule was the lowest to see.
     aimed: [u64; 11],
+    /// Kinds of place that were told where they were aimed at.
+    spots: Vec<u64>,
+    /// The kinds of the two holders that were told with rule 8.
+    pairs: BTreeMap<(u32, u32), u64>,
+    /// Damaged images on which all agreed.
+    damaged: u64,
     sizes: BTreeMap<u32, u64>,
     met: BTreeMap<Met, u64>,
 }
@@ -132,6 +156,29 @@ impl Tally {
 
     pub fn hit(&mut self, rule: u32) {
         self.aimed[rule as usize] += 1;
+    }
+
+    /// A damaged image and what its check told.
+    pub fn damaged(&mut self, check: &Answer) {
+        self.damaged += 1;
+        if check.rule == 8 {
+            *self.pairs.entry((check.first.kind, check.second.kind)).or_default() += 1;
+            holders_met(check).into_iter().for_each(|what| self.met(what));
+        }
+    }
+
+    /// A kind of place, by its number in the table, that was told.
+    pub fn told(&mut self, spot: usize) {
+        self.spots.resize(SPOTS.len(), 0);
+        self.spots[spot] += 1;
+    }
+
+    fn spots_told(&self) -> impl Iterator<Item = (&Spot, u64)> {
+        SPOTS.iter().zip(self.spots.iter().copied().chain(std::iter::repeat(0)))
+    }
+
+    pub fn damaged_images(&self) -> u64 {
+        self.damaged
     }
 
     pub fn volume(&mut self, pages: u32) {
@@ -169,6 +216,12 @@ impl Tally {
         for (name, step) in NAMES.iter().zip(&self.steps).filter(|(name, _)| can_be_a_step(name)) {
             demand(format!("{name} done as a step"), step[0], EACH_STEP_DONE);
         }
+        for (spot, told) in self.spots_told() {
+            demand(format!("rule {} told at: {}", spot.rule, spot.words), told, EACH_SPOT);
+        }
+        for pair in pairs() {
+            demand(format!("holders of kinds {} and {}", pair.0, pair.1), self.pairs.get(&pair).copied().unwrap_or(0), EACH_PAIR);
+        }
         for pages in SIZES {
             demand(format!("volumes of {pages} pages"), self.sizes.get(&pages).copied().unwrap_or(0), 1);
         }
@@ -187,6 +240,11 @@ impl Tally {
         let _ = writeln!(out, "\n{:18}   sound{}", "check after a call", (1..11).map(|n| format!("  rule{n:2}")).collect::<String>());
         let _ = writeln!(out, "{:18}{}", "lowest rule", row(&self.rules));
         let _ = writeln!(out, "{:18}{}", "aimed and hit", row(&self.aimed));
+        for (spot, told) in self.spots_told() {
+            let _ = writeln!(out, "rule {:2} told at: {}: {told}", spot.rule, spot.words);
+        }
+        let pairs: Vec<String> = self.pairs.iter().map(|((first, second), times)| format!("{first} and {second}: {times}")).collect();
+        let _ = writeln!(out, "rule  8 told with holders of kinds {}", pairs.join(", "));
         let _ = writeln!(out, "\nvolumes by pages: {}", self.sizes_in_words());
         for (what, words, _) in MINIMUMS {
             let _ = writeln!(out, "{words}: {}", self.met.get(&what).copied().unwrap_or(0));
@@ -209,6 +267,21 @@ impl Tally {
         let (kinds, volumes) = others.fold((0, 0), |(kinds, volumes), size| (kinds + 1, volumes + size.1));
         format!("{}, {kinds} other sizes: {volumes}", named.join(", "))
     }
+}
+
+/// How the two holders of a page are alike.
+fn holders_met(check: &Answer) -> Option<Met> {
+    let (one, two) = (check.first, check.second);
+    let (user, file, kind) = (one.user == two.user, one.file == two.file, one.kind == two.kind);
+    if one.kind < FILE_SUBINDEX {
+        return (kind && two.position > one.position).then_some(Met::TwoPositions);
+    }
+    Some(match (user, file, kind) {
+        (true, true, true) => Met::TwoPositions,
+        (true, true, false) => Met::OneFileTwice,
+        (true, false, _) => Met::TwoFiles,
+        (false, ..) => Met::TwoUsers,
+    })
 }
 
 /// Whether a run can make the call of this name.
@@ -239,11 +312,12 @@ fn row(counts: &[u64]) -> String {
 mod tests {
     use super::*;
 
-    /// A run that met nothing is told so for each number, each rule twice, each call, each size and each edge.
+    /// A run that met nothing is told so for each number, each rule twice, each call, each kind of place and pair of holders, each size and
+    /// each edge.
     #[test]
     fn nothing_is_too_little() {
         let steps = NAMES.into_iter().filter(|name| can_be_a_step(name)).count();
-        let wanted = 2 * 12 + 10 + 10 + NAMES.len() + steps + SIZES.len() + MINIMUMS.len();
+        let wanted = 2 * 12 + 10 + 10 + NAMES.len() + steps + SPOTS.len() + pairs().len() + SIZES.len() + MINIMUMS.len();
         assert_eq!(Tally::default().too_little().len(), wanted);
     }
 }

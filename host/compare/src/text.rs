@@ -4,6 +4,7 @@
 use crate::calls::{Answer, Call, Data};
 use crate::script::{Asked, Part, Played, Script};
 use crate::words::PAGE;
+use proved::{Holder, Place};
 use std::fmt;
 use std::str::FromStr;
 
@@ -104,7 +105,8 @@ fn call(name: &str, words: &mut Words) -> Result<Call, String> {
     })
 }
 
-/// Reads an answer: a number, then pairs of a name and a number; what is not named is 0.
+/// Reads an answer: a number, then names with their numbers: a place has its page and word, a holder its kind, user, file and position, all
+/// else one number. What is not named is 0.
 pub fn answer(line: &str) -> Result<Answer, String> {
     let mut words = Words::of(line)?;
     let mut answer = Answer { number: words.number()?, ..Answer::default() };
@@ -113,16 +115,20 @@ pub fn answer(line: &str) -> Result<Answer, String> {
         match name.as_str() {
             "rule" => answer.rule = words.number()?,
             "value" => answer.value = words.number()?,
-            "kind" => answer.kind = words.number()?,
-            "user" => answer.user = words.number()?,
-            "file" => answer.file = words.number()?,
-            "position" => answer.position = words.number()?,
+            "place" => answer.place = Place { page: words.number()?, word: words.number()? },
+            "first" => answer.first = holder(&mut words)?,
+            "second" => answer.second = holder(&mut words)?,
+            "holder" => answer.holder = holder(&mut words)?,
             "offset" => answer.offset = words.number()?,
             "length" => answer.length = words.number()?,
             other => return Err(format!("{other} is no number of an answer")),
         }
     }
     Ok(answer)
+}
+
+fn holder(words: &mut Words) -> Result<Holder, String> {
+    Ok(Holder { kind: words.number()?, user: words.number()?, file: words.number()?, position: words.number()? })
 }
 
 /// The replies of a run: its answers with `;` between them, `none` where no step was made.
@@ -290,10 +296,22 @@ impl fmt::Display for Call {
 impl fmt::Display for Answer {
     fn fmt(&self, out: &mut fmt::Formatter) -> fmt::Result {
         write!(out, "{}", self.number)?;
-        for (name, number) in self.fields().into_iter().skip(1).filter(|field| field.1 != 0) {
-            write!(out, " {name} {number}")?;
-        }
-        Ok(())
+        let mut named = |name: &str, numbers: &[usize]| match numbers.iter().all(|&number| number == 0) {
+            true => Ok(()),
+            false => {
+                write!(out, " {name}")?;
+                numbers.iter().try_for_each(|number| write!(out, " {number}"))
+            }
+        };
+        let of = |holder: Holder| [holder.kind, holder.user, holder.file, holder.position].map(|number| number as usize);
+        named("rule", &[self.rule as usize])?;
+        named("value", &[self.value as usize])?;
+        named("place", &[self.place.page as usize, self.place.word as usize])?;
+        named("first", &of(self.first))?;
+        named("second", &of(self.second))?;
+        named("holder", &of(self.holder))?;
+        named("offset", &[self.offset])?;
+        named("length", &[self.length])
     }
 }
 
@@ -342,7 +360,7 @@ mod tests {
 
     #[test]
     fn replies_are_read_as_they_are_written() {
-        for line in ["none", "0", "0 ; 0 value 5 ; 3 rule 10"] {
+        for line in ["none", "0", "0 ; 0 value 5 ; 3 rule 10 place 0 1022"] {
             let replies = replies(line).expect("replies");
             assert_eq!(replies_in_words(&Played { made: replies.len(), replies }), line);
         }
@@ -350,9 +368,19 @@ mod tests {
 
     #[test]
     fn answers_are_read_as_they_are_written() {
-        for line in ["0", "3 rule 10", "0 value 5", "0 kind 10 user 1 file 2 position 3", "0 offset 5120 length 1024"] {
+        let lines = [
+            "0",
+            "3 rule 10 place 2 16",
+            "3 rule 8 place 6 0 first 9 0 0 0 second 10 0 0 5",
+            "0 value 5",
+            "0 holder 10 1 2 3",
+            "0 offset 5120 length 1024",
+        ];
+        for line in lines {
             assert_eq!(answer(line).map(|answer| answer.to_string()), Ok(line.to_string()));
         }
-        assert!(answer("0 visits 3").is_err());
+        for wrong in ["0 visits 3", "3 rule 1 place 0", "0 holder 10 1 2"] {
+            assert!(answer(wrong).is_err(), "{wrong}");
+        }
     }
 }

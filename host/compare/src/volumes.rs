@@ -126,3 +126,16 @@ pub fn shared_blocks(image: &mut [u16], circle: bool) {
         put_pair(image, slot_at(10_001, slot), 10_002);
     }
 }
+
+/// Gives the last two files of such a volume a tree of their own, whose last position alone is this page.
+pub fn last_two(image: &mut [u16], page: u32) {
+    for slot in 0..512 {
+        put_pair(image, slot_at(10_003, slot), 10_001);
+        put_pair(image, slot_at(10_004, slot), 10_002);
+    }
+    put_pair(image, slot_at(10_003, 511), 10_004);
+    put_pair(image, slot_at(10_004, 511), page);
+    for number in [65_534, 65_535] {
+        put_pair(image, 1_000 * PAGE + 32 * number + POINTER, S | 10_003);
+    }
+}

@@ -1,7 +1,8 @@
 //! What a command says: the answer of a call that was done, and the library's refusals in words.
 
-use proved::Reply;
-use serde_json::Value;
+use crate::volume_json;
+use proved::{Place, Reply};
+use serde_json::{json, Value};
 use std::fmt::Display;
 
 /// An answer for people and the same one for programs.
@@ -29,6 +30,11 @@ impl Answer {
     }
 }
 
+/// A line under what is said, with a name before it.
+pub fn item(name: &str, words: &str) -> String {
+    format!("  {name:<10}{words}")
+}
+
 /// So many pages, in words.
 pub fn pages(count: u32) -> String {
     match count {
@@ -45,6 +51,7 @@ pub enum Call {
     FindFile,
     Address,
     Who,
+    Page,
     Format,
     AddUser,
     DeleteUser,
@@ -59,42 +66,69 @@ pub enum Call {
     Open,
 }
 
-/// A refusal: its number, with 3 the lowest broken rule, and both in words.
+/// A refusal: its number, with 3 the lowest broken rule and its place, and all that in words.
 #[derive(Debug, PartialEq, Eq)]
 pub struct Refusal {
     pub number: u32,
-    pub rule: u32,
     pub words: String,
+    /// Lines under the words.
+    pub more: Vec<String>,
+    /// The same for programs.
+    pub json: Value,
 }
 
 impl Refusal {
     /// The refusal of a call about `subject`, the thing as the user named it.
     pub fn of(reply: Reply, call: Call, subject: impl Display) -> Refusal {
-        let words = match reply.number {
-            1 | 3 => why(reply, call),
-            _ => format!("{}: {subject}", why(reply, call)),
-        };
-        Refusal {
-            number: reply.number,
-            rule: reply.rule,
-            words,
+        match reply.number {
+            3 => unsound(reply),
+            1 => plain(1, why(1, call).to_string()),
+            number => plain(number, format!("{}: {subject}", why(number, call))),
         }
     }
 
     /// A length that cannot be handed to the library: odd, or above its largest image.
     pub fn length(bytes: u64) -> Refusal {
-        Refusal {
-            number: 1,
-            rule: 0,
-            words: format!("{LENGTH}: the image has {bytes} bytes"),
-        }
+        plain(1, format!("{LENGTH}: the image has {bytes} bytes"))
     }
 
-    /// The same refusal, with more said.
+    /// The same refusal, with more said. Number 3 speaks of the image alone.
     pub fn with(mut self, more: impl Display) -> Refusal {
-        self.words = format!("{} ({more})", self.words);
+        if self.number != 3 {
+            self.words = format!("{} ({more})", self.words);
+        }
         self
     }
+}
+
+/// A refusal that tells no rule.
+fn plain(number: u32, words: String) -> Refusal {
+    let (more, json) = (Vec::new(), json!({ "number": number, "rule": 0 }));
+    Refusal { number, words, more, json }
+}
+
+/// Number 3: the rule and its place. `nord check` tells the rest.
+fn unsound(reply: Reply) -> Refusal {
+    let Reply { number, rule, place, .. } = reply;
+    Refusal {
+        number,
+        words: broken_at(rule, place),
+        more: vec![format!("  rule {rule}: {} nord check tells more", self::rule(rule))],
+        json: json!({
+            "number": number,
+            "rule": rule,
+            "sentence": self::rule(rule),
+            "page": place.page,
+            "word": place.word,
+            "first": volume_json::holder_numbers(&reply.first.into()),
+            "second": volume_json::holder_numbers(&reply.second.into()),
+        }),
+    }
+}
+
+/// Which rule an image breaks, and where.
+pub fn broken_at(rule: u32, Place { page, word }: Place) -> String {
+    format!("the image is unsound: rule {rule} is broken at page {page}, word {word}")
 }
 
 /// The value of a call that was done, or its refusal.
@@ -108,11 +142,10 @@ pub fn done(reply: Reply, call: Call, subject: impl Display) -> Result<u32, Refu
 const LENGTH: &str = "the length is no whole number of pages of 2,048 bytes, or there are fewer than 8 or more than 16,384 pages";
 
 /// A refusal's reason. A number that has several reasons in document 01 has here the one that the call can meet.
-fn why(reply: Reply, call: Call) -> String {
-    let words = match reply.number {
+fn why(number: u32, call: Call) -> &'static str {
+    match number {
         1 => LENGTH,
         2 => wrong_argument(call),
-        3 => return format!("the image is unsound: rule {} is broken: {}", reply.rule, rule(reply.rule)),
         4 => absent(call),
         5 => "the name is taken",
         6 => match call {
@@ -131,8 +164,7 @@ fn why(reply: Reply, call: Call) -> String {
         },
         11 => "there is no run of that many free pages for a contiguous file",
         _ => "no reason is known for this number",
-    };
-    words.to_string()
+    }
 }
 
 /// Number 2: what is right for the arguments of a call.
@@ -147,6 +179,7 @@ fn wrong_argument(call: Call) -> &'static str {
             "an argument is wrong (a name is 1 to 16 of A-Z, 0-9 and hyphen, a type 0 to 4 of them; a user's index is at most 255; a file has 1 to 16,384 pages)"
         }
         Call::Who => "an argument is wrong (a page's number is below the number of pages)",
+        Call::Page => "an argument is wrong (a page's number is below the number of pages, a word's at most 1,023)",
         Call::Give | Call::Take => "an argument is wrong (a user's index is at most 255, a page count is 1 to 16,384)",
         _ => "an argument is wrong (an index is at most 255)",
     }
@@ -164,19 +197,22 @@ fn absent(call: Call) -> &'static str {
     }
 }
 
-/// The ten rules, each as what holds on a sound image.
+/// The ten rules in document 01's own words.
 pub fn rule(number: u32) -> &'static str {
     match number {
-        1 => "the volume name is legal, and the bit file's pointer has no flags and a page in 1..P-1",
-        2 => "the user pointer is zero or indexed, the object pointer zero exactly when the user pointer is, both to pages in 1..P-1",
-        3 => "the user index has pages in 1..P-1 or zeros in slots 0..7, and zeros in all others",
-        4 => "a user's own index is right, his name is legal and no other's, and he uses no more than he is given",
-        5 => "object blocks have pages in 1..P-1 or zeros in the allowed slots and zeros in all others; an indexed object file has no user above 63",
-        6 => "a file's owner is there, its user index and entry number are right, its name and type are legal and no other's of that user",
-        7 => "a file is empty, indexed, subindexed or contiguous as its page count says, its bytes are right, and all its pages are in 1..P-1",
-        8 => "no page has two holders",
-        9 => "a bit is set exactly when its page has a holder",
-        10 => "a user's used count is the pages of his files, and unreserved, given and system pages add up to all pages",
-        _ => "there is no such rule",
+        1 => "Legal volume name; bit pointer without flags, page in 1..P-1.",
+        2 => "User pointer zero, or indexed to 1..P-1. Object pointer zero exactly when the user pointer is, else indexed or subindexed to 1..P-1.",
+        3 => "User index: each of slots 0..7 zero or in 1..P-1, others zero.",
+        4 => "Used users: own index right, name legal, no two names equal, used <= given.",
+        5 => "Object blocks: allowed slots zero or in 1..P-1, others zero; if indexed, no used user above 63. Empty object pages are allowed.",
+        6 => "Used objects: owner is used, words 16 and 17 right, name and type legal, no two of a user equal.",
+        7 => "Each file has one of the shapes above, its bytes right, all pages in 1..P-1.",
+        8 => "No page has two holders.",
+        9 => "A bit is set exactly when its page has a holder.",
+        10 => {
+            "Each used count is the data, index and subindex pages of his files, and unreserved + given of all used users + system pages = P, \
+             added as whole numbers that never wrap."
+        }
+        _ => "There is no such rule.",
     }
 }

@@ -43,8 +43,8 @@ pub struct Change {
 
 #[derive(Subcommand, Debug)]
 pub enum Command {
-    /// Judge the ten rules of a sound image
-    #[command(after_help = "Example:\n  nord check disk.img")]
+    /// Judge the ten rules of a sound image, and say where the lowest broken one is broken
+    #[command(after_help = "Example:\n  nord check disk.img\n  nord check disk.img --json")]
     Check(Ask),
     /// List the volume, its users and their files
     #[command(after_help = "Example:\n  nord list disk.img\n  nord list disk.img --json")]
@@ -134,6 +134,20 @@ pub enum Command {
         /// The page's number
         #[arg(value_parser = number)]
         page: u32,
+    },
+    /// Show a page's words: octal as in the manual, decimal, and what each is
+    #[command(
+        after_help = "Example:\n  nord page disk.img 2\n  nord page disk.img 2 16\n\nThe image may be unsound: the word at which the lowest broken rule is broken is marked. Lines that repeat are folded as *."
+    )]
+    Page {
+        #[command(flatten)]
+        at: Ask,
+        /// The page's number
+        #[arg(value_parser = number)]
+        page: u32,
+        /// Only this word, 0 to 1,023, with its characters and bits
+        #[arg(value_parser = number)]
+        word: Option<u32>,
     },
     /// Draw the image: a cell for each page, coloured by its holder
     #[command(after_help = "Example:\n  nord map disk.img\n  nord map disk.img --svg disk.svg")]
@@ -280,7 +294,7 @@ impl Command {
         match self {
             Command::Check(at) | Command::List(at) | Command::Sample(at) => at.json,
             Command::Read { at, .. } | Command::Find { at, .. } | Command::Address { at, .. } => at.json,
-            Command::Who { at, .. } | Command::Map { at, .. } => at.json,
+            Command::Who { at, .. } | Command::Page { at, .. } | Command::Map { at, .. } => at.json,
             Command::Format { at, .. } | Command::Write { at, .. } => at.json,
             Command::User(User::Add { at, .. } | User::Delete { at, .. } | User::Give { at, .. } | User::Take { at, .. }) => at.json,
             Command::File(File::Create { at, .. } | File::Grow { at, .. } | File::Shrink { at, .. }) => at.json,

@@ -36,10 +36,13 @@ impl Failure {
         }
     }
 
-    /// One line for people; empty where there is nobody to tell.
+    /// One line for people, and more under it where there is more to tell; empty where there is nobody to tell.
     pub fn words(&self) -> String {
         match self {
-            Failure::Refused(refusal) => format!("refused ({}): {}", refusal.number, refusal.words),
+            Failure::Refused(refusal) => {
+                let first = format!("refused ({}): {}", refusal.number, refusal.words);
+                [&[first][..], &refusal.more].concat().join("\n")
+            }
             Failure::Usage(words) | Failure::Host(words) | Failure::Busy(words) => words.clone(),
             Failure::Unread => String::new(),
         }
@@ -47,7 +50,11 @@ impl Failure {
 
     pub fn json(&self) -> Value {
         match self {
-            Failure::Refused(refusal) => json!({ "number": refusal.number, "rule": refusal.rule, "refusal": refusal.words }),
+            Failure::Refused(refusal) => {
+                let mut json = refusal.json.clone();
+                json["refusal"] = refusal.words.clone().into();
+                json
+            }
             _ => json!({ "error": self.words(), "status": self.status() }),
         }
     }

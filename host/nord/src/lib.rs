@@ -3,6 +3,7 @@
 
 pub mod answers;
 pub mod args;
+pub mod broken;
 pub mod commands;
 pub mod failure;
 pub mod lock;
@@ -10,6 +11,7 @@ pub mod manual;
 pub mod map;
 pub mod names;
 pub mod output;
+pub mod page;
 pub mod palette;
 mod pause;
 pub mod progress;

@@ -25,6 +25,7 @@ pub fn page() -> String {
     page.push_str(NAMES);
     page.push_str(FILES);
     page.push_str(STATUS);
+    page.push_str(UNSOUND);
     page.push_str(".SH RULES OF A SOUND IMAGE\nRefusal 3 names the lowest broken rule of these. P is the number of pages.\n");
     for number in 1..=10 {
         let _ = write!(page, ".TP\n{number}\n{}\n", escape(answers::rule(number)));
@@ -108,7 +109,11 @@ fails or is killed leaves the image as it was, or as the whole command makes it.
 With
 .B \-\-json
 the answer is one object on standard output: "number" is 0 and the rest says what was done; of a refusal it has "number", "rule" and "refusal"
-in words, of a failure of the host "error" and "status". Long work shows a bar on a terminal.
+in words, of a failure of the host "error" and "status". Of refusal 3 it has also "sentence" (the rule), "page" and "word" (its first broken place),
+"first" and "second" (the page's first two holders with rule 8, free else: "kind", "user", "file", "position");
+.B nord check
+adds "what" (what the words there are), "there" (what they are now), "expected" (in words, and "from" and "to" where numbers of one range are
+right) and the holders' names. Long work shows a bar on a terminal.
 .SH COMMANDS
 "#;
 
@@ -129,6 +134,20 @@ The new image is written to
 .I .IMAGE.nord\-PROCESS
 in the image's folder, synced, and renamed over the image; then the folder is synced. Owner and permissions are kept. What a killed run has left
 is removed by the next one that changes the image. The image is locked (flock) while a command changes it; a second one waits.
+"#;
+
+const UNSOUND: &str = r#".SH UNSOUND IMAGES
+A rule is judged only where all lower ones hold. Refusal 3 tells the lowest broken rule and its first broken place, a page and a word 0 to 1,023 of it;
+the library that is proved says which.
+.B nord check
+says what the words there are, what stands there and what was expected; with rule 8, which two hold the page. A number of two words, a pointer and
+a name are one thing, whose place is their first word.
+.PP
+.B nord page
+shows any page of any image. A line has the word's number, decimal and octal, its value, octal and decimal, its two bytes as characters, and what
+it is to whoever holds the page; of words that are one thing the first says it. Who holds a page is found by following all pointers that lead to
+pages 1 to P\-1; where several hold it, the first two are told. Runs of equal words that say nothing are folded as *. The word where the image is
+broken begins with > and is followed by what was expected.
 "#;
 
 const STATUS: &str = r#".SH EXIT STATUS

@@ -1,13 +1,21 @@
-//! What an image holds, read for showing. Whether the image is sound is the proved library's to say (`proved::check`): what is read here
-//! means something only where it passes. On any other image nothing panics, and what does not lie in the image reads as zeros.
+//! What an image holds, read for showing. Whether the image is sound is the proved library's to say (`proved::check`): a `Volume` and
+//! `holders` mean something only where it passes. `Held` and `meaning` tell of any image what its words say. Nothing panics on any image, and
+//! what does not lie in it reads as zeros.
 
 mod disk;
+mod fields;
+mod holder;
+mod meaning;
+mod told;
 mod walk;
 mod words;
 
-pub use walk::{holders, Holder, Kind};
-
-use disk::{Disk, Entry, Pointer};
+pub use disk::{Disk, Entry, Pointer, BIT_POINTER, ENTRIES, ENTRIES_TO_A_PAGE, ENTRY_WORDS, OBJECT_BLOCKS, OBJECT_POINTER, SLOTS};
+pub use disk::{UNRESERVED, USER_PAGES, USER_POINTER, VOLUME_NAME};
+pub use fields::number;
+pub use holder::{Holder, Kind};
+pub use meaning::{meaning, Meaning};
+pub use walk::{holders, Held};
 
 /// A volume with its users ascending.
 #[derive(Clone, Debug, PartialEq, Eq)]
@@ -122,7 +130,7 @@ fn read_file(index: u32, entry: Entry) -> File {
         type_name: entry.type_name(),
         pages: entry.pages(),
         kind: match entry.pointer() {
-            Pointer::None => FileKind::Empty,
+            Pointer::None | Pointer::Both(_) => FileKind::Empty,
             Pointer::Plain(_) => FileKind::Contiguous,
             Pointer::Indexed(_) => FileKind::Indexed,
             Pointer::Subindexed(_) => FileKind::Subindexed,

@@ -10,6 +10,7 @@ fn same_holder(image: &[u16], held: &[Holder], page: usize) {
     let library = proved::who_holds(image, page);
     let walk = held[page];
     assert_eq!((library.number, library.rule), (0, 0));
+    let library = library.holder;
     let walked = (walk.kind as u32, walk.user, walk.file, walk.position);
     assert_eq!(walked, (library.kind, library.user, library.file, library.position), "page {page}");
 }
@@ -44,7 +45,7 @@ fn holders_are_the_librarys_where_a_file_is_subindexed() {
     same_holders(&image, 7);
     // the subindex block and both index blocks
     for page in 0..600 {
-        if matches!(held[page as usize].kind as u32, 8 | 9) {
+        if matches!(held[page].kind as u32, 8 | 9) {
             same_holder(&image, &held, page);
         }
     }

@@ -1,24 +1,46 @@
 //! The boundary as host/include/nord.h has it.
 
-/// What a call answers: the number of document 01's table, the lowest broken rule with 3, the value with 0; else zeros.
+/// A page and a word 0 .. 1,023 of it; zeros are no place.
+#[repr(C)]
+#[derive(Clone, Copy, Debug, Default, PartialEq, Eq)]
+pub struct Place {
+    pub page: u32,
+    pub word: u32,
+}
+
+/// Who holds a page; the kinds are those of nord.h. Zeros are "free".
+#[repr(C)]
+#[derive(Clone, Copy, Debug, Default, PartialEq, Eq)]
+pub struct Holder {
+    pub kind: u32,
+    pub user: u32,
+    pub file: u32,
+    pub position: u32,
+}
+
+/// What a call answers: the number of document 01's table; with 3 the lowest broken rule and its first place, with rule 8 the first two holders
+/// of that page too; the value with 0; else zeros.
 #[repr(C)]
 #[derive(Clone, Copy, Debug, Default, PartialEq, Eq)]
 pub struct Reply {
     pub number: u32,
     pub rule: u32,
     pub value: u32,
+    pub place: Place,
+    pub first: Holder,
+    pub second: Holder,
 }
 
-/// Who holds a page; the kinds are those of nord.h.
+/// What `who_holds` answers: a reply whose value is a holder.
 #[repr(C)]
 #[derive(Clone, Copy, Debug, Default, PartialEq, Eq)]
-pub struct Holder {
+pub struct HolderReply {
     pub number: u32,
     pub rule: u32,
-    pub kind: u32,
-    pub user: u32,
-    pub file: u32,
-    pub position: u32,
+    pub holder: Holder,
+    pub place: Place,
+    pub first: Holder,
+    pub second: Holder,
 }
 
 /// A step of a run: a call by its number (`call`) with its arguments. `count` is a page count, a position, or format's bit page; the name is
@@ -64,6 +86,9 @@ pub mod call {
 pub(crate) const STEP_NUMBERS: usize = size_of::<Step>() / size_of::<u32>();
 pub(crate) const REPLY_NUMBERS: usize = size_of::<Reply>() / size_of::<u32>();
 
+/// The header's NORD_STEPS(1) and NORD_REPLIES(1), and the bytes of what nord_who_holds answers.
+const _: () = assert!(STEP_NUMBERS == 10 && REPLY_NUMBERS == 13 && size_of::<HolderReply>() == 64);
+
 /// A part of the image, in words.
 #[repr(C)]
 #[derive(Clone, Copy)]
@@ -85,7 +110,7 @@ extern "C" {
         kind_bytes: usize,
     ) -> Reply;
     pub(crate) fn nord_address(image: *const u16, words: usize, user: usize, file: usize, position: usize) -> Reply;
-    pub(crate) fn nord_who_holds(image: *const u16, words: usize, page: usize) -> Holder;
+    pub(crate) fn nord_who_holds(image: *const u16, words: usize, page: usize) -> HolderReply;
     pub(crate) fn nord_read_page(image: *const u16, words: usize, user: usize, file: usize, position: usize) -> Part;
     pub(crate) fn nord_list(image: *const u16, words: usize, out: *mut u8, out_bytes: usize) -> usize;
     pub(crate) fn nord_format(image: *mut u16, words: usize, name: *const u8, name_bytes: usize, bit_page: usize) -> Reply;

@@ -9,7 +9,7 @@
 
 mod boundary;
 
-pub use boundary::{call, Holder, Reply, Step};
+pub use boundary::{call, Holder, HolderReply, Place, Reply, Step};
 use boundary::{REPLY_NUMBERS, STEP_NUMBERS};
 
 /// The words of a page.
@@ -41,7 +41,7 @@ pub fn address(image: &[u16], user: usize, file: usize, position: usize) -> Repl
     unsafe { boundary::nord_address(image.as_ptr(), image.len(), user, file, position) }
 }
 
-pub fn who_holds(image: &[u16], page: usize) -> Holder {
+pub fn who_holds(image: &[u16], page: usize) -> HolderReply {
     unsafe { boundary::nord_who_holds(image.as_ptr(), image.len(), page) }
 }
 

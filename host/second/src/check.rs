@@ -5,6 +5,7 @@ use crate::bits::{bits_below, words_in_use};
 use crate::entry::{entry_words, file_pointer, is_used, name_words, object, type_words, user, EntryPlace, ENTRIES, ENTRIES_TO_A_PAGE};
 use crate::image::{all_zero, page_count, page_words, pair, BIT_POINTER, OBJECT_POINTER, UNRESERVED, USER_POINTER, VOLUME_NAME};
 use crate::name::{are_name_words, are_type_words, sort_key, NAME_WORDS};
+use crate::place::broken;
 use crate::pointer::{pages_held, slot, Pointer, SLOTS};
 use crate::reply::{Outcome, Refusal, Reply};
 use crate::walk::Walk;
@@ -14,10 +15,11 @@ pub fn check(image: &[u16]) -> Reply {
     page_count(image).and_then(|pages| demand_sound(image, pages)).into()
 }
 
-/// Number 3 and its rule where the image is unsound, else the visits.
+/// Number 3, its rule and its place where the image is unsound, else the
+/// visits. The place is looked for only once a rule has failed.
 pub(crate) fn demand_sound(image: &[u16], pages: u32) -> Outcome {
     let mut parts = Parts::new(image, pages);
-    parts.judge().map_err(Refusal::unsound)
+    parts.judge().map_err(|rule| Refusal::unsound(broken(image, pages, rule)))
 }
 
 /// What rule 4 learns of a used user, and what his files turn out to hold.

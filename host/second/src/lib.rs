@@ -3,7 +3,8 @@
 //! the proved library, and as the plain program to measure that one against.
 //!
 //! An image is a slice of 16-bit words; P is its length divided by 1,024.
-//! Each call answers by the numbers of document 01's table.
+//! Each call answers by the numbers of document 01's table, and says with 3
+//! where the image is broken (document 02, T-01).
 
 #![forbid(unsafe_code)]
 
@@ -19,8 +20,9 @@ pub mod image;
 mod length;
 mod list;
 pub mod name;
+mod place;
 pub mod pointer;
-mod reply;
+pub mod reply;
 mod run;
 mod users;
 mod volume;
@@ -33,6 +35,6 @@ pub use format::format;
 pub use holder::who_holds;
 pub use length::{grow, shrink};
 pub use list::list;
-pub use reply::{kind, HolderReply, Reply};
+pub use reply::{kind, Holder, HolderReply, Place, Reply};
 pub use run::{run, Step, CHECK_IS_A_STEP};
 pub use users::{create_user, delete_user, give, take};

@@ -59,6 +59,11 @@ pub fn slot(image: &[u16], block: u32, slot: u32) -> u32 {
     pair(image, page_start(block) + 2 * slot as usize)
 }
 
+/// The slots of a block that are not zero, and the pages that they name.
+pub fn named(image: &[u16], block: u32) -> impl Iterator<Item = (u32, u32)> + '_ {
+    (0..SLOTS).map(move |n| (n, slot(image, block, n))).filter(|&(_, page)| page != 0)
+}
+
 /// Writes the pointer in a slot of a block.
 pub fn put_slot(image: &mut [u16], block: u32, slot: u32, page: u32) {
     put_pair(image, page_start(block) + 2 * slot as usize, page);

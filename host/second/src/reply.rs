@@ -1,22 +1,40 @@
 //! The numbers a call gives back.
 
-/// What a call answers: the number of document 01's table, the broken rule
-/// with number 3, and the value with number 0. All else is zero.
+/// A page, and a word 0..1,023 of it.
+#[derive(Clone, Copy, Debug, Default, PartialEq, Eq)]
+pub struct Place {
+    pub page: u32,
+    pub word: u32,
+}
+
+/// Who holds a page; all zero is a free one.
+#[derive(Clone, Copy, Debug, Default, PartialEq, Eq)]
+pub struct Holder {
+    pub kind: u32,
+    pub user: u32,
+    pub file: u32,
+    pub position: u32,
+}
+
+/// What a call answers: the number of document 01's table, with number 3 the
+/// broken rule, the first place that breaks it and, where it is rule 8, the
+/// first two holders of that page, and with number 0 the value. All else is
+/// zero.
 #[derive(Clone, Copy, Debug, Default, PartialEq, Eq)]
 pub struct Reply {
     pub number: u32,
     pub rule: u32,
     pub value: u32,
+    pub place: Place,
+    pub first: Holder,
+    pub second: Holder,
 }
 
 /// What who-holds answers: a reply, and with number 0 the holder.
 #[derive(Clone, Copy, Debug, Default, PartialEq, Eq)]
 pub struct HolderReply {
     pub reply: Reply,
-    pub kind: u32,
-    pub user: u32,
-    pub file: u32,
-    pub position: u32,
+    pub holder: Holder,
 }
 
 /// The kinds of holder, by number.
@@ -34,11 +52,20 @@ pub mod kind {
     pub const FILE_DATA: u32 = 10;
 }
 
-/// Why a call is refused: its number in the table, and the rule with 3.
+/// How an image is broken: the lowest broken rule, the first place that breaks
+/// it, and with rule 8 the first two holders.
+#[derive(Clone, Copy, Debug, PartialEq, Eq)]
+pub(crate) struct Break {
+    pub(crate) rule: u32,
+    pub(crate) place: Place,
+    pub(crate) holders: [Holder; 2],
+}
+
+/// Why a call is refused: its number in the table, and with 3 what is broken.
 #[derive(Clone, Copy, Debug, PartialEq, Eq)]
 pub(crate) struct Refusal {
     number: u32,
-    rule: u32,
+    broken: Option<Break>,
 }
 
 /// How a call ends inside the library, before it becomes numbers.
@@ -46,12 +73,15 @@ pub(crate) type Outcome = Result<u32, Refusal>;
 
 impl Refusal {
     const fn of(number: u32) -> Refusal {
-        Refusal { number, rule: 0 }
+        Refusal { number, broken: None }
     }
 
-    /// Number 3, with the lowest broken rule.
-    pub(crate) const fn unsound(rule: u32) -> Refusal {
-        Refusal { number: 3, rule }
+    /// Number 3, with what is broken.
+    pub(crate) const fn unsound(broken: Break) -> Refusal {
+        Refusal {
+            number: 3,
+            broken: Some(broken),
+        }
     }
 }
 
@@ -77,10 +107,20 @@ pub(crate) fn demand(condition: bool, refusal: Refusal) -> Result<(), Refusal> {
 
 impl From<Refusal> for Reply {
     fn from(refusal: Refusal) -> Reply {
-        Reply {
-            number: refusal.number,
-            rule: refusal.rule,
-            value: 0,
+        let number = refusal.number;
+        match refusal.broken {
+            None => Reply {
+                number,
+                ..Reply::default()
+            },
+            Some(Break { rule, place, holders }) => Reply {
+                number,
+                rule,
+                value: 0,
+                place,
+                first: holders[0],
+                second: holders[1],
+            },
         }
     }
 }
@@ -88,7 +128,7 @@ impl From<Refusal> for Reply {
 impl From<Outcome> for Reply {
     fn from(outcome: Outcome) -> Reply {
         match outcome {
-            Ok(value) => Reply { number: 0, rule: 0, value },
+            Ok(value) => Reply { value, ..Reply::default() },
             Err(refusal) => refusal.into(),
         }
     }

@@ -87,6 +87,11 @@ pub(crate) fn files(image: &[u16], user: u32) -> impl Iterator<Item = (u32, &[u1
     (0..ENTRIES).filter_map(move |file| Some((file, entry_words(image, file_entry(image, user, file)?))))
 }
 
+/// All files' users, indexes and entries, ascending.
+pub(crate) fn all_files(image: &[u16]) -> impl Iterator<Item = (u32, u32, &[u16])> {
+    users(image).flat_map(move |(user, _)| files(image, user).map(move |(file, entry)| (user, file, entry)))
+}
+
 /// The page at a position of a file, or None from the file's end on.
 pub(crate) fn data_page(image: &[u16], entry: &[u16], position: u32) -> Option<u32> {
     if position >= pair(entry, object::PAGES) {

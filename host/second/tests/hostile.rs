@@ -47,23 +47,67 @@ fn shared_blocks() {
         put_pair(&mut image, 10_000 * 1024 + 2 * slot, 10_001);
         put_pair(&mut image, 10_001 * 1024 + 2 * slot, 10_002);
     }
-    assert_eq!(check(&image), unsound(8));
+    let subindex = |file| holder(kind::FILE_SUBINDEX, 0, file, 0);
+    assert_eq!(check(&image), shared(10_000, subindex(0), subindex(1)));
     // A block in a circle: the subindex block is its own index block.
     for slot in 0..512 {
         put_pair(&mut image, 10_000 * 1024 + 2 * slot, 10_000);
     }
-    assert_eq!(check(&image), unsound(8));
+    assert_eq!(check(&image), shared(10_000, subindex(0), subindex(1)));
     // The last file of all has a wrong shape.
     let last = 1_000 * 1024 + 32 * 65_535;
     put_pair(&mut image, last + 30, S | 16_384);
-    assert_eq!(check(&image), unsound(7));
+    assert_eq!(check(&image), unsound(7, 3_047, 32 * 31 + 30));
+}
+
+/// The same files, but the lowest page with two holders is a data page that
+/// only the last index block of the two last files names: both are the last in
+/// the order, and all blocks before are shared, too.
+#[test]
+fn the_last_two_holders() {
+    let mut image = full_of(262_144, S | 10_000);
+    for slot in 0..512 {
+        put_pair(&mut image, 10_000 * 1024 + 2 * slot, 10_001);
+        put_pair(&mut image, 10_001 * 1024 + 2 * slot, 10_002);
+        put_pair(&mut image, 10_003 * 1024 + 2 * slot, 10_001);
+        put_pair(&mut image, 10_004 * 1024 + 2 * slot, 10_002);
+    }
+    put_pair(&mut image, 10_003 * 1024 + 2 * 511, 10_004);
+    put_pair(&mut image, 10_004 * 1024 + 2 * 511, 50);
+    for number in [65_534, 65_535] {
+        put_pair(&mut image, 1_000 * 1024 + 32 * number + 30, S | 10_003);
+    }
+    let data = |file| holder(kind::FILE_DATA, 255, file, 262_143);
+    assert_eq!(check(&image), shared(50, data(254), data(255)));
+}
+
+/// Two thousand subindex blocks, each of 33 files or so, all of them over the
+/// same index block; then the last file of all has a wrong slot.
+#[test]
+fn many_subindex_blocks() {
+    let mut image = full_of(262_144, S | 4_000);
+    for number in 0..65_536 {
+        let block = 4_000 + number % 2_000;
+        put_pair(&mut image, 1_000 * 1024 + 32 * number + 30, S | block as u32);
+    }
+    for page in (4_000..6_000).chain([16_000, 16_002]) {
+        for slot in 0..512 {
+            put_pair(&mut image, page * 1024 + 2 * slot, if page < 16_000 { 16_000 } else { 16_001 });
+        }
+    }
+    let subindex = |user, file| holder(kind::FILE_SUBINDEX, user, file, 0);
+    assert_eq!(check(&image), shared(4_000, subindex(0, 0), subindex(7, 208)));
+    put_pair(&mut image, 1_000 * 1024 + 32 * 65_535 + 30, S | 16_002);
+    put_pair(&mut image, 16_002 * 1024 + 1022, 0);
+    assert_eq!(check(&image), unsound(7, 16_002, 1022));
 }
 
 /// 65,536 contiguous files over the whole volume.
 #[test]
 fn shared_runs() {
-    assert_eq!(check(&full_of(16_383, 1)), unsound(8));
-    assert_eq!(check(&full_of(16_384, 1)), unsound(7));
+    let on_user_index = shared(1, system(kind::USER_INDEX, 0), holder(kind::FILE_DATA, 0, 0, 0));
+    assert_eq!(check(&full_of(16_383, 1)), on_user_index);
+    assert_eq!(check(&full_of(16_384, 1)), unsound(7, 1_000, 30));
 }
 
 /// Counts near 2^32 for all users, and nothing else wrong.
@@ -80,7 +124,7 @@ fn great_counts() {
         put_pair(&mut image, page * 1024 + 32 * (user % 32) + 16, u32::MAX);
     }
     put_pair(&mut image, 1022, u32::MAX);
-    assert_eq!(check(&image), unsound(10));
+    assert_eq!(check(&image), unsound(10, 2, 16));
 }
 
 /// Images of chance words, and sound images with a few words changed.
@@ -106,6 +150,8 @@ fn chance_words() {
         }
         let reply = check(&image);
         assert!(matches!(reply.number, 0 | 3) && (reply.number == 3) == (reply.rule > 0));
+        assert_eq!(reply.rule > 0, reply.place != Place::default());
+        assert_eq!(reply.rule == 8, reply.second.kind != kind::FREE);
         rules[reply.rule as usize] += 1;
         who_holds(&image, chance.below(32) as usize);
         grow(&mut image, 0, 0);

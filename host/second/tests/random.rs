@@ -70,8 +70,8 @@ fn assert_sound(image: &[u16], after: &str) {
 /// Each held page is where its holder says.
 fn assert_holders_agree(image: &[u16]) {
     for page in 0..image.len() / 1024 {
-        let holder = who_holds(image, page);
-        assert_eq!(holder.reply, done(0));
+        let HolderReply { reply, holder } = who_holds(image, page);
+        assert_eq!(reply, done(0));
         if holder.kind == kind::FILE_DATA {
             let [user, file, position] = [holder.user, holder.file, holder.position].map(|number| number as usize);
             assert_eq!(address(image, user, file, position), done(page as u32));
@@ -88,8 +88,8 @@ fn assert_shrink_undoes_grow(image: &[u16], user: usize, file: usize) {
         return;
     }
     let taken: Vec<usize> = (0..image.len() / 1024)
-        .filter(|&page| who_holds(image, page).kind == kind::FREE)
-        .filter(|&page| who_holds(&after, page).kind != kind::FREE)
+        .filter(|&page| who_holds(image, page).holder.kind == kind::FREE)
+        .filter(|&page| who_holds(&after, page).holder.kind != kind::FREE)
         .collect();
     assert!(taken.contains(&(grown.value as usize)));
     assert_eq!(shrink(&mut after, user, file), done(0));
@@ -113,7 +113,7 @@ fn run(pages: usize, calls: u32, seed: u64) -> [u32; 12] {
         if reply.number == 0 {
             assert_sound(&image, name);
         } else {
-            assert_eq!((reply.rule, reply.value), (0, 0));
+            assert_eq!(reply, refused(reply.number));
             assert!(image == before, "{name} was refused and changed the image");
         }
         if n % 50 == 0 {

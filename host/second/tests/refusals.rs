@@ -120,15 +120,25 @@ fn number_2_for_the_bit_page() {
     }
 }
 
+/// Every call tells the same of an unsound image, and leaves it.
+fn number_3_of_all(image: &[u16], told: Reply) {
+    for call in all_calls() {
+        let mut after = image.to_vec();
+        assert_eq!(call(&mut after), told);
+        assert!(after == image);
+    }
+}
+
 #[test]
 fn number_3_for_all() {
     let mut image = two_users();
+    put_pair(&mut image, 6 * 1024, 6);
+    let on_itself = shared(6, holder(kind::FILE_INDEX, 0, 0, 0), holder(kind::FILE_DATA, 0, 0, 0));
+    number_3_of_all(&image, on_itself);
+    assert_eq!(who_holds(&image, 6).holder, Holder::default());
+    put_pair(&mut image, 6 * 1024, 5);
     put_pair(&mut image, 1022, 10_000);
-    for call in all_calls() {
-        let mut after = image.clone();
-        assert_eq!(call(&mut after), unsound(10));
-        assert!(after == image);
-    }
+    number_3_of_all(&image, unsound(10, 0, 1022));
     assert!(read_page(&image, 0, 0, 0).is_empty());
     refuses(&image, 2, |image| give(image, 256, 1));
     refuses(&image, 2, |image| who_holds(image, 32).reply);

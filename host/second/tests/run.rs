@@ -11,6 +11,15 @@ const MARK: Reply = Reply {
     number: 77,
     rule: 78,
     value: 79,
+    place: Place { page: 80, word: 81 },
+    first: MARKED,
+    second: MARKED,
+};
+const MARKED: Holder = Holder {
+    kind: 82,
+    user: 83,
+    file: 84,
+    position: 85,
 };
 
 /// A step with parts of `TEXT` for its name and type.
@@ -96,7 +105,7 @@ fn a_run_ends_with_the_first_refusal() {
 fn a_format_makes_an_unsound_image_sound_in_a_run() {
     let mut image = reads(16, 5, 1);
     put_pair(&mut image, 1022, 10_000);
-    assert_eq!(ran(&mut image.clone(), &[plain(13, 0)], 2), [unsound(10)]);
+    assert_eq!(ran(&mut image.clone(), &[plain(13, 0)], 2), [unsound(10, 0, 1022)]);
     let steps = [step(1, (0, 4), (0, 0)), step(7, (4, 4), (0, 0)), plain(9, 100)];
     let steps = steps.map(|step| Step {
         count: step.count.max(3),

@@ -14,8 +14,8 @@ fn changes(before: &[u16], after: &[u16]) -> Vec<(usize, u16)> {
 }
 
 fn held(image: &[u16], page: u32) -> (u32, u32, u32, u32) {
-    let holder = who_holds(image, page as usize);
-    assert_eq!(holder.reply, done(0));
+    let HolderReply { reply, holder } = who_holds(image, page as usize);
+    assert_eq!(reply, done(0));
     (holder.kind, holder.user, holder.file, holder.position)
 }
 

@@ -86,15 +86,15 @@ fn a_volume_of_154_pages() {
     assert_eq!(unreserved(&image), 152);
     assert_eq!(create_user(&mut image, b"DOCK"), done(0));
     assert_eq!(unreserved(&image), 149);
-    let kinds = [1, 2, 3].map(|page| who_holds(&image, page).kind);
+    let kinds = [1, 2, 3].map(|page| who_holds(&image, page).holder.kind);
     assert_eq!(kinds, [kind::USER_INDEX, kind::USER_PAGE, kind::OBJECT_INDEX]);
     assert_eq!(give(&mut image, 0, 100), done(0));
     assert_eq!(unreserved(&image), 49);
     assert_eq!(create_indexed(&mut image, 0, b"READS", b"DATA", 7), done(0));
-    assert_eq!(who_holds(&image, 4).kind, kind::OBJECT_PAGE);
+    assert_eq!(who_holds(&image, 4).holder.kind, kind::OBJECT_PAGE);
     assert_eq!(unreserved(&image), 48);
     assert_eq!(grow(&mut image, 0, 0), done(5));
-    assert_eq!(who_holds(&image, 6).kind, kind::FILE_INDEX);
+    assert_eq!(who_holds(&image, 6).holder.kind, kind::FILE_INDEX);
     assert_eq!(create_contiguous(&mut image, 0, b"RUN", b"", 8, 10), done(1));
     let addresses: Vec<u32> = (0..10).map(|n| address(&image, 0, 1, n).value).collect();
     assert_eq!(addresses, (144..154).collect::<Vec<u32>>());

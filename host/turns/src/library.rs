@@ -1,6 +1,5 @@
 //! A build of the library as a shared object, which can be loaded beside another one: each keeps its own functions.
 
-use proved::Reply;
 use std::ffi::{c_char, c_int, c_void, CStr, CString};
 use std::io;
 use std::os::unix::ffi::OsStrExt;
@@ -15,7 +14,17 @@ extern "C" {
 /// All names are found when it is loaded, and none of them is seen by other libraries: RTLD_NOW, and RTLD_LOCAL, which is 0.
 const NOW_AND_LOCAL: c_int = 2;
 
-type Check = unsafe extern "C" fn(*const u16, usize) -> Reply;
+/// The function of check.c, which each build has beside its own: builds may answer with structs of different lengths.
+const NAME: &CStr = c"turns_check";
+type Check = unsafe extern "C" fn(*const u16, usize, *mut [u32; 3]);
+
+/// What a check answers in every build; where a rule is broken is not told.
+#[derive(Clone, Copy, Debug, PartialEq, Eq)]
+pub struct Told {
+    pub number: u32,
+    pub rule: u32,
+    pub value: u32,
+}
 
 pub struct Library {
     pub path: PathBuf,
@@ -42,7 +51,7 @@ impl Library {
         if library.is_null() {
             return Err(why());
         }
-        let check = unsafe { dlsym(library, c"nord_check".as_ptr()) };
+        let check = unsafe { dlsym(library, NAME.as_ptr()) };
         if check.is_null() {
             return Err(why());
         }
@@ -50,8 +59,11 @@ impl Library {
         Ok(Library { path, check })
     }
 
-    /// The check of an image, as host/include/nord.h declares it.
-    pub fn check(&self, image: &[u16]) -> Reply {
-        unsafe { (self.check)(image.as_ptr(), image.len()) }
+    /// The check of an image, as the build's own header declares it.
+    pub fn check(&self, image: &[u16]) -> Told {
+        let mut told = [0; 3];
+        unsafe { (self.check)(image.as_ptr(), image.len(), &mut told) };
+        let [number, rule, value] = told;
+        Told { number, rule, value }
     }
 }

@@ -1,12 +1,11 @@
 //! Times and instructions of two builds' checks.
 
 use crate::clock;
-use crate::library::Library;
+use crate::library::{Library, Told};
 use bench::callgrind;
 use bench::scratch::{map_native, words};
 use bench::timing::{race, Effort, Side, Spread, QUICK};
 use bench::volumes::{Volume, LARGEST};
-use proved::Reply;
 use std::hint::black_box;
 use std::io;
 use std::path::Path;
@@ -51,7 +50,7 @@ pub struct Figures {
 /// What both builds answer; it has to be what the volume was laid out for.
 fn answer(both: &[Library; 2], volume: &Volume) -> io::Result<u32> {
     let held = volume.held();
-    let right = Reply {
+    let right = Told {
         number: 0,
         rule: 0,
         value: held,

@@ -23,12 +23,35 @@ case $last in --version) echo valgrind-0; exit ;; esac
 echo \"==1== Collected : $((1000 + 50 * last))\" >&2
 ";
 
-/// A library with another answer.
-const WRONG: &str = "#include <stddef.h>
+/// The header of a build whose replies have three numbers, which come back in registers.
+const SHORT: &str = "#include <stddef.h>
 #include <stdint.h>
 typedef struct { uint32_t number, rule, value; } nord_reply;
+nord_reply nord_check(const uint16_t *image, size_t words);
+";
+
+/// A library with that header, whose check of a sound image is right: it counts the pages that the bit file has as held.
+const COUNTING: &str = "#include <nord.h>
+nord_reply nord_check(const uint16_t *image, size_t words)
+{
+    const uint16_t *bits = image + 1024 * ((size_t)image[1020] << 16 | image[1021]);
+    nord_reply reply = {0, 0, 0};
+    for (size_t page = 0; page < words / 1024; page++)
+        reply.value += bits[page / 16] >> page % 16 & 1;
+    return reply;
+}
+";
+
+/// A library with another answer.
+const WRONG: &str = "#include <nord.h>
 nord_reply nord_check(const uint16_t *image, size_t words) { (void)image; (void)words; nord_reply r = {3, 7, 0}; return r; }
 ";
+
+/// A file, from this program's folder on.
+fn here(path: &str) -> String {
+    let path = Path::new(env!("CARGO_MANIFEST_DIR")).join(path);
+    path.to_str().unwrap().to_string()
+}
 
 fn gcc(arguments: &[&str]) {
     let output = Command::new("gcc").args(arguments).output().unwrap();
@@ -46,18 +69,26 @@ impl Folder {
         self.path.join(name).to_str().unwrap().to_string()
     }
 
-    /// The proved library as a shared object.
-    fn library(&self, name: &str) -> String {
-        let archive = Path::new(env!("CARGO_MANIFEST_DIR")).join("../../target/host/libnord.a");
-        let out = self.file(name);
-        let whole = [
-            "-Wl,-Bsymbolic",
-            "-Wl,--whole-archive",
-            archive.to_str().unwrap(),
-            "-Wl,--no-whole-archive",
-        ];
-        gcc(&[&["-shared"], &whole[..], &["-o", &out]].concat());
+    /// A build as a shared object: what it is made of, with the function that calls its check through its header, which lies in `header`.
+    fn shared(&self, name: &str, header: &str, parts: &[&str]) -> String {
+        let (check, out) = (here("check.c"), self.file(name));
+        let include = format!("-I{header}");
+        let before = ["-shared", "-fPIC", "-O2", "-Wl,-Bsymbolic", &include, &check, "-Wl,--whole-archive"];
+        gcc(&[&before[..], parts, &["-Wl,--no-whole-archive", "-o", &out]].concat());
         out
+    }
+
+    /// The proved library.
+    fn library(&self, name: &str) -> String {
+        self.shared(name, &here("../include"), &[&here("../../target/host/libnord.a")])
+    }
+
+    /// A library in C, whose replies have three numbers.
+    fn short(&self, name: &str, code: &str) -> String {
+        fs::write(self.file("nord.h"), SHORT).unwrap();
+        let source = self.file(name).replace(".so", ".c");
+        fs::write(&source, code).unwrap();
+        self.shared(name, &self.file(""), &[&source])
     }
 
     /// A run with this folder in front of all others that programs are looked for in, or alone.
@@ -86,10 +117,9 @@ fn refused(output: &Output) -> String {
     String::from_utf8_lossy(&output.stderr).into_owned()
 }
 
-#[test]
-fn both_are_timed_and_counted_on_each_volume() {
-    let folder = Folder::new("both").with_valgrind();
-    let output = folder.turns(false, &["--quick", &folder.library("before.so"), &folder.library("after.so")]);
+/// Both are measured on each volume.
+fn measured(folder: &Folder, before: &str, after: &str) {
+    let output = folder.turns(false, &["--quick", before, after]);
     assert!(output.status.success(), "{}", String::from_utf8_lossy(&output.stderr));
     let page = String::from_utf8(output.stdout).unwrap();
     assert!(page.starts_with("## The check, before and after\n"), "{page}");
@@ -100,13 +130,24 @@ fn both_are_timed_and_counted_on_each_volume() {
 }
 
 #[test]
+fn both_are_timed_and_counted_on_each_volume() {
+    let folder = Folder::new("both").with_valgrind();
+    measured(&folder, &folder.library("before.so"), &folder.library("after.so"));
+}
+
+#[test]
+fn replies_may_have_other_numbers_before() {
+    let folder = Folder::new("short").with_valgrind();
+    measured(&folder, &folder.short("before.so", COUNTING), &folder.library("after.so"));
+}
+
+#[test]
 fn another_answer_is_told_and_nothing_is_printed() {
     let folder = Folder::new("wrong").with_valgrind();
-    fs::write(folder.file("wrong.c"), WRONG).unwrap();
-    gcc(&["-shared", "-fPIC", &folder.file("wrong.c"), "-o", &folder.file("wrong.so")]);
-    let wrong = refused(&folder.turns(false, &["--quick", &folder.library("before.so"), &folder.file("wrong.so")]));
+    let (library, other) = (folder.library("before.so"), folder.short("wrong.so", WRONG));
+    let wrong = refused(&folder.turns(false, &["--quick", &library, &other]));
     assert!(
-        wrong.contains("wrong.so answers Reply { number: 3, rule: 7, value: 0 }, and not"),
+        wrong.contains("wrong.so answers Told { number: 3, rule: 7, value: 0 }, and not"),
         "{wrong}"
     );
 }

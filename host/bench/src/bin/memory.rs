@@ -1,7 +1,7 @@
-//! Memory that a call takes beyond the image: `bench-memory IMAGE` tells the stack and the heap of each call and program, in bytes.
-//! A program of its own, since its allocator counts, which would cost time in the others.
+//! Memory that a call takes beyond the image: `bench-memory IMAGE [CALL]` tells the stack and the heap of each call, or of that one, and of
+//! each program, in bytes. A program of its own, since its allocator counts, which would cost time in the others.
 
-use bench::calls::{ask, Program, Question, CALLS};
+use bench::calls::{ask, Call, Program, Question, CALLS};
 use bench::scratch::{map_private, question_of, words_mut};
 use bench::stack::depth;
 use std::alloc::{GlobalAlloc, Layout, System};
@@ -40,8 +40,8 @@ fn heap(work: &mut dyn FnMut()) -> usize {
     PEAK.load(Relaxed) - before
 }
 
-fn tell(image: &Path, question: &Question) -> io::Result<()> {
-    for call in CALLS {
+fn tell(image: &Path, question: &Question, calls: &[Call]) -> io::Result<()> {
+    for &call in calls {
         for program in [Program::Proved, Program::Second] {
             let (mut for_stack, mut for_heap) = (map_private(image)?, map_private(image)?);
             let stack = depth(&mut || {
@@ -57,7 +57,12 @@ fn tell(image: &Path, question: &Question) -> io::Result<()> {
 }
 
 fn main() -> io::Result<()> {
-    let image = std::env::args().nth(1).ok_or_else(|| io::Error::other("bench-memory IMAGE"))?;
+    let wrong = || io::Error::other("bench-memory IMAGE [CALL]");
+    let image = std::env::args().nth(1).ok_or_else(wrong)?;
     let image = Path::new(&image);
-    tell(image, &question_of(image)?)
+    let calls = match std::env::args().nth(2) {
+        Some(name) => vec![Call::by_name(&name).ok_or_else(wrong)?],
+        None => CALLS.to_vec(),
+    };
+    tell(image, &question_of(image)?, &calls)
 }

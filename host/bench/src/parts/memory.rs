@@ -1,10 +1,13 @@
 //! Memory beyond the image, which bench-memory tells.
 
 use super::Run;
-use crate::progress;
+use crate::calls::Call;
 use crate::report::{grouped, Table};
-use crate::volumes::Volume;
+use crate::scratch::write_native;
+use crate::volumes::{Volume, LARGEST};
+use crate::{hostile, progress};
 use std::io;
+use std::path::Path;
 use std::process::Command;
 
 const NOTE: &str =
@@ -34,10 +37,10 @@ fn used(line: &str) -> Option<Used> {
     })
 }
 
-fn tell(run: &Run, volume: &Volume) -> io::Result<Vec<Used>> {
-    let image = run.scratch.native_volume(volume)?;
+/// What the calls, or one of them, use on an image.
+fn tell(image: &Path, call: Option<Call>) -> io::Result<Vec<Used>> {
     let program = std::env::current_exe()?.with_file_name("bench-memory");
-    let output = Command::new(program).arg(image).output()?;
+    let output = Command::new(program).arg(image).args(call.map(Call::name)).output()?;
     if !output.status.success() {
         return Err(io::Error::other(String::from_utf8_lossy(&output.stderr).into_owned()));
     }
@@ -53,27 +56,51 @@ fn most(all: &[Used], program: &str, any: bool) -> (u64, u64) {
     )
 }
 
+/// A row: the most of the check, or of any call.
+fn row(name: &str, what: &str, all: &[Used], any: bool) -> Vec<String> {
+    let (proved, second) = (most(all, "proved", any), most(all, "second", any));
+    let cells = [proved.0, proved.1, second.0, second.1].map(grouped);
+    [name.to_string(), what.to_string()].into_iter().chain(cells).collect()
+}
+
+fn judge(run: &mut Run, goal: &'static str, on: &str, all: &[Used]) {
+    let (stack, heap) = most(all, "proved", true);
+    let bytes = stack + heap;
+    run.goals.at_most(goal, on, bytes as f64, LIMIT, grouped(bytes));
+}
+
+/// The hostile images that are refused: all that is asked of them needs the check, and what is broken is looked for.
+fn refusals(run: &mut Run, table: &mut Table) -> io::Result<()> {
+    for image in hostile::all(LARGEST, run.plan.hostile_users) {
+        if image.twice.is_none() {
+            continue;
+        }
+        progress::show(&format!("memory: {}", image.name));
+        let path = write_native(&run.scratch.folder, image.name, &image.words, &hostile::question())?;
+        let all = tell(&path, Some(Call::Check))?;
+        table.row(row(image.name, "check, refused", &all, false));
+        judge(
+            run,
+            "memory beyond the image, bytes, a refusal of a hostile image",
+            image.name,
+            &all,
+        );
+    }
+    Ok(())
+}
+
 pub fn measure(run: &mut Run, volumes: &[Volume]) -> io::Result<()> {
     let head = ["volume", "call", "proved: stack", "heap", "second: stack", "heap"];
     let mut table = Table::new("Memory beyond the image", NOTE, &head);
     for volume in volumes {
         progress::show(&format!("memory: {}", volume.name));
-        let all = tell(run, volume)?;
+        let all = tell(&run.scratch.native_volume(volume)?, None)?;
         for (what, any) in [("check", false), ("the most of any", true)] {
-            let (proved, second) = (most(&all, "proved", any), most(&all, "second", any));
-            let cells = [proved.0, proved.1, second.0, second.1].map(grouped);
-            table.row([volume.name.clone(), what.to_string()].into_iter().chain(cells).collect());
+            table.row(row(&volume.name, what, &all, any));
         }
-        let (stack, heap) = most(&all, "proved", true);
-        let bytes = stack + heap;
-        run.goals.at_most(
-            "memory beyond the image, bytes, the most of any call",
-            &volume.name,
-            bytes as f64,
-            LIMIT,
-            grouped(bytes),
-        );
+        judge(run, "memory beyond the image, bytes, the most of any call", &volume.name, &all);
     }
+    refusals(run, &mut table)?;
     progress::clear();
     run.report.add(table);
     Ok(())

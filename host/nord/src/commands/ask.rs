@@ -2,20 +2,37 @@
 
 use crate::answers::{done, Answer, Call, Refusal};
 use crate::args::Ask;
+use crate::broken::Broken;
 use crate::failure::Failure;
 use crate::names::{FileName, UserName, Within};
+use crate::volume::{Disk, Holder};
 use crate::{store, volume, volume_json};
-use proved::{Holder, Reply};
+use proved::{HolderReply, Reply};
 use serde_json::json;
 
 pub fn check(at: &Ask) -> Result<Answer, Failure> {
     let image = store::read(&at.image)?;
-    let visits = done(proved::check(&image), Call::Check, "")?;
+    let reply = proved::check(&image);
+    let visits = done(reply, Call::Check, "").map_err(|refusal| match refusal.number {
+        3 => told(refusal, &Broken::of(&image, reply), at),
+        _ => refusal,
+    })?;
     let pages = image.len() / proved::PAGE;
     Ok(Answer::new(
         format!("sound: {visits} of {pages} pages are held"),
         json!({ "sound": true, "visits": visits, "pages": pages }),
     ))
+}
+
+/// Number 3 with all that can be told of the place.
+fn told(refusal: Refusal, broken: &Broken, at: &Ask) -> Refusal {
+    let mut json = broken.json();
+    json["number"] = refusal.number.into();
+    Refusal {
+        more: broken.lines(&at.image),
+        json,
+        ..refusal
+    }
 }
 
 pub fn list(at: &Ask) -> Result<Answer, Failure> {
@@ -71,61 +88,23 @@ pub fn address(at: &Ask, file: &FileName, position: u32) -> Result<Answer, Failu
 
 pub fn who(at: &Ask, page: u32) -> Result<Answer, Failure> {
     let image = store::read(&at.image)?;
-    let holder = proved::who_holds(&image, page as usize);
-    if holder.number != 0 {
-        let reply = Reply {
-            number: holder.number,
-            rule: holder.rule,
-            value: 0,
-        };
-        return Err(Refusal::of(reply, Call::Who, format!("page {page} of {}", image.len() / proved::PAGE)).into());
-    }
-    let Holder {
-        kind,
-        user,
-        file,
-        position,
-        ..
-    } = holder;
-    let mut json = json!({ "page": page, "holder": KINDS[kind as usize], "kind": kind, "position": position });
-    if kind >= OF_A_FILE {
-        (json["user"], json["file"]) = (user.into(), file.into());
-    }
-    Ok(Answer::new(words(&image, holder), json))
+    let answer = proved::who_holds(&image, page as usize);
+    let subject = format!("page {page} of {}", image.len() / proved::PAGE);
+    done(plain(answer), Call::Who, subject)?;
+    let holder = Holder::from(answer.holder);
+    let mut json = volume_json::holder(&holder);
+    json["page"] = page.into();
+    Ok(Answer::new(Disk::new(&image).holder_words(&holder), json))
 }
 
-/// The library's kinds of holders in words, by number.
-pub const KINDS: [&str; 11] = [
-    "free",
-    "master",
-    "bit file",
-    "user index",
-    "user page",
-    "object subindex",
-    "object index",
-    "object page",
-    "subindex block",
-    "index block",
-    "data page",
-];
-/// The first of the kinds that a file has.
-pub const OF_A_FILE: u32 = 8;
-
-fn words(image: &[u16], holder: Holder) -> String {
-    let kind = KINDS[holder.kind as usize];
-    match holder.kind {
-        4 | 6 | 7 => format!("{kind} {}", holder.position),
-        8 => format!("{kind} of {}", file_words(image, holder)),
-        9 | 10 => format!("{kind} {} of {}", holder.position, file_words(image, holder)),
-        _ => kind.to_string(),
+/// An answer about a holder without him.
+pub fn plain(answer: HolderReply) -> Reply {
+    Reply {
+        number: answer.number,
+        rule: answer.rule,
+        value: 0,
+        place: answer.place,
+        first: answer.first,
+        second: answer.second,
     }
-}
-
-fn file_words(image: &[u16], Holder { user, file, .. }: Holder) -> String {
-    let volume = volume::read(image);
-    let found = volume
-        .user(user)
-        .and_then(|owner| Some((&owner.name, owner.file(file)?.full_name())));
-    let name = found.map(|(owner, name)| format!("{owner}/{name} ")).unwrap_or_default();
-    format!("{name}(user {user} file {file})")
 }

@@ -1,13 +1,12 @@
 //! The picture of an image, for a terminal and as an SVG file.
 
-use super::ask::{KINDS, OF_A_FILE};
 use crate::answers::{done, Answer, Call};
 use crate::args::{Ask, Colour};
 use crate::failure::Failure;
 use crate::volume::{self, Holder, Volume};
 use crate::{map, output, store, volume_json};
 use console::Term;
-use serde_json::{json, Value};
+use serde_json::Value;
 use std::path::Path;
 
 /// Characters in a line where there is no terminal.
@@ -53,15 +52,6 @@ fn coloured(colour: Colour) -> bool {
 /// What the listing has, and the holder of each page.
 fn json(volume: &Volume, holders: &[Holder]) -> Value {
     let mut json = volume_json::json(volume);
-    json["holders"] = holders.iter().map(holder).collect();
-    json
-}
-
-fn holder(holder: &Holder) -> Value {
-    let kind = holder.kind as u32;
-    let mut json = json!({ "holder": KINDS[kind as usize], "kind": kind, "position": holder.position });
-    if kind >= OF_A_FILE {
-        (json["user"], json["file"]) = (holder.user.into(), holder.file.into());
-    }
+    json["holders"] = holders.iter().map(volume_json::holder).collect();
     json
 }

@@ -4,6 +4,7 @@ mod ask;
 mod files;
 mod format;
 mod map;
+mod page;
 mod transfer;
 mod users;
 
@@ -32,6 +33,7 @@ pub fn run(command: Command) -> Result<Answer, Failure> {
             contiguous,
             created,
         } => transfer::write(&at, &file, &input, transfer::Creation { contiguous, created }),
+        Command::Page { at, page, word } => page::page(&at, page, word),
         Command::Map { at, svg, width, colour } => map::map(&at, svg.as_deref(), width, colour),
         Command::Manual => Ok(plain(manual::page())),
         Command::Completions { shell } => Ok(plain(completions(shell))),

@@ -10,17 +10,19 @@ pub const USER_PAGES: u32 = 8;
 pub const OBJECT_BLOCKS: u32 = 4;
 
 /// Users of a volume, and files of a user.
-const ENTRIES: u32 = 256;
-const ENTRIES_TO_A_PAGE: u32 = 32;
-const ENTRY_WORDS: usize = 32;
+pub const ENTRIES: u32 = 256;
+/// Entry numbers of the object file.
+pub const OBJECTS: u32 = ENTRIES * ENTRIES;
+pub const ENTRIES_TO_A_PAGE: u32 = 32;
+pub const ENTRY_WORDS: u32 = 32;
 const USED: u16 = 1 << 15;
 
 /// Words of the directory entry in page 0.
-const VOLUME_NAME: usize = 1008;
-const OBJECT_POINTER: usize = 1016;
-const USER_POINTER: usize = 1018;
-const BIT_POINTER: usize = 1020;
-const UNRESERVED: usize = 1022;
+pub const VOLUME_NAME: u32 = 1008;
+pub const OBJECT_POINTER: u32 = 1016;
+pub const USER_POINTER: u32 = 1018;
+pub const BIT_POINTER: u32 = 1020;
+pub const UNRESERVED: u32 = 1022;
 
 /// An image that is only read.
 #[derive(Clone, Copy)]
@@ -28,23 +30,25 @@ pub struct Disk<'a> {
     image: &'a [u16],
 }
 
-/// A pointer with its flags told apart. Both flags together mean no page, as all zeros do: a sound image has none such.
+/// A pointer with its flags told apart. Both flags together are an error: a sound image has none such.
+#[derive(Clone, Copy, Debug, PartialEq, Eq)]
 pub enum Pointer {
     None,
     Plain(u32),
     Indexed(u32),
     Subindexed(u32),
+    Both(u32),
 }
 
 impl Pointer {
-    fn of(number: u32) -> Pointer {
+    pub fn of(number: u32) -> Pointer {
         let page = number & !(3 << 30);
         match number >> 30 {
             0 if page == 0 => Pointer::None,
             0 => Pointer::Plain(page),
             1 => Pointer::Indexed(page),
             2 => Pointer::Subindexed(page),
-            _ => Pointer::None,
+            _ => Pointer::Both(page),
         }
     }
 }
@@ -58,92 +62,134 @@ impl<'a> Disk<'a> {
         (self.image.len() / PAGE) as u32
     }
 
+    /// Whether a pointer may lead to this page: 1..P-1.
+    pub fn inside(&self, page: u32) -> bool {
+        (1..self.pages()).contains(&page)
+    }
+
     pub fn volume_name(&self) -> String {
         letters(self.words(0, VOLUME_NAME, 8))
     }
 
     pub fn unreserved(&self) -> u32 {
-        pair(self.words(0, UNRESERVED, 2), 0)
+        self.number(0, UNRESERVED)
     }
 
     /// The bit file's page.
     pub fn bit_page(&self) -> u32 {
-        pair(self.words(0, BIT_POINTER, 2), 0)
+        self.number(0, BIT_POINTER)
+    }
+
+    /// A page's bit, if the bit file lies in the image.
+    pub fn bit(&self, page: u32) -> Option<bool> {
+        let block = Some(self.bit_page()).filter(|page| self.inside(*page))?;
+        let word = self.words(block, page / 16, 1).first()?;
+        Some(word >> (page % 16) & 1 == 1)
     }
 
     /// The ones of the bit file below P.
     pub fn reserved(&self) -> u32 {
-        let bits = self.words(self.bit_page(), 0, PAGE);
-        let is_set = |page: &u32| bits.get(*page as usize / 16).is_some_and(|word| word >> (page % 16) & 1 == 1);
-        (0..self.pages()).filter(is_set).count() as u32
+        (0..self.pages()).filter(|page| self.bit(*page) == Some(true)).count() as u32
     }
 
     pub fn user_pointer(&self) -> Pointer {
-        Pointer::of(pair(self.words(0, USER_POINTER, 2), 0))
+        Pointer::of(self.number(0, USER_POINTER))
     }
 
     pub fn object_pointer(&self) -> Pointer {
-        Pointer::of(pair(self.words(0, OBJECT_POINTER, 2), 0))
+        Pointer::of(self.number(0, OBJECT_POINTER))
     }
 
     /// The page number in a slot of a block; 0 is no page.
     pub fn slot(&self, block: u32, slot: u32) -> u32 {
-        pair(self.words(block, 2 * slot as usize, 2), 0)
+        self.number(block, 2 * slot)
     }
 
     /// The used users' indexes and entries, ascending.
     pub fn users(&self) -> impl Iterator<Item = (u32, Entry<'a>)> + '_ {
-        (0..ENTRIES).filter_map(|user| Some((user, self.entry(self.user_page(user / ENTRIES_TO_A_PAGE), user)?)))
+        (0..ENTRIES).filter_map(|user| Some((user, self.user(user)?)))
     }
 
     /// A user's files' indexes and entries, ascending.
     pub fn files(&self, user: u32) -> impl Iterator<Item = (u32, Entry<'a>)> + '_ {
-        (0..ENTRIES).filter_map(move |file| {
-            let number = ENTRIES * user + file;
-            Some((file, self.entry(self.object_page(number / ENTRIES_TO_A_PAGE), number)?))
-        })
+        (0..ENTRIES).filter_map(move |file| Some((file, self.object(ENTRIES * user + file)?)))
     }
 
-    fn user_page(&self, position: u32) -> u32 {
+    /// The used objects' entry numbers and entries, ascending, whether their owners are used or not.
+    pub fn objects(&self) -> impl Iterator<Item = (u32, Entry<'a>)> + '_ {
+        (0..OBJECTS).filter_map(|number| Some((number, self.object(number)?)))
+    }
+
+    /// A user's entry, if it is used.
+    pub fn user(&self, user: u32) -> Option<Entry<'a>> {
+        self.entry(self.user_page(user / ENTRIES_TO_A_PAGE), user)
+    }
+
+    /// The object entry with this number, if it is used.
+    pub fn object(&self, number: u32) -> Option<Entry<'a>> {
+        self.entry(self.object_page(number / ENTRIES_TO_A_PAGE), number)
+    }
+
+    /// The n-th page of the user file; 0 is none.
+    pub fn user_page(&self, position: u32) -> u32 {
         match self.user_pointer() {
-            Pointer::Indexed(block) => self.slot(block, position),
+            Pointer::Indexed(block) if position < USER_PAGES => self.slot(block, position),
             _ => 0,
         }
     }
 
-    fn object_page(&self, position: u32) -> u32 {
-        let block = match self.object_pointer() {
-            Pointer::Indexed(block) if position < SLOTS => block,
-            Pointer::Subindexed(subindex) => self.slot(subindex, position / SLOTS),
-            _ => 0,
-        };
-        if block == 0 {
-            return 0;
+    /// The n-th page of the object file; 0 is none.
+    pub fn object_page(&self, position: u32) -> u32 {
+        match self.object_block(position / SLOTS) {
+            0 => 0,
+            block => self.slot(block, position % SLOTS),
         }
-        self.slot(block, position % SLOTS)
+    }
+
+    /// The n-th index block of the object file; 0 is none.
+    pub fn object_block(&self, n: u32) -> u32 {
+        match self.object_pointer() {
+            Pointer::Indexed(block) if n == 0 => block,
+            Pointer::Subindexed(subindex) if n < OBJECT_BLOCKS => self.slot(subindex, n),
+            _ => 0,
+        }
     }
 
     /// The entry with this number in its page, if it is used.
     fn entry(&self, page: u32, number: u32) -> Option<Entry<'a>> {
-        let first = (number % ENTRIES_TO_A_PAGE) as usize * ENTRY_WORDS;
-        let words = self.words(page, first, ENTRY_WORDS);
-        (page != 0 && words.first().is_some_and(|word| word & USED != 0)).then_some(Entry { words })
+        let entry = self.entry_at(page, number % ENTRIES_TO_A_PAGE)?;
+        (page != 0 && entry.is_used()).then_some(entry)
+    }
+
+    /// The n-th entry of a page, used or not.
+    pub fn entry_at(&self, page: u32, n: u32) -> Option<Entry<'a>> {
+        let words = self.words(page, n * ENTRY_WORDS, ENTRY_WORDS);
+        (!words.is_empty()).then_some(Entry { words })
+    }
+
+    /// A number of two words, the more significant first.
+    pub fn number(&self, page: u32, word: u32) -> u32 {
+        pair(self.words(page, word, 2), 0)
     }
 
     /// Words of a page, or none where the image has no such page.
-    fn words(&self, page: u32, first: usize, count: usize) -> &'a [u16] {
-        let start = page as usize * PAGE + first;
-        self.image.get(start..start + count).unwrap_or(&[])
+    pub fn words(&self, page: u32, first: u32, count: u32) -> &'a [u16] {
+        let start = page as usize * PAGE + first as usize;
+        self.image.get(start..start + count as usize).unwrap_or(&[])
     }
 }
 
-/// The 32 words of a used entry, of a user or of a file.
+/// The 32 words of an entry, of a user or of a file.
 #[derive(Clone, Copy)]
 pub struct Entry<'a> {
-    words: &'a [u16],
+    pub words: &'a [u16],
 }
 
 impl Entry<'_> {
+    pub fn is_used(&self) -> bool {
+        self.words.first().is_some_and(|word| word & USED != 0)
+    }
+
     pub fn name(&self) -> String {
         letters(self.words.get(1..9).unwrap_or(&[]))
     }
@@ -175,6 +221,11 @@ impl Entry<'_> {
     /// A file's pages.
     pub fn pages(&self) -> u32 {
         pair(self.words, 26)
+    }
+
+    /// A file's bytes.
+    pub fn bytes(&self) -> u32 {
+        pair(self.words, 28)
     }
 
     pub fn pointer(&self) -> Pointer {

@@ -47,6 +47,8 @@ fn asking_changes_nothing() {
         "find IMAGE DOCK",
         "address IMAGE @0/@0 0",
         "who IMAGE 5",
+        "page IMAGE 5",
+        "page IMAGE 5 6",
         "read IMAGE DOCK/READS:DATA",
     ] {
         run(&image, line);

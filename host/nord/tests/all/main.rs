@@ -1,5 +1,6 @@
 //! The command as its users meet it: the real program, run on image files.
 
+mod broken;
 mod commands;
 mod common;
 mod help;
@@ -7,6 +8,7 @@ mod host;
 mod killed;
 mod listing;
 mod names;
+mod page;
 mod readme;
 mod refusals;
 mod terminal;

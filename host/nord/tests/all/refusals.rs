@@ -1,4 +1,4 @@
-//! Every refusal: its number as exit status, its words, the image unchanged.
+//! Every refusal but 3 (broken.rs has that): its number as exit status, its words, the image unchanged.
 
 use crate::common::{disk, done, fails, noise, run, sample, Folder};
 use serde_json::json;
@@ -48,50 +48,6 @@ fn number_2_for_arguments() {
         assert!(fails(&image, line, 2).contains("refused (2): an argument is wrong ("), "{line}");
     }
     assert!(fails(&image, "find IMAGE dock", 2).ends_with("dock (names are in capitals)\n"));
-}
-
-/// A word of the sample disk and what it becomes, for each rule.
-const BROKEN: [(u32, usize, u16); 10] = [
-    (1, 1008, 0),
-    (2, 1018, 0xc000),
-    (3, 1024 + 17, 5),
-    (4, 2 * 1024 + 18, 5),
-    (5, 3 * 1024 + 3, 200),
-    (6, 4 * 1024 + 16, 7),
-    (7, 4 * 1024 + 29, 1),
-    (8, 6 * 1024 + 3, 5),
-    (9, 77 * 1024 + 6, 1 << 4),
-    (10, 1023, 1),
-];
-
-#[test]
-fn number_3_names_the_lowest_broken_rule() {
-    let (folder, image) = sample();
-    let sound = std::fs::read(&image).unwrap();
-    for (rule, word, value) in BROKEN {
-        let mut bytes = sound.clone();
-        bytes[2 * word..2 * word + 2].copy_from_slice(&value.to_be_bytes());
-        let image = folder.put("broken.img", &bytes);
-        for line in [
-            "check IMAGE",
-            "list IMAGE",
-            "user add IMAGE FLOCK",
-            "read IMAGE @0/@0",
-            "file grow IMAGE DOCK/READS:DATA",
-            "who IMAGE 0",
-        ] {
-            let said = fails(&image, line, 3);
-            assert!(
-                said.starts_with(&format!("nord: refused (3): the image is unsound: rule {rule} is broken: ")),
-                "{line}: {said}"
-            );
-        }
-        let json = run(&image, "check IMAGE --json");
-        assert_eq!(
-            (json.status, &json.json()["number"], &json.json()["rule"]),
-            (3, &json!(3), &json!(rule))
-        );
-    }
 }
 
 #[test]

@@ -32,17 +32,53 @@ pub fn reads(pages: usize, given: usize, length: u32) -> Vec<u16> {
 
 /// Number 0 with a value.
 pub fn done(value: u32) -> Reply {
-    Reply { number: 0, rule: 0, value }
+    Reply { value, ..Reply::default() }
 }
 
 /// A refusal other than 3.
 pub fn refused(number: u32) -> Reply {
-    Reply { number, rule: 0, value: 0 }
+    Reply {
+        number,
+        ..Reply::default()
+    }
 }
 
-/// Number 3 with its rule.
-pub fn unsound(rule: u32) -> Reply {
-    Reply { number: 3, rule, value: 0 }
+/// Number 3 with its rule, and the page and the word that break it.
+pub fn unsound(rule: u32, page: usize, word: usize) -> Reply {
+    let place = Place {
+        page: page as u32,
+        word: word as u32,
+    };
+    Reply {
+        number: 3,
+        rule,
+        place,
+        ..Reply::default()
+    }
+}
+
+/// Number 3 with rule 8: a page, and its first two holders.
+pub fn shared(page: usize, first: Holder, second: Holder) -> Reply {
+    Reply {
+        first,
+        second,
+        ..unsound(8, page, 0)
+    }
+}
+
+/// A holder by its kind, user, file and position.
+pub fn holder(kind: u32, user: u32, file: u32, position: u32) -> Holder {
+    Holder {
+        kind,
+        user,
+        file,
+        position,
+    }
+}
+
+/// A system page's holder.
+pub fn system(kind: u32, position: u32) -> Holder {
+    holder(kind, 0, 0, position)
 }
 
 /// A call must be refused with this number and leave the image as it was.
