@@ -4,15 +4,14 @@ use mathlib.Core.Logic.{inl, inr}
 use Prim.Native.Nat.{ℕ, zero, suc, _+_, _-_, _*_, _/_, _%_, _^_, _≤_, _<_}
 use native.Mathlib.Nat.{add-zero, add-suc, mod-eq-of-lt, eq-zero-or-pos}
 use native.Mathlib.Numerals.{add-one}
-use native.Mathlib.Decide.{decLt}
 use native.Mathlib.Omega.{arith}
 use lib.Count.{ones}
 use Rattle.sums.specs.Sum.{sum, sum-suc, sum-le, sum-const}
-use Rattle.sums.specs.Search.{every-yes, every-at}
+use Rattle.sums.specs.Search.{every-yes, every-at, highest-at, highest-none}
 use Rattle.book.specs.Words.{Vol, word, put, wipe}
 use Rattle.book.specs.Pointers.{page, bitPointer, flagsAbove}
 use Rattle.book.specs.Trees.{pageAt, upto}
-use Rattle.book.specs.Bits.{digit, toDigit, pageBits, bitPageOf, bitWord, bitPages, bitFile, bitPage, bit, mark, claim, claimRun, freeRun}
+use Rattle.book.specs.Bits.{digit, toDigit, pageBits, bitPageOf, bitWord, bitPages, bitFile, bitPage, bit, mark, claim, claimRun, freeRun, highestRun}
 use Rattle.book.specs.Image.{mostPages}
 use Rattle.book.specs.Rules.{Rule1}
 use Rattle.book.specs.Written.{digit-le, word-pos, put-page, wipe-page}
@@ -65,18 +64,6 @@ module _ (P : ℕ) (v : Vol) (b : ℕ) (f : BitsAt P v b) where
       ap (λ (k : ℕ). sum k (bit P v)) (let e : P ≡ P / 16 * 16 + P % 16 = omega arith in e)
       ∙ sum-word (P / 16) (P % 16) (omega arith) (omega arith)
 
-  -- ---- searching, word by word
-
-  -- pages before word i are reserved, and r more
-  pub full-more : (i r : ℕ) → r ≤ 16 → ((j : ℕ) → j < r → digit j (v b i) ≡ 1) → ((k : ℕ) → k < i * 16 → k < P → bit P v k ≡ 1)
-      → (k : ℕ) → k < i * 16 + r → k < P → bit P v k ≡ 1
-  full-more i r m w h k l q = elim (decLt k (i * 16)) [
-    | yes a ↦ h k a q
-    | no a ↦
-        let e : k ≡ i * 16 + (k - i * 16) = omega arith in
-        ap (bit P v) e ∙ bit-in i (k - i * 16) (omega arith) (omega arith) ∙ w (k - i * 16) (omega arith)
-  ]
-
 -- ---- a bit written as the code writes it: the word read, the bit made x, the word put back
 
 pub mark-is : (P : ℕ) (v w : Vol) (b p x y z : ℕ) → BitsAt P v b → p < P → y ≡ v b (p / 16) → z ≡ toDigit (p % 16) y x → w ≡ put v b (p / 16) z → w ≡ mark P v p x
@@ -102,6 +89,17 @@ module _ (P : ℕ) (v : Vol) where
     | inl z ↦ z
     | inr p ↦ absurd (let r : ⊥ = omega (arith, every-at (λ i. 1 - bit P v (s + i)) n p i l) in r)
   ]
+
+  -- n free pages from s on, and no start above; or none at all
+  pub highest-start : (n s : ℕ) → 0 < n → ((k : ℕ) → k < n → (s + k < P) × (bit P v (s + k) ≡ 0)) → ((t : ℕ) → s < t → t + n ≤ P → freeRun P v n t ≡ 0) → highestRun P v n ≡ s
+  unfolding highestRun
+  highest-start n s some free above =
+      let top = free (n - 1) (omega arith) .0 in
+      highest-at (freeRun P v n) (suc P - n) s (omega (arith, top)) (run-free n s (λ k l. free k l .1)) (λ t a l. above t a (omega arith))
+
+  pub highest-absent : (n : ℕ) → 0 < n → ((t : ℕ) → t + n ≤ P → freeRun P v n t ≡ 0) → highestRun P v n ≡ 0
+  unfolding highestRun
+  highest-absent n some none = highest-none (freeRun P v n) (suc P - n) (λ t l. none t (omega arith))
 
 -- ---- the bit file stays where it is
 

@@ -1,5 +1,8 @@
 // The bit file, one page b: page p is bit p % 16, from the right, of word p / 16; 1 is reserved.
 pub mod marks;
+pub mod pair;
+pub mod run;
+pub mod search;
 pub mod word;
 
 use page::BITS;
@@ -8,8 +11,8 @@ use page::read::page_at;
 use page::read::word_at;
 use page::write::put_word;
 use page::write::zero_page;
+use search::lowest_free;
 use word::digit_in;
-use word::first_clear;
 use word::ones_in;
 use word::ones_low;
 use word::with_one;
@@ -18,7 +21,7 @@ ghost use mathlib.Core.Path.{_≡_};
 ghost use Prim.Native.Nat.{ℕ, _+_, _*_, _≤_, _<_};
 ghost use lib.ListN.{length};
 ghost use Rattle.book.specs.Words.{vol};
-ghost use Rattle.book.specs.Bits.{bit, mark, reserved as reservedOf, lowestFree, claim as claimOf, claimRun, pageBits, bitPages};
+ghost use Rattle.book.specs.Bits.{bit, mark, reserved as reservedOf, claim as claimOf, claimRun, pageBits, bitPages};
 ghost use Rattle.book.specs.Image.{pages as pagesOf, mostPages, Ready};
 ghost use Rattle.bits.specs.File.{BitsAt};
 ghost use Rattle.bits.specs.Taken.{CanTake, Took};
@@ -106,26 +109,6 @@ pub fn reserved(img: &[u16], b: usize, pages: usize) -> usize
         return n;
     }
     n + ones_low(word_at(img, b, full), rest)
-}
-
-// The lowest free page, and `pages` if there is none: full words are skipped.
-pub fn lowest_free(img: &[u16], b: usize, pages: usize) -> usize
-    requires { ⌜ (1024 * b + 1024 ≤ length (now img)) × BitsAt pages (vol (now img)) b ⌝ }
-    ensures { λ r. ⌜ r ≡ lowestFree pages (vol (now (img .entry))) ⌝ }
-{
-    let mut i: usize = 0;
-    while i * 16 < pages {
-        let t = first_clear(word_at(img, b, i));
-        if t < 16 {
-            let p = i * 16 + t;
-            if p < pages {
-                return p;
-            }
-            return pages;
-        }
-        i += 1;
-    }
-    pages
 }
 
 // The lowest free page is taken.

@@ -5,5 +5,4 @@ pub mod Taking
 pub mod Between
 pub mod Made
 pub mod Needs
-pub mod Beside
-pub mod Seen
+pub mod Spent

@@ -121,6 +121,16 @@ unfolding highest
 highest-none f zero z = refl
 highest-none f (suc n) z = pick-no (f n) n _ (z n (omega arith)) ∙ highest-none f n (λ j l. z j (omega arith))
 
+-- there is none above 0
+pub highest-low : (f : ℕ → ℕ) (n : ℕ) → ((j : ℕ) → 0 < j → j < n → f j ≡ 0) → highest f n ≡ 0
+highest-low f n z = elim (ℕ-discrete n 0) [
+  | yes e ↦ highest-none f n (λ j h. absurd (let r : ⊥ = omega arith in r))
+  | no ne ↦ elim (eq-zero-or-pos (f 0)) [
+    | inr p ↦ highest-at f n 0 (omega arith) p z
+    | inl e ↦ highest-none f n (λ j h. elim (ℕ-discrete j 0) [ yes q ↦ ap f q ∙ e | no q ↦ z j (omega arith) h ])
+  ]
+]
+
 -- what it found, and what it passed
 pub record Highest (f : ℕ → ℕ) (n : ℕ) : Type 0 where
   pub there : 0 < highest f n → (highest f n < n) × (0 < f (highest f n))

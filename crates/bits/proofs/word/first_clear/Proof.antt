@@ -1,24 +1,20 @@
 -- `bits::word::first_clear` meets its contract. Assumes nothing.
-use Prim.Native.Nat.{_-_, _<_}
 use native.Mathlib.Omega.{arith}
-use lib.Count.{trailingZeros, trailing-le}
+use borrow.Author.Needs.{needs}
 use Rattle.book.specs.Written.{digit-le}
-use Rattle.bits.proofs.Digits.{digit-not, trailing-below, trailing-at}
 use Rattle.bits.proofs.word.first_clear.Statement.{statement}
 use Rattle.bits.proofs.word.first_clear.Tie as tie
 
-cast-result : tie.Need-cast-result
-cast-result c = omega (arith, trailing-le 16 (65535 - c .args .w))
-
 returns : tie.Need-returns
 returns c =
-    let w = c .args .w in
-    let fits : w < 65536 = omega arith in
+    let w = c .before .before .args .w in
+    let i = c .before .inverse .ensures in
+    let z = c .zeros-below .ensures in
     record {
-      most = trailing-le 16 (65535 - w);
-      below = λ j h. omega (arith, trailing-below 16 (65535 - w) j h, digit-not j 16 w (omega (arith, trailing-le 16 (65535 - w))) fits, digit-le j w);
-      there = λ h. omega (arith, trailing-at 16 (65535 - w) h, digit-not (trailingZeros 16 (65535 - w)) 16 w h fits, digit-le (trailingZeros 16 (65535 - w)) w);
+      most = z .most;
+      below = λ j h. omega (arith, z .zeros j h, i j (omega (arith, z .most)), digit-le j w);
+      there = λ h. omega (arith, z .there h, i (c .zeros-below .result) h, digit-le (c .zeros-below .result) w);
     }
 
 pub first-clear-spec : {M : Type 1} → statement M
-first-clear-spec = tie.close (tie.spec cast-result returns)
+first-clear-spec = tie.close (tie.spec (λ c κs. search needs) (λ c κs. search needs) returns)

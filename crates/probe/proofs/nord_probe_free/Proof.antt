@@ -1,0 +1,20 @@
+-- `probe::nord_probe_free` meets its contract. Assumes nothing.
+use native.Mathlib.Omega.{arith}
+use borrow.Author.Needs.{needs}
+use Rattle.probe.proofs.nord_probe_free.Statement.{statement}
+use Rattle.probe.proofs.nord_probe_free.Tie as tie
+
+searched-requires : tie.Need-searched-requires
+searched-requires c κs = search needs
+
+returns : tie.Need-returns
+returns c = λ b B. absurd (c .before .searched .ensures .none (omega arith) b B)
+
+free-from-requires : tie.Need-free-from-requires
+free-from-requires c κs = let B = c .before .searched .ensures .found (omega arith) in (omega (arith, B .below), B)
+
+returns-2 : tie.Need-returns-2
+returns-2 c = search needs
+
+pub nord-probe-free-spec : {M : Type 1} → statement M
+nord-probe-free-spec = tie.close (tie.spec searched-requires returns free-from-requires returns-2)

@@ -1,0 +1,60 @@
+// The searches of the bit file by themselves, for the benchmarks. They are no calls of the library: host/probe/probe.h declares them, and nord.h does not.
+use bits::search::free_from;
+use bits::search::highest_run;
+use page::BITS;
+use page::MOST_PAGES;
+use page::WORDS;
+use page::read::page_at;
+ghost use mathlib.Core.Path.{_≡_};
+ghost use Prim.Native.Nat.{ℕ, _<_};
+ghost use Rattle.book.specs.Words.{vol};
+ghost use Rattle.book.specs.Bits.{highestRun};
+ghost use Rattle.book.specs.Image.{pages};
+ghost use Rattle.bits.specs.File.{BitsAt};
+ghost use Rattle.bits.specs.Search.{freeFrom};
+ghost use Rattle.probe.specs.Searched.{Searched};
+
+// The page of the bit file, and 0 of an image that has none: its bit pointer names no page of it but 0, or its pages are too many for one.
+fn searched(img: &[u16]) -> usize
+    ensures { λ r. ⌜ Searched (pages (now (img .entry))) (vol (now (img .entry))) r ⌝ }
+{
+    let count = img.len() / WORDS;
+    if MOST_PAGES < count {
+        return 0;
+    }
+    if count == 0 {
+        return 0;
+    }
+    let b = page_at(img, 0, BITS) as usize;
+    if count <= b {
+        return 0;
+    }
+    b
+}
+
+// The lowest free page from `from` on, and the number of pages if there is none; 0 without a bit file.
+#[no_mangle]
+pub extern "C" fn nord_probe_free(img: &[u16], from: usize) -> usize
+    ensures { λ r. ⌜ ((b : ℕ) → BitsAt (pages (now (img .entry))) (vol (now (img .entry))) b → r ≡ freeFrom (pages (now (img .entry))) (vol (now (img .entry))) from) ⌝ }
+{
+    let b = searched(img);
+    if b == 0 {
+        return 0;
+    }
+    free_from(img, b, img.len() / WORDS, from)
+}
+
+// The highest start of n free pages in a row, and 0 if there is none, or no bit file.
+#[no_mangle]
+pub extern "C" fn nord_probe_run(img: &[u16], n: usize) -> usize
+    ensures { λ r. ⌜ ((b : ℕ) → BitsAt (pages (now (img .entry))) (vol (now (img .entry))) b → 0 < n → r ≡ highestRun (pages (now (img .entry))) (vol (now (img .entry))) n) ⌝ }
+{
+    if n == 0 {
+        return 0;
+    }
+    let b = searched(img);
+    if b == 0 {
+        return 0;
+    }
+    highest_run(img, b, img.len() / WORDS, n)
+}
