@@ -35,23 +35,30 @@ pub fn put_back(image: &mut [u16], kept: &[Kept]) {
         .for_each(|(at, page)| image[*at..*at + PAGE_WORDS].copy_from_slice(page));
 }
 
-/// A side that asks one call. Each run of a call that changes words is timed by itself, and the words are put back after it.
-fn asking<'a>(image: &'a RefCell<Vec<u16>>, program: Program, call: Call, q: &'a Question, kept: &'a [Kept]) -> Side<'a> {
-    if !call.changes() {
-        return side(move || {
-            black_box(ask(program, call, black_box(&mut image.borrow_mut()), q));
-        });
-    }
+/// A side whose work changes words: each run is timed by itself, and the pages that it changed are put back after it.
+pub fn changing<'a>(image: &'a RefCell<Vec<u16>>, kept: &'a [Kept], work: impl Fn(&mut [u16]) + 'a) -> Side<'a> {
     Box::new(move |repeats| {
         let words = &mut image.borrow_mut();
         let mut spent = Duration::ZERO;
         for _ in 0..repeats {
             let start = Instant::now();
-            black_box(ask(program, call, black_box(words), q));
+            work(black_box(words));
             spent += start.elapsed();
             put_back(words, kept);
         }
         spent
+    })
+}
+
+/// A side that asks one call.
+fn asking<'a>(image: &'a RefCell<Vec<u16>>, program: Program, call: Call, q: &'a Question, kept: &'a [Kept]) -> Side<'a> {
+    if call.changes() {
+        return changing(image, kept, move |words| {
+            black_box(ask(program, call, words, q));
+        });
+    }
+    side(move || {
+        black_box(ask(program, call, black_box(&mut image.borrow_mut()), q));
     })
 }
 
@@ -62,7 +69,8 @@ pub struct Figures {
     pub ratio: Spread,
 }
 
-fn figures(times: &[Times]) -> Figures {
+/// What the first two sides of a race tell, the library's and the second program's.
+pub fn figures(times: &[Times]) -> Figures {
     Figures {
         proved: Spread::of(&times[0]).median,
         second: Spread::of(&times[1]).median,

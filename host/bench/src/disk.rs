@@ -1,10 +1,13 @@
 //! Disks laid out word by word, in the order in which the calls take pages: thousands of files at once, without a check for each call.
 
-use second::bits::reserve;
+use second::bits::{is_reserved, reserve};
 use second::entry::{object, object_number, user, EntryPlace, ENTRIES_TO_A_PAGE, NAME, TYPE, USED_WORD};
-use second::image::{page_start, page_words_mut, pair, put_pair, BIT_POINTER, OBJECT_POINTER, PAGE_WORDS, UNRESERVED, USER_POINTER};
+use second::image::{
+    page_start, page_words, page_words_mut, pair, put_pair, BIT_POINTER, OBJECT_POINTER, PAGE_WORDS, UNRESERVED, USER_POINTER,
+};
 use second::name::{pack, NAME_WORDS, TYPE_WORDS};
 use second::pointer::{block_and_slot, pages_held, put_slot, slot, Pointer, SLOTS};
+use std::collections::BTreeSet;
 
 /// Users above this many need a subindexed object file.
 const USERS_OF_ONE_INDEX: u32 = 64;
@@ -26,6 +29,8 @@ pub struct Disk {
     /// The lowest page never taken, and the one above the highest.
     low: u32,
     high: u32,
+    /// Pages between them that stay free.
+    left: BTreeSet<u32>,
     users: u32,
     system: u32,
 }
@@ -43,6 +48,7 @@ impl Disk {
             bit_page,
             low: 1,
             high: pages,
+            left: BTreeSet::new(),
             users,
             system: 2,
         };
@@ -73,15 +79,37 @@ impl Disk {
         put_pair(&mut self.words, OBJECT_POINTER, pointer.value());
     }
 
-    /// Pages not taken yet.
+    /// Whether a page is free.
+    pub fn is_free(&self, page: u32) -> bool {
+        !is_reserved(page_words(&self.words, self.bit_page), page)
+    }
+
+    /// Leaves these pages free, of those not taken yet.
+    pub fn leave(&mut self, pages: impl IntoIterator<Item = u32>) {
+        self.left.extend(pages);
+    }
+
+    /// Whether a page is never taken for what is laid out.
+    fn is_passed_over(&self, page: u32) -> bool {
+        page == self.bit_page || self.left.contains(&page)
+    }
+
+    /// Pages not taken yet, but for those that stay free.
     pub fn free(&self) -> u32 {
-        let bit_page_between = (self.low..self.high).contains(&self.bit_page);
-        self.high - self.low - u32::from(bit_page_between)
+        (self.low..self.high).filter(|&page| !self.is_passed_over(page)).count() as u32
+    }
+
+    /// How many pages in a row `take` would give now.
+    pub fn row(&self) -> u32 {
+        let passed = |page: &u32| self.is_passed_over(*page);
+        (self.low..self.high).skip_while(passed).take_while(|page| !passed(page)).count() as u32
     }
 
     /// Takes the lowest free page.
     pub fn take(&mut self) -> u32 {
-        self.low += u32::from(self.low == self.bit_page);
+        while self.is_passed_over(self.low) {
+            self.low += 1;
+        }
         let page = self.low;
         assert!(page < self.high, "the disk is full");
         self.low += 1;
@@ -91,7 +119,10 @@ impl Disk {
 
     /// Takes the highest free page, as a contiguous file of one page does.
     fn take_high(&mut self) -> u32 {
-        self.high -= 1 + u32::from(self.high - 1 == self.bit_page);
+        self.high -= 1;
+        while self.is_passed_over(self.high) {
+            self.high -= 1;
+        }
         assert!(self.high >= self.low, "the disk is full");
         self.set_bit(self.high);
         self.high
@@ -191,19 +222,35 @@ impl Disk {
         self.charge(user, pages_held(pages) as u32);
     }
 
-    /// A contiguous file of one page.
+    /// A contiguous file of one page, the highest that is free.
     pub fn single(&mut self, user: u32, file: u32, name: &[u8], kind: &[u8]) {
         self.object_page(object_number(user, file));
         let page = self.take_high();
+        self.plain(user, file, name, kind, (page, 1));
+    }
+
+    /// A contiguous file of the lowest free page and those in a row with it. Gives how many they are.
+    pub fn contiguous(&mut self, user: u32, file: u32, name: &[u8], kind: &[u8]) -> u32 {
+        self.object_page(object_number(user, file));
+        let pages = self.row();
+        let first = self.take();
+        (1..pages).for_each(|_| _ = self.take());
+        self.plain(user, file, name, kind, (first, pages));
+        pages
+    }
+
+    /// The entry of a contiguous file with its run, first page and count.
+    fn plain(&mut self, user: u32, file: u32, name: &[u8], kind: &[u8], run: (u32, u32)) {
+        let (first, pages) = run;
         self.entry(&Entry {
             user,
             file,
             name,
             kind,
-            pages: 1,
-            pointer: Pointer::Plain(page),
+            pages,
+            pointer: Pointer::Plain(first),
         });
-        self.charge(user, 1);
+        self.charge(user, pages);
     }
 
     /// Gives each user what he uses, and one of them some pages more; the rest is unreserved.

@@ -10,6 +10,7 @@ use std::path::Path;
 use std::process::ExitCode;
 
 const USE: &str = "bench [--quick] [--output FILE.md]
+bench searches                   the part on volumes that are nearly full, alone
 bench machine                    the machine and the tools
 bench volumes FOLDER             writes the volumes there, for the next three
 bench check-file IMAGE           a process that reads and checks an image, high byte first
@@ -68,6 +69,7 @@ fn main() -> ExitCode {
             print!("{}", machine::table().as_text());
             Ok(())
         }
+        ["searches"] => parts::run_searches(Plan::thorough()).map(drop),
         ["volumes", folder] => write_volumes(folder),
         ["check-file", image] => children::check_file(Path::new(image)).and_then(verdict),
         ["check-mapped", image] => children::check_mapped(Path::new(image)).and_then(verdict),

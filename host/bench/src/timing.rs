@@ -103,6 +103,7 @@ impl std::fmt::Display for Spread {
 /// A time in the unit that suits it.
 pub fn show(seconds: f64) -> String {
     match seconds {
+        s if s < 1e-6 => format!("{:.1} ns", s * 1e9),
         s if s < 1e-3 => format!("{:.2} us", s * 1e6),
         s if s < 1.0 => format!("{:.2} ms", s * 1e3),
         s => format!("{s:.2} s"),

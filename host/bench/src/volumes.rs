@@ -59,7 +59,7 @@ pub fn file_name(number: u32) -> Vec<u8> {
 pub const KIND: &[u8] = b"DATA";
 
 /// What is asked of the last file of the last user.
-fn question(words: &[u16], user: u32, file: u32, position: u32, growing: u32) -> Question {
+pub fn question(words: &[u16], user: u32, file: u32, position: u32, growing: u32) -> Question {
     let text = |bytes| String::from_utf8(bytes).unwrap();
     let reply = second::address(words, user as usize, file as usize, position as usize);
     assert_eq!(reply.number, 0);
@@ -91,7 +91,7 @@ pub fn yard() -> Volume {
 }
 
 /// The longest file that holds at most so many pages.
-fn longest(left: u32) -> u32 {
+pub fn longest(left: u32) -> u32 {
     (0..=left.min(LARGE))
         .rev()
         .find(|&pages| pages_held(pages) <= u64::from(left))

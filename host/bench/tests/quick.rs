@@ -11,6 +11,8 @@ fn a_quick_run_prints_every_table() {
         "The machine and the tools",
         "The volumes",
         "Calls",
+        "Calls on nearly full volumes",
+        "Searches for free pages",
         "Runs",
         "Check beside e2fsck",
         "Growth of the check",
@@ -23,4 +25,7 @@ fn a_quick_run_prints_every_table() {
         .lines()
         .filter(|line| line.starts_with("refusal of a hostile image, time over the full sound check "));
     assert_eq!(refusals.count(), 5, "the hostile images that are refused");
+    let searches = |goal: &str| text.lines().filter(|line| line.starts_with(goal)).count();
+    assert_eq!(searches("search, time over the check's"), 3, "the volumes that are nearly full");
+    assert_eq!(searches("search, time over bit after bit's"), 1, "the full volume");
 }

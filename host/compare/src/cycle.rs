@@ -37,6 +37,10 @@ pub enum Kind {
     EdgeScripts,
     /// A script for each rule, broken so often.
     DamagedScripts { times: u32 },
+    /// Searches for free pages, on a volume for each of their edges.
+    Searches,
+    /// Searches past 100 full words of the bit file.
+    LargeSearches,
 }
 
 /// How a round gets its volume's size: one of its own, or by chance between two.
@@ -93,6 +97,9 @@ pub const CYCLE: &[(u32, Kind, Size)] = &[
     (4, Kind::EdgeScripts, Size::Between(70, 160)),
     (2, Kind::EdgeScripts, Size::Of(1_100)),
     (20, Kind::DamagedScripts { times: 2 }, Size::Between(8, 160)),
+    (10, Kind::Searches, Size::Between(160, 240)),
+    (6, Kind::LargeSearches, Size::Between(1_760, 2_048)),
+    (1, Kind::LargeSearches, Size::Of(16_384)),
 ];
 
 /// One round: its kind and size by its number in the cycle.

@@ -45,6 +45,8 @@ impl Round<'_> {
             Kind::Scripts { scripts, steps } => self.scripts(pages, scripts, steps),
             Kind::EdgeScripts => self.edge_scripts(pages),
             Kind::DamagedScripts { times } => self.damaged_scripts(pages, times),
+            Kind::Searches => self.searches(pages),
+            Kind::LargeSearches => self.large_searches(pages),
         }
     }
 

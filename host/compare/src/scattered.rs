@@ -1,6 +1,10 @@
 //! Sound volumes that no sequence of calls gives: pages and indices by chance, stale words in free pages and in unused entries, empty user
 //! pages, object pages and index blocks, bits set past P, a subindexed object file with few users, any bits in word 0 of an entry.
 
+mod patterned;
+
+pub use patterned::{patterned, Beyond, Crowd, Wish, FIRST, LATER, OTHER};
+
 use crate::random::Random;
 use crate::words::*;
 
@@ -247,7 +251,12 @@ impl Making<'_> {
     }
 
     fn file(&mut self, owner: usize, number: u32, at: usize) {
-        let (pages, pointer, held) = self.shape();
+        let shape = self.shape();
+        self.entry(owner, number, at, shape);
+    }
+
+    /// The entry of a new file: its pages, its pointer, and how many pages it holds.
+    fn entry(&mut self, owner: usize, number: u32, at: usize, (pages, pointer, held): (u32, u32, u32)) {
         self.users[owner].2 += held;
         let same = self.random.one_in(3);
         let name = if same { b"SAME-NAME".to_vec() } else { self.name(number % 256) };

@@ -2,6 +2,7 @@
 //! shown nothing about it, so there are minimums, and a run below one of them fails.
 
 use crate::calls::{Answer, NAMES};
+use crate::edges::Edges;
 use crate::script::{is_step, Asked, Played, Script};
 use crate::spots::{Spot, SPOTS};
 use crate::twice::{pairs, FILE_SUBINDEX};
@@ -128,6 +129,8 @@ pub struct Tally {
     /// Damaged images on which all agreed.
     damaged: u64,
     sizes: BTreeMap<u32, u64>,
+    /// The edges of the searches for free pages.
+    pub edges: Edges,
     met: BTreeMap<Met, u64>,
 }
 
@@ -228,6 +231,7 @@ impl Tally {
         for (what, words, least) in MINIMUMS {
             demand(words.to_string(), self.met.get(&what).copied().unwrap_or(0), least);
         }
+        self.edges.demands().into_iter().for_each(|(words, met, least)| demand(words, met, least));
         short
     }
 
@@ -249,7 +253,7 @@ impl Tally {
         for (what, words, _) in MINIMUMS {
             let _ = writeln!(out, "{words}: {}", self.met.get(&what).copied().unwrap_or(0));
         }
-        out
+        out + "\n" + &self.edges.summary()
     }
 
     /// How often each number was answered, and each rule was the lowest broken one: a line for a run of cases.
@@ -312,12 +316,13 @@ fn row(counts: &[u64]) -> String {
 mod tests {
     use super::*;
 
-    /// A run that met nothing is told so for each number, each rule twice, each call, each kind of place and pair of holders, each size and
-    /// each edge.
+    /// A run that met nothing is told so for each number, each rule twice, each call, each kind of place and pair of holders, each size,
+    /// each edge, and each edge of a search twice.
     #[test]
     fn nothing_is_too_little() {
         let steps = NAMES.into_iter().filter(|name| can_be_a_step(name)).count();
         let wanted = 2 * 12 + 10 + 10 + NAMES.len() + steps + SPOTS.len() + pairs().len() + SIZES.len() + MINIMUMS.len();
+        let wanted = wanted + Edges::default().demands().len();
         assert_eq!(Tally::default().too_little().len(), wanted);
     }
 }

@@ -42,22 +42,7 @@ pub fn reserved_count(bits: &[u16], pages: u32) -> u32 {
         .sum()
 }
 
-/// The lowest free page.
-pub fn lowest_free(bits: &[u16], pages: u32) -> Option<u32> {
-    (0..words_in_use(pages)).find_map(|word| {
-        let free = !bits[word] & bits_below(pages, word);
-        (free != 0).then(|| 16 * word as u32 + free.trailing_zeros())
-    })
-}
-
-/// The highest start with so many free pages in a row.
-pub fn highest_run(bits: &[u16], pages: u32, count: u32) -> Option<u32> {
-    let mut run = 0;
-    for page in (0..pages).rev() {
-        run = if is_reserved(bits, page) { 0 } else { run + 1 };
-        if run >= count {
-            return Some(page);
-        }
-    }
-    None
+/// The free pages below P of a word of the bit file, a one for each.
+pub fn free_in_word(bits: &[u16], pages: u32, word: usize) -> u16 {
+    !bits[word] & bits_below(pages, word)
 }

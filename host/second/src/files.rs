@@ -2,7 +2,7 @@
 //! page, note an open.
 
 use crate::arguments;
-use crate::bits::{highest_run, lowest_free, reserve};
+use crate::bits::reserve;
 use crate::check::demand_sound;
 use crate::entry::{entry_words, object, object_number, user, EntryPlace, ENTRIES, ENTRY_WORDS, NAME, TYPE, USED_WORD};
 use crate::find::{file_named, named_file, try_address};
@@ -12,6 +12,7 @@ use crate::pointer::{block_and_slot, put_slot, Pointer};
 use crate::reply::{
     demand, Outcome, Refusal, Reply, ABSENT, BAD_ARGUMENT, ENTRIES_FULL, GIVEN_SHORT, NAME_TAKEN, NO_RUN, UNRESERVED_SHORT,
 };
+use crate::search::{highest_run_of, lowest_free_of};
 use crate::volume::{
     bits, file_entry, file_pages, free_page, object_index, object_page, object_pointer, take_page, take_this, unreserved, user_entry,
 };
@@ -120,11 +121,13 @@ fn system_pages_needed(image: &[u16], user: u32, file: u32) -> u32 {
 /// The run of a contiguous file, once the system pages will be taken.
 fn run_left(image: &[u16], pages: u32, system_pages: u32, count: u32) -> Option<u32> {
     let mut later = bits(image).to_vec();
+    let mut from = 0;
     for _ in 0..system_pages {
-        let page = lowest_free(&later, pages)?;
+        let page = lowest_free_of(&later, pages, from)?;
         reserve(&mut later, page);
+        from = page + 1;
     }
-    highest_run(&later, pages, count)
+    highest_run_of(&later, pages, count)
 }
 
 /// Takes the system pages a file needs; gives where its entry starts.

@@ -4,7 +4,8 @@
 //!
 //! An image is a slice of 16-bit words; P is its length divided by 1,024.
 //! Each call answers by the numbers of document 01's table, and says with 3
-//! where the image is broken (document 02, T-01).
+//! where the image is broken (document 02, T-01). Free pages are searched a word
+//! of the bit file at a step (T-02).
 
 #![forbid(unsafe_code)]
 
@@ -24,6 +25,7 @@ mod place;
 pub mod pointer;
 pub mod reply;
 mod run;
+pub mod search;
 mod users;
 mod volume;
 mod walk;

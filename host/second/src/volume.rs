@@ -1,10 +1,11 @@
 //! Reading a sound image: its users, its files, and where their pages are.
 //! Nothing here is asked before the check has passed.
 
-use crate::bits::{lowest_free, release, reserve};
+use crate::bits::{release, reserve};
 use crate::entry::{entry_words, file_pointer, is_used, object, object_number, EntryPlace, ENTRIES};
-use crate::image::{page_words, page_words_mut, pair, BIT_POINTER, OBJECT_POINTER, PAGE_WORDS, UNRESERVED, USER_POINTER};
+use crate::image::{page_words, page_words_mut, pair, BIT_POINTER, OBJECT_POINTER, UNRESERVED, USER_POINTER};
 use crate::pointer::{block_and_slot, index_blocks, slot, Pointer};
+use crate::search::lowest_free;
 
 /// What a page of a file is to it.
 #[derive(Clone, Copy, PartialEq, Eq)]
@@ -136,8 +137,7 @@ pub(crate) fn file_pages(image: &[u16], entry: &[u16]) -> Vec<(u32, Role, u32)> 
 /// least as many free pages as are unreserved, or given to a user and not
 /// used: callers have seen to these numbers first.
 pub(crate) fn take_page(image: &mut [u16]) -> u32 {
-    let pages = (image.len() / PAGE_WORDS) as u32;
-    let page = lowest_free(bits(image), pages).expect("a sound image has a page for each promised");
+    let page = lowest_free(image, 0).expect("a sound image has a page for each promised");
     take_this(image, page);
     page
 }

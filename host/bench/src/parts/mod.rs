@@ -7,13 +7,14 @@ mod hostile;
 mod instructions;
 mod memory;
 mod runs;
+mod searches;
 
 use crate::goals::Goals;
 use crate::report::{Report, Table};
 use crate::scratch::Scratch;
 use crate::timing::{Effort, QUICK, THOROUGH};
 use crate::volumes::{full, many, singles, yard, Volume, LARGEST};
-use crate::{machine, progress};
+use crate::{machine, nearly_full, progress};
 use std::io;
 
 /// How large a run is.
@@ -46,7 +47,7 @@ impl Plan {
         Plan {
             effort: QUICK,
             process_effort: QUICK,
-            large: 2_000,
+            large: 2_500,
             growth: vec![1_000, 1_500, 2_000],
             hostile_users: 4,
             all_instructions: false,
@@ -62,27 +63,51 @@ pub struct Run {
     pub goals: Goals,
 }
 
+impl Run {
+    /// A run at its start: the machine is told.
+    fn new(plan: Plan) -> io::Result<Run> {
+        let mut run = Run {
+            plan,
+            scratch: Scratch::new()?,
+            report: Report::default(),
+            goals: Goals::default(),
+        };
+        run.report.add(machine::table());
+        progress::show("laying out the volumes");
+        Ok(run)
+    }
+
+    /// Ends with the goals.
+    fn ended(mut self) -> Report {
+        self.report.add(self.goals.table());
+        self.report
+    }
+}
+
+/// Does the part on nearly full volumes alone; gives the report.
+pub fn run_searches(plan: Plan) -> io::Result<Report> {
+    let mut run = Run::new(plan)?;
+    let nearly_full = nearly_full::all(run.plan.large);
+    run.report.add(contents(nearly_full.iter()));
+    searches::measure(&mut run, &nearly_full);
+    Ok(run.ended())
+}
+
 /// Does all parts; gives the report.
 pub fn run(plan: Plan) -> io::Result<Report> {
-    let mut run = Run {
-        plan,
-        scratch: Scratch::new()?,
-        report: Report::default(),
-        goals: Goals::default(),
-    };
-    run.report.add(machine::table());
-    progress::show("laying out the volumes");
+    let mut run = Run::new(plan)?;
     let volumes = volumes(run.plan.large);
-    run.report.add(contents(&volumes));
+    let nearly_full = nearly_full::all(run.plan.large);
+    run.report.add(contents(volumes.iter().chain(&nearly_full)));
     calls::measure(&mut run, &volumes);
+    searches::measure(&mut run, &nearly_full);
     runs::measure(&mut run);
     beside::measure(&mut run, &volumes)?;
     growth::measure(&mut run);
     hostile::measure(&mut run);
     instructions::measure(&mut run, &volumes)?;
     memory::measure(&mut run, &volumes)?;
-    run.report.add(run.goals.table());
-    Ok(run.report)
+    Ok(run.ended())
 }
 
 /// The yard's disk, and the large ones with so many pages.
@@ -91,7 +116,7 @@ pub fn volumes(large: u32) -> [Volume; 4] {
 }
 
 /// The volumes and what is in them.
-fn contents(volumes: &[Volume]) -> Table {
+fn contents<'a>(volumes: impl Iterator<Item = &'a Volume>) -> Table {
     let mut table = Table::new(
         "The volumes",
         "",

@@ -2,13 +2,13 @@
 
 use super::Run;
 use crate::batch::Batch;
-use crate::contest::{changed, put_back};
+use crate::contest::{changed, changing};
 use crate::progress;
 use crate::report::{grouped, Table};
-use crate::timing::{race, show, side, Side, Spread};
+use crate::timing::{race, show, side, Spread};
 use std::cell::RefCell;
 use std::hint::black_box;
-use std::time::{Duration, Instant};
+use std::time::Instant;
 
 const NOTE: &str =
     "New files of one page, each with its own data: create indexed, grow and write for each. The same calls by one run and by single \
@@ -42,16 +42,8 @@ pub fn measure(run: &mut Run) {
     progress::show("runs: one run");
     let kept = changed(&batch.words, &after);
     let image = RefCell::new(batch.words.clone());
-    let by_run: Side = Box::new(|repeats| {
-        let words = &mut image.borrow_mut();
-        let mut spent = Duration::ZERO;
-        for _ in 0..repeats {
-            let start = Instant::now();
-            black_box(batch.by_run(black_box(words)));
-            spent += start.elapsed();
-            put_back(words, &kept);
-        }
-        spent
+    let by_run = changing(&image, &kept, |words| {
+        black_box(batch.by_run(words));
     });
     let check = side(|| {
         black_box(proved::check(black_box(&image.borrow())));
