@@ -4,7 +4,7 @@ use Prim.Native.Nat.{ℕ, _+_, _-_, _*_, _/_, _%_, _≤_, _<_}
 use native.Mathlib.Decide.{decLt}
 use native.Mathlib.Omega.{arith}
 use Rattle.book.specs.Words.{Vol}
-use Rattle.book.specs.Bits.{bit, digit, freeRun, highestRun}
+use Rattle.book.specs.Bits.{bit, freeRun, highestRun}
 use Rattle.bits.specs.Run.{StartIn}
 use Rattle.bits.specs.Search.{BitsIn}
 use Rattle.bits.proofs.Places.{run-broken, highest-start, highest-absent}

@@ -1,6 +1,6 @@
 // The bits of one word, from the right: each shift, mask and count is a function of its own.
 ghost use mathlib.Core.Path.{_≡_};
-ghost use Prim.Native.Nat.{ℕ, suc, _%_, _^_, _≤_, _<_, _-_, max, min};
+ghost use Prim.Native.Nat.{ℕ, suc, _%_, _^_, _≤_, _<_, _-_, max};
 ghost use lib.Count.{ones};
 ghost use Rattle.book.specs.Bits.{digit, toDigit};
 ghost use Rattle.bits.specs.Word.{FirstClear, ZerosBelow, ZerosAbove};

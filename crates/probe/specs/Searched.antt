@@ -8,3 +8,8 @@ use Rattle.bits.specs.File.{BitsAt}
 pub record Searched (P : ℕ) (v : Vol) (r : ℕ) : Type 0 where
   pub found : 0 < r → BitsAt P v r
   pub none : r ≡ 0 → (b : ℕ) → BitsAt P v b → ⊥
+
+-- r is what the search of the bit file finds, or 0 where there is none
+pub record Searching (P : ℕ) (v : Vol) (found r : ℕ) : Type 0 where
+  pub there : (b : ℕ) → BitsAt P v b → r ≡ found
+  pub absent : ((b : ℕ) → BitsAt P v b → ⊥) → r ≡ 0

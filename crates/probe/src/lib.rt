@@ -6,13 +6,12 @@ use page::MOST_PAGES;
 use page::WORDS;
 use page::read::page_at;
 ghost use mathlib.Core.Path.{_≡_};
-ghost use Prim.Native.Nat.{ℕ, _<_};
+ghost use Prim.Native.Nat.{_<_};
 ghost use Rattle.book.specs.Words.{vol};
 ghost use Rattle.book.specs.Bits.{highestRun};
 ghost use Rattle.book.specs.Image.{pages};
-ghost use Rattle.bits.specs.File.{BitsAt};
 ghost use Rattle.bits.specs.Search.{freeFrom};
-ghost use Rattle.probe.specs.Searched.{Searched};
+ghost use Rattle.probe.specs.Searched.{Searched, Searching};
 
 // The page of the bit file, and 0 of an image that has none: its bit pointer names no page of it but 0, or its pages are too many for one.
 fn searched(img: &[u16]) -> usize
@@ -35,7 +34,7 @@ fn searched(img: &[u16]) -> usize
 // The lowest free page from `from` on, and the number of pages if there is none; 0 without a bit file.
 #[no_mangle]
 pub extern "C" fn nord_probe_free(img: &[u16], from: usize) -> usize
-    ensures { λ r. ⌜ ((b : ℕ) → BitsAt (pages (now (img .entry))) (vol (now (img .entry))) b → r ≡ freeFrom (pages (now (img .entry))) (vol (now (img .entry))) from) ⌝ }
+    ensures { λ r. ⌜ Searching (pages (now (img .entry))) (vol (now (img .entry))) (freeFrom (pages (now (img .entry))) (vol (now (img .entry))) from) r ⌝ }
 {
     let b = searched(img);
     if b == 0 {
@@ -44,10 +43,10 @@ pub extern "C" fn nord_probe_free(img: &[u16], from: usize) -> usize
     free_from(img, b, img.len() / WORDS, from)
 }
 
-// The highest start of n free pages in a row, and 0 if there is none, or no bit file.
+// The highest start of n free pages in a row, and 0 if there is none, or no bit file, or n is 0.
 #[no_mangle]
 pub extern "C" fn nord_probe_run(img: &[u16], n: usize) -> usize
-    ensures { λ r. ⌜ ((b : ℕ) → BitsAt (pages (now (img .entry))) (vol (now (img .entry))) b → 0 < n → r ≡ highestRun (pages (now (img .entry))) (vol (now (img .entry))) n) ⌝ }
+    ensures { λ r. ⌜ (0 < n → Searching (pages (now (img .entry))) (vol (now (img .entry))) (highestRun (pages (now (img .entry))) (vol (now (img .entry))) n) r) × (n ≡ 0 → r ≡ 0) ⌝ }
 {
     if n == 0 {
         return 0;

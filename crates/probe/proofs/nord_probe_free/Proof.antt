@@ -1,4 +1,5 @@
 -- `probe::nord_probe_free` meets its contract. Assumes nothing.
+use mathlib.Core.Path.{refl}
 use native.Mathlib.Omega.{arith}
 use borrow.Author.Needs.{needs}
 use Rattle.probe.proofs.nord_probe_free.Statement.{statement}
@@ -8,13 +9,15 @@ searched-requires : tie.Need-searched-requires
 searched-requires c κs = search needs
 
 returns : tie.Need-returns
-returns c = λ b B. absurd (c .before .searched .ensures .none (omega arith) b B)
+returns c = record { there = λ b B. absurd (c .before .searched .ensures .none (omega arith) b B); absent = λ n. refl }
 
 free-from-requires : tie.Need-free-from-requires
 free-from-requires c κs = let B = c .before .searched .ensures .found (omega arith) in (omega (arith, B .below), B)
 
 returns-2 : tie.Need-returns-2
-returns-2 c = search needs
+returns-2 c =
+    let S = c .before .before in
+    record { there = λ b B. c .free-from .ensures; absent = λ n. absurd (n (S .searched .result) (S .searched .ensures .found (omega arith))) }
 
 pub nord-probe-free-spec : {M : Type 1} → statement M
 nord-probe-free-spec = tie.close (tie.spec searched-requires returns free-from-requires returns-2)
