@@ -11,7 +11,7 @@ use Rattle.book.specs.Words.{Words, Vol, vol}
 use Rattle.book.specs.Pointers.{flags, volumeName}
 use Rattle.book.specs.Bits.{reserved}
 use Rattle.book.specs.Entries.{Table, user, object, used, given, usedPages, fileEntry, pageCount, filePointer, unreserved}
-use Rattle.book.specs.Names.{byteAt}
+use Rattle.book.specs.Names.{stored}
 use Rattle.book.specs.Image.{pages}
 use Rattle.book.specs.Answers.{Numbers}
 use Rattle.book.specs.Outcome.{Outcome, Single}
@@ -26,7 +26,7 @@ unfoldable pub joined : (ℕ → Bytes) → ℕ → Bytes
 joined g zero = []
 joined g (suc n) = joined g n ++ g n
 
--- ---- numbers and names
+-- ---- numbers
 
 -- the last k digits of n, without zeros in front
 unfoldable pub digits : ℕ → ℕ → Bytes
@@ -36,14 +36,6 @@ digits (suc k) n = pick (n / 10) (digits k (n / 10)) [] ++ ((48 + n % 10) ∷ []
 -- n in decimal: no number of an image has more than ten digits
 abbrev pub decimal : ℕ → Bytes
 decimal n = digits 10 n
-
--- a byte, if it is none of the zero fill
-unfoldable pub letter : ℕ → Bytes
-letter b = pick b (b ∷ []) []
-
--- the name of at most n bytes in the words from k on, without its fill
-unfoldable pub spelled : Words → ℕ → ℕ → Bytes
-spelled w k n = joined (λ i. letter (byteAt w k i)) n
 
 -- ---- the words of the lines
 
@@ -110,10 +102,10 @@ field label n = label ++ decimal n
 -- ---- lines
 
 unfoldable pub headLine : ℕ → Vol → Bytes
-headLine P v = volume ++ spelled (v 0) volumeName 16 ++ field pagesAre P ++ field reservedAre (reserved P v) ++ field unreservedAre (unreserved v) ++ newline
+headLine P v = volume ++ stored 16 (v 0) volumeName ++ field pagesAre P ++ field reservedAre (reserved P v) ++ field unreservedAre (unreserved v) ++ newline
 
 unfoldable pub userLine : Table → ℕ → Bytes
-userLine U u = field userIs u ++ space ++ spelled (U u) 1 16 ++ field givenAre (given U u) ++ field usedAre (usedPages U u) ++ newline
+userLine U u = field userIs u ++ space ++ stored 16 (U u) 1 ++ field givenAre (given U u) ++ field usedAre (usedPages U u) ++ newline
 
 -- the kind of a file of n pages, by the flags of its pointer
 unfoldable pub kindOf : ℕ → ℕ → Bytes
@@ -123,7 +115,7 @@ kindOf (suc (suc x)) n = subindex
 
 -- FILE f name:type; the colon stays with an empty type
 unfoldable pub fileTitle : ℕ → Words → Bytes
-fileTitle f w = field fileIs f ++ space ++ spelled w 1 16 ++ colon ++ spelled w 9 4
+fileTitle f w = field fileIs f ++ space ++ stored 16 w 1 ++ colon ++ stored 4 w 9
 
 unfoldable pub fileLine : ℕ → Words → Bytes
 fileLine f w = fileTitle f w ++ field pagesAre (pageCount w) ++ kindOf (flags w filePointer) (pageCount w) ++ newline

@@ -1,4 +1,4 @@
--- Sound: the ten rules. Assumes nothing.
+-- Sound: the ten rules. Those that speak of names, 1, 4 and 6, stand over how a name is read. Assumes nothing.
 use mathlib.Core.Path.{_≡_}
 use mathlib.Core.Logic.{_⊎_}
 use Prim.Native.Nat.{ℕ, zero, suc, _+_, _≤_, _<_}
@@ -8,17 +8,20 @@ use Rattle.book.specs.Pointers.{flags, page, slot, Zero, Inside, plain, 
 use Rattle.book.specs.Trees.{Below}
 use Rattle.book.specs.Bits.{bit, bitPages}
 use Rattle.book.specs.Entries.{Table, user, object, used, given, usedPages, grant, fileEntry, unreserved}
-use Rattle.book.specs.Names.{LegalName, LegalType, SameName, SameFile}
+use Rattle.book.specs.Names.{Reading, stored, zeroFilled, NameOver, TypeOver, OneName, OneFile}
 use Rattle.book.specs.Files.{FileShape}
 use Rattle.book.specs.Holders.{mine, holders, some, systemPages}
 use Rattle.book.specs.Rows.{Rows, end, row}
 
 -- 1: legal volume name; bit pointer without flags, its pages in 1..P-1
-pub record Rule1 (P : ℕ) (v : Vol) : Type 0 where
-  pub name : LegalName (v 0) volumeName
+pub record Rule1Over (read : Reading) (P : ℕ) (v : Vol) : Type 0 where
+  pub name : NameOver read (v 0) volumeName
   pub unflagged : flags (v 0) bitPointer ≡ plain
   pub start : 0 < page (v 0) bitPointer
   pub fits : page (v 0) bitPointer + bitPages P ≤ P
+
+abbrev pub Rule1 : ℕ → Vol → Type 0
+Rule1 = Rule1Over stored
 
 -- 2: user pointer zero, or indexed to 1..P-1; object pointer zero exactly when the user pointer is, else indexed or subindexed to 1..P-1
 unfoldable pub Rule2 : ℕ → Vol → Type 0
@@ -30,14 +33,20 @@ unfoldable pub Rule3 : ℕ → Vol → Type 0
 Rule3 P v = (n : ℕ) → n < 512 → (slot v (page (v 0) userPointer) n < P) × (8 ≤ n → slot v (page (v 0) userPointer) n ≡ 0)
 
 -- 4: used users: own index right, name legal, no two names equal, used <= given
-pub record UserOk (U : Table) (u : ℕ) : Type 0 where
+pub record UserOkOver (read : Reading) (U : Table) (u : ℕ) : Type 0 where
   pub own : U u 18 ≡ u
-  pub name : LegalName (U u) 1
+  pub name : NameOver read (U u) 1
   pub within : usedPages U u ≤ given U u
 
-unfoldable pub Rule4 : Table → Type 0
-Rule4 U = ((u : ℕ) → u < 256 → 0 < used (U u) → UserOk U u)
-    × ((a b : ℕ) → a < 256 → b < 256 → 0 < used (U a) → 0 < used (U b) → SameName (U a) (U b) → a ≡ b)
+unfoldable pub Rule4Over : Reading → Table → Type 0
+Rule4Over read U = ((u : ℕ) → u < 256 → 0 < used (U u) → UserOkOver read U u)
+    × ((a b : ℕ) → a < 256 → b < 256 → 0 < used (U a) → 0 < used (U b) → OneName read (U a) (U b) → a ≡ b)
+
+abbrev pub UserOk : Table → ℕ → Type 0
+UserOk = UserOkOver stored
+
+abbrev pub Rule4 : Table → Type 0
+Rule4 = Rule4Over stored
 
 -- 5: object blocks: allowed slots zero or in 1..P-1, others zero; if indexed, no used user above 63
 unfoldable pub Rule5By : ℕ → Vol → ℕ → ℕ → Type 0
@@ -50,17 +59,23 @@ unfoldable pub Rule5 : ℕ → Vol → Type 0
 Rule5 P v = Rule5By P v (flags (v 0) objectPointer) (page (v 0) objectPointer)
 
 -- 6: used objects: owner is used, words 16 and 17 right, name and type legal, no two of a user equal
-pub record FileOk (U O : Table) (u e : ℕ) : Type 0 where
+pub record FileOkOver (read : Reading) (U O : Table) (u e : ℕ) : Type 0 where
   pub owner : 0 < used (U u)
   pub whose : O e 16 ≡ u
   pub number : O e 17 ≡ e
-  pub name : LegalName (O e) 1
-  pub type : LegalType (O e) 9
+  pub name : NameOver read (O e) 1
+  pub type : TypeOver read (O e) 9
 
-unfoldable pub Rule6 : Table → Table → Type 0
-Rule6 U O = ((u f : ℕ) → u < 256 → f < 256 → 0 < used (O (fileEntry u f)) → FileOk U O u (fileEntry u f))
+unfoldable pub Rule6Over : Reading → Table → Table → Type 0
+Rule6Over read U O = ((u f : ℕ) → u < 256 → f < 256 → 0 < used (O (fileEntry u f)) → FileOkOver read U O u (fileEntry u f))
     × ((u a b : ℕ) → u < 256 → a < 256 → b < 256 → 0 < used (O (fileEntry u a)) → 0 < used (O (fileEntry u b))
-    → SameFile (O (fileEntry u a)) (O (fileEntry u b)) → a ≡ b)
+    → OneFile read (O (fileEntry u a)) (O (fileEntry u b)) → a ≡ b)
+
+abbrev pub FileOk : Table → Table → ℕ → ℕ → Type 0
+FileOk = FileOkOver stored
+
+abbrev pub Rule6 : Table → Table → Type 0
+Rule6 = Rule6Over stored
 
 -- 7: each file has one of the shapes, its bytes right, all pages in 1..P-1
 unfoldable pub Rule7 : ℕ → Vol → Type 0
@@ -79,17 +94,25 @@ unfoldable pub Rule10 : ℕ → Vol → Type 0
 Rule10 P v = ((u : ℕ) → u < 256 → 0 < used (user v u) → usedPages (user v) u ≡ mine v u some)
     × (unreserved v + sum 256 (grant (user v)) + systemPages P v ≡ P)
 
-pub record Sound (P : ℕ) (v : Vol) : Type 0 where
-  pub r1 : Rule1 P v
+pub record SoundOver (read : Reading) (P : ℕ) (v : Vol) : Type 0 where
+  pub r1 : Rule1Over read P v
   pub r2 : Rule2 P v
   pub r3 : Rule3 P v
-  pub r4 : Rule4 (user v)
+  pub r4 : Rule4Over read (user v)
   pub r5 : Rule5 P v
-  pub r6 : Rule6 (user v) (object v)
+  pub r6 : Rule6Over read (user v) (object v)
   pub r7 : Rule7 P v
   pub r8 : Rule8 P v
   pub r9 : Rule9 P v
   pub r10 : Rule10 P v
+
+-- the rules as they stand
+abbrev pub Sound : ℕ → Vol → Type 0
+Sound = SoundOver stored
+
+-- document 01's rules as they first stood, with zero-filled names
+abbrev pub OldSound : ℕ → Vol → Type 0
+OldSound = SoundOver zeroFilled
 
 -- the ten as a table: the lowest broken rule is its lowest number
 unfoldable pub rules : ℕ → Vol → Rows

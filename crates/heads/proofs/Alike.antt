@@ -2,16 +2,18 @@
 use mathlib.Core.Path.{_≡_, sym, ap, subst}
 use mathlib.Core.Bool.{Bool}
 use Prim.Native.Nat.{ℕ, _+_, _/_, _%_, _<_}
+use native.Mathlib.Nat.{not-suc-le-zero}
 use native.Mathlib.Omega.{arith}
 use Rattle.book.specs.Words.{Words, Vol}
 use Rattle.book.specs.Trees.{Root, pageAt}
 use Rattle.book.specs.Entries.{Table, entry, used}
-use Rattle.book.specs.Names.{Same}
+use Rattle.book.specs.Names.{SameName}
 use Rattle.book.specs.Decides.{Decides}
+use Rattle.laws.specs.File.Stored.{stored-words}
 use Rattle.page.proofs.Deciding.{decides-iff}
 use Rattle.tree.specs.Reach.{entryIn}
 use Rattle.heads.specs.Span.{Span}
-use Rattle.heads.specs.Twins.{Twins, Fresh}
+use Rattle.heads.specs.Twins.{SameTitle, Twins, Fresh}
 use Rattle.heads.proofs.Pages.{entry-in, entry-on, absent-unused}
 
 -- entry y on page q of the file at r is used where its page shows it so
@@ -26,12 +28,16 @@ module _ (v : Vol) (r : Root) (n x y p : ℕ) (a : p ≡ pageAt v r (x / 32)) wh
   pub twin-unused : (0 < used (entryIn v p x) → ⊥) → Twins (entry v r) n x y → ⊥
   twin-unused u t = u (omega (arith, t .first, used-on v r p x a))
 
-  pub twin-by : (q : ℕ) (b : Bool) → q ≡ pageAt v r (y / 32) → 0 < used (entryIn v p x) → 0 < used (entry v r y) → Decides b (Same n (entryIn v p x) 1 (entryIn v q y) 1) → Decides b (Twins (entry v r) n x y)
+  pub twin-by : (q : ℕ) (b : Bool) → q ≡ pageAt v r (y / 32) → 0 < used (entryIn v p x) → 0 < used (entry v r y) → Decides b (SameTitle n (entryIn v p x) (entryIn v q y)) → Decides b (Twins (entry v r) n x y)
   twin-by q b e u w =
       let i = entry-in v r p x a in let j = entry-in v r q y e in
       decides-iff b _ _
-      (λ s. record { first = omega (arith, used-on v r p x a); second = w; words = subst (λ (g : Words). Same n (entry v r x) 1 g 1) j (subst (λ (g : Words). Same n g 1 (entryIn v q y) 1) i s) })
-      (λ t. subst (λ (g : Words). Same n g 1 (entryIn v q y) 1) (sym i) (subst (λ (g : Words). Same n (entry v r x) 1 g 1) (sym j) (t .words)))
+      (λ s. record { first = omega (arith, used-on v r p x a); second = w; title = subst (SameTitle n (entry v r x)) j (subst (λ (g : Words). SameTitle n g (entryIn v q y)) i s) })
+      (λ t. subst (λ (g : Words). SameTitle n g (entryIn v q y)) (sym i) (subst (SameTitle n (entry v r x)) (sym j) (t .title)))
+
+-- users have no type to tell them apart
+pub title-none : (w x : Words) → SameName w x → SameTitle 0 w x
+title-none w x s = (s, stored-words 0 w x 9 9 (λ i h. absurd (not-suc-le-zero h)))
 
 -- an unused entry has no twin
 pub fresh-unused : (E : Table) (n base y : ℕ) → (0 < used (E y) → ⊥) → Fresh E n base y

@@ -1,4 +1,4 @@
--- Stamped slots: what they say of words met before. Assumes nothing.
+-- Stamped slots: what they say of names met before. Assumes nothing.
 use mathlib.Core.Path.{_≡_, refl, sym, ap, ap₂, _∙_, subst}
 use mathlib.Core.List.{List}
 use Prim.Native.Nat.{ℕ, zero, suc, _+_, _/_, _%_, _<_}
@@ -10,34 +10,34 @@ use lib.Seq.{getD-set-same, getD-set-other}
 use Rattle.book.specs.Words.{Words, Vol}
 use Rattle.book.specs.Trees.{Root, pageAt}
 use Rattle.book.specs.Entries.{Table, entry, entryWord, used}
-use Rattle.book.specs.Names.{Same}
+use Rattle.book.specs.Names.{wordsOf, stored}
 use Rattle.tree.specs.Reach.{entryIn}
 use Rattle.heads.specs.Span.{Span, span-none, span-more, span-join, span-by}
-use Rattle.heads.specs.Stamps.{mix, hash, lowPlace, highPlace, stampOf, Met, Stamped}
-use Rattle.heads.specs.Twins.{Fresh}
+use Rattle.heads.specs.Stamps.{mix, hash, hashOf, titleHash, lowPlace, highPlace, stampOf, Met, Stamped}
+use Rattle.heads.specs.Twins.{SameTitle, Fresh}
 use Rattle.heads.proofs.Pages.{entry-in, entry-on, absent-unused}
-use Rattle.heads.proofs.Named.{stored-word}
+use Rattle.tree.proofs.Entries.{there-stored}
 use Rattle.heads.proofs.Alike.{used-on, fresh-unused}
 
--- ---- the number of some words
+-- ---- the number of a name
 
-pub hash-none : (w : Words) (k : ℕ) → hash w k 0 ≡ 0
+pub hash-none : (h : ℕ) (x : Words) → hash h x 0 ≡ h
 unfolding hash
-hash-none w k = refl
+hash-none h x = refl
 
-pub hash-more : (w : Words) (k i : ℕ) → hash w k (i + 1) ≡ mix (hash w k i) (w (k + i))
+pub hash-more : (h : ℕ) (x : Words) (i : ℕ) → hash h x (i + 1) ≡ mix (hash h x i) (x i)
 unfolding hash
-hash-more w k i = ap (hash w k) (add-one i)
+hash-more h x i = ap (hash h x) (add-one i)
 
--- equal words have one number
-hash-same : (n : ℕ) (w x : Words) (k j : ℕ) → ((i : ℕ) → i < n → w (k + i) ≡ x (j + i)) → hash w k n ≡ hash x j n
-unfolding hash
-hash-same zero w x k j s = refl
-hash-same (suc n) w x k j s = ap₂ mix (hash-same n w x k j (λ i h. s i (omega arith))) (s n (omega arith))
+-- all words of the name are in
+pub hash-all : (h : ℕ) (s : List ℕ) (i : ℕ) → (length s + 1) / 2 ≡ i → hash h (wordsOf s) i ≡ hashOf h s
+unfolding hashOf
+hash-all h s i e = ap (hash h (wordsOf s)) (sym e)
 
 -- read at its place on its page
-pub hash-in : (v : Vol) (q e w n : ℕ) → 0 < q → w ≡ entryWord e → hash (v q) (w + 1) n ≡ hash (entryIn v q e) 1 n
-hash-in v q e w n g a = hash-same n (v q) (entryIn v q e) (w + 1) 1 (λ i l. sym (stored-word v q e w 1 g a i))
+pub title-in : (v : Vol) (q e w n h r : ℕ) → 0 < q → w ≡ entryWord e → h ≡ hashOf 0 (stored 16 (v q) (w + 1)) → r ≡ hashOf h (stored n (v q) (w + 9)) → r ≡ titleHash n (entryIn v q e)
+title-in v q e w n h r g a c d =
+    d ∙ ap₂ hashOf (c ∙ ap (hashOf 0) (there-stored v q e w 1 16 g a)) (there-stored v q e w 9 n g a)
 
 -- ---- a slot stamped
 
@@ -69,15 +69,14 @@ module _ (E : Table) (p : Words → ℕ) (base y : ℕ) (T : List ℕ) (d : Met 
   unfolding Span
   met-set h s l g x i j u = set-keeps T h s (stampOf base) l g (p (E x)) (d x i j u)
 
-  -- where y's slot has not the stamp, no entry before has its words
-  met-fresh : (n : ℕ) → ((w x : Words) → Same n w 1 x 1 → p w ≡ p x) → (getD T (p (E y)) 0 ≡ stampOf base → ⊥) → Fresh E n base y
+  -- where y's slot has not the stamp, no entry before has its name
+  met-fresh : (n : ℕ) → ((w x : Words) → SameTitle n w x → p w ≡ p x) → (getD T (p (E y)) 0 ≡ stampOf base → ⊥) → Fresh E n base y
   unfolding Span
-  met-fresh n same other x i j t = other (ap (λ (k : ℕ). getD T k 0) (sym (same (E x) (E y) (t .words))) ∙ d x i j (t .first))
+  met-fresh n same other x i j t = other (ap (λ (k : ℕ). getD T k 0) (sym (same (E x) (E y) (t .title))) ∙ d x i j (t .first))
 
--- words that are the same have the same slots
-by-hash : (n : ℕ) (f : ℕ → ℕ) (w x : Words) → Same n w 1 x 1 → f (hash w 1 n) ≡ f (hash x 1 n)
-unfolding Same
-by-hash n f w x s = ap f (hash-same n w x 1 1 s)
+-- names and types that are the same have the same slots
+by-hash : (n : ℕ) (f : ℕ → ℕ) (w x : Words) → SameTitle n w x → f (titleHash n w) ≡ f (titleHash n x)
+by-hash n f w x s = ap₂ (λ (a b : List ℕ). f (hashOf (hashOf 0 a) b)) (s .0) (s .1)
 
 -- ---- both slots of entry y stamped, first a and then b
 
@@ -115,10 +114,10 @@ module _ (v : Vol) (r : Root) (n base q y : ℕ) (T : List ℕ) (a : q ≡ pageA
         record { size = d .size; low = met-unused (entry v r) (lowPlace n) base y T (d .low) w; high = met-unused (entry v r) (highPlace n) base y T (d .high) w },
       )
 
-  -- h is the number of its words, and R and S the table after one stamp and after both
-  module _ (h s : ℕ) (e : h ≡ hash (entryIn v q y) 1 n) (l : h < 4294967296) (g : s ≡ stampOf base) (R : List ℕ) (once : R ≡ set T (h / 256 % 4096) s) where
-    number : h ≡ hash (entry v r y) 1 n
-    number = e ∙ ap (λ (w : Words). hash w 1 n) (entry-in v r q y a)
+  -- h is the number of its name and type, and R and S the table after one stamp and after both
+  module _ (h s : ℕ) (e : h ≡ titleHash n (entryIn v q y)) (l : h < 4294967296) (g : s ≡ stampOf base) (R : List ℕ) (once : R ≡ set T (h / 256 % 4096) s) where
+    number : h ≡ titleHash n (entry v r y)
+    number = e ∙ ap (titleHash n) (entry-in v r q y a)
 
     low-is : h / 256 % 4096 ≡ lowPlace n (entry v r y)
     low-is = ap (λ (x : ℕ). x / 256 % 4096) number

@@ -9,17 +9,17 @@ use Rattle.book.specs.Words.{Vol, vol}
 use Rattle.book.specs.Pointers.{flags, page, objectPointer, userPointer}
 use Rattle.book.specs.Trees.{Root, rootBy}
 use Rattle.book.specs.Entries.{Table, entry, user, object, used, fileEntry}
-use Rattle.book.specs.Names.{Same, SameFile, LegalName, LegalType}
-use Rattle.book.specs.Rules.{Rule4, Rule6, FileOk}
+use Rattle.book.specs.Names.{SameFile, LegalName, LegalType}
+use Rattle.book.specs.Rules.{Rule4, Rule4Over, Rule6, Rule6Over, FileOk}
 use Rattle.book.specs.Decides.{Decides}
 use Rattle.page.proofs.Deciding.{decides-iff}
-use Rattle.laws.specs.File.Named.{Same-sym, SameFile-ten, ten-SameFile}
 use Rattle.tree.specs.Ends.{Ends}
 use Rattle.tree.proofs.Reach.{user-root, object-root}
 use Rattle.tree.proofs.Absent.{ends-unused}
 use Rattle.heads.specs.Span.{Span, span-join, span-part}
 use Rattle.heads.specs.Fine.{UserFine, FileFine}
-use Rattle.heads.specs.Twins.{Apart, FilesApart}
+use Rattle.heads.specs.Twins.{SameTitle, Apart, FilesApart}
+use Rattle.heads.proofs.Alike.{title-none}
 
 -- ---- the entries of the user file and of the object file, by flags and page of their pointers
 
@@ -34,7 +34,7 @@ objects-table v x t a b = fun-ext (λ e. ap (λ (r : Root). entry v r e) (sym (o
 -- ---- no twins: two entries of one name are one
 
 abbrev One : Table → ℕ → ℕ → ℕ → Type 0
-One E n base z = (a b : ℕ) → base ≤ a → a < z → base ≤ b → b < z → 0 < used (E a) → 0 < used (E b) → Same n (E a) 1 (E b) 1 → a ≡ b
+One E n base z = (a b : ℕ) → base ≤ a → a < z → base ≤ b → b < z → 0 < used (E a) → 0 < used (E b) → SameTitle n (E a) (E b) → a ≡ b
 
 module _ (E : Table) (n base z : ℕ) where
   apart-one : Apart E n base z → One E n base z
@@ -42,33 +42,33 @@ module _ (E : Table) (n base z : ℕ) where
   apart-one s a b h i j k u w same = elim (ℕ-discrete a b) [
     | yes e ↦ e
     | no d ↦ elim (decLt a b) [
-      | yes l ↦ absurd (s b j k a h l (record { first = u; second = w; words = same }))
-      | no l ↦ absurd (s a h i b j (omega arith) (record { first = w; second = u; words = Same-sym n (E a) (E b) 1 1 same }))
+      | yes l ↦ absurd (s b j k a h l (record { first = u; second = w; title = same }))
+      | no l ↦ absurd (s a h i b j (omega arith) (record { first = w; second = u; title = (sym (same .0), sym (same .1)) }))
     ]
   ]
 
   one-apart : One E n base z → Apart E n base z
   unfolding Span
-  one-apart f y h i x j k t = let e : x ≡ y = f x y j (omega arith) h i (t .first) (t .second) (t .words) in omega arith
+  one-apart f y h i x j k t = let e : x ≡ y = f x y j (omega arith) h i (t .first) (t .second) (t .title) in omega arith
 
 -- ---- rule 4
 
 module _ (U : Table) where
   pub rule4-users : Rule4 U → Span (UserFine U) 0 256
-  unfolding Rule4 Span
+  unfolding Rule4Over Span
   rule4-users r u h l = r .0 u l
 
-  pub rule4-by : (b : Bool) → Span (UserFine U) 0 256 → Decides b (Apart U 8 0 256) → Decides b (Rule4 U)
-  unfolding Rule4 Span
+  pub rule4-by : (b : Bool) → Span (UserFine U) 0 256 → Decides b (Apart U 0 0 256) → Decides b (Rule4 U)
+  unfolding Rule4Over Span
   rule4-by b s =
-      decides-iff b _ _ (λ a. ((λ u l. s u (omega arith) l), λ x y i j. apart-one U 8 0 256 a x y (omega arith) i (omega arith) j))
-      (λ r. one-apart U 8 0 256 (λ x y h i j k. r .1 x y i k))
+      decides-iff b _ _ (λ a. ((λ u l. s u (omega arith) l), λ x y i j p q s. apart-one U 0 0 256 a x y (omega arith) i (omega arith) j p q (title-none (U x) (U y) s)))
+      (λ r. one-apart U 0 0 256 (λ x y h i j k p q s. r .1 x y i k p q (s .0)))
 
 -- ---- rule 6
 
 module _ (U O : Table) where
   rule6-files : Rule6 U O → Span (FileFine U O) 0 65536
-  unfolding Rule6 Span
+  unfolding Rule6Over Span
   rule6-files r e h l =
       let q : 256 * (e / 256) + e % 256 ≡ e = omega arith in
       subst (λ (y : ℕ). 0 < used (O y) → FileOk U O (e / 256) y) q (r .0 (e / 256) (e % 256) (omega arith) (omega arith))
@@ -82,25 +82,25 @@ module _ (U O : Table) where
   files-apart : Span (FilesApart O) 0 256 → (u a b : ℕ) → u < 256 → a < 256 → b < 256 → 0 < used (O (fileEntry u a)) → 0 < used (O (fileEntry u b)) → SameFile (O (fileEntry u a)) (O (fileEntry u b)) → a ≡ b
   unfolding Span
   files-apart s u a b h i j p q same =
-      let e : fileEntry u a ≡ fileEntry u b = apart-one O 10 (256 * u) (256 * u + 256) (s u (omega arith) h) (fileEntry u a) (fileEntry u b) (omega arith) (omega arith) (omega arith) (omega arith) p q (ten-SameFile _ _ same) in
+      let e : fileEntry u a ≡ fileEntry u b = apart-one O 4 (256 * u) (256 * u + 256) (s u (omega arith) h) (fileEntry u a) (fileEntry u b) (omega arith) (omega arith) (omega arith) (omega arith) p q same in
       omega arith
 
-  rule6-one : Rule6 U O → (u : ℕ) → u < 256 → One O 10 (256 * u) (256 * u + 256)
-  unfolding Rule6
+  rule6-one : Rule6 U O → (u : ℕ) → u < 256 → One O 4 (256 * u) (256 * u + 256)
+  unfolding Rule6Over
   rule6-one r u h x y i j k l p q same =
       let a : fileEntry u (x - 256 * u) ≡ x = omega arith in
       let b : fileEntry u (y - 256 * u) ≡ y = omega arith in
-      let s : Same 10 (O (fileEntry u (x - 256 * u))) 1 (O (fileEntry u (y - 256 * u))) 1 =
-      subst (λ (z : ℕ). Same 10 (O z) 1 (O (fileEntry u (y - 256 * u))) 1) (sym a) (subst (λ (z : ℕ). Same 10 (O x) 1 (O z) 1) (sym b) same) in
-      let e : x - 256 * u ≡ y - 256 * u = r .1 u (x - 256 * u) (y - 256 * u) h (omega arith) (omega arith) (subst (λ (z : ℕ). 0 < used (O z)) (sym a) p) (subst (λ (z : ℕ). 0 < used (O z)) (sym b) q) (SameFile-ten _ _ s) in
+      let s : SameFile (O (fileEntry u (x - 256 * u))) (O (fileEntry u (y - 256 * u))) =
+      subst (λ (z : ℕ). SameFile (O z) (O (fileEntry u (y - 256 * u)))) (sym a) (subst (λ (z : ℕ). SameFile (O x) (O z)) (sym b) same) in
+      let e : x - 256 * u ≡ y - 256 * u = r .1 u (x - 256 * u) (y - 256 * u) h (omega arith) (omega arith) (subst (λ (z : ℕ). 0 < used (O z)) (sym a) p) (subst (λ (z : ℕ). 0 < used (O z)) (sym b) q) s in
       omega arith
 
   rule6-apart : Rule6 U O → Span (FilesApart O) 0 256
   unfolding Span
-  rule6-apart r u z h = one-apart O 10 (256 * u) (256 * u + 256) (rule6-one r u h)
+  rule6-apart r u z h = one-apart O 4 (256 * u) (256 * u + 256) (rule6-one r u h)
 
   rule6-by : (b : Bool) → Span (FileFine U O) 0 65536 → Decides b (Span (FilesApart O) 0 256) → Decides b (Rule6 U O)
-  unfolding Rule6
+  unfolding Rule6Over
   rule6-by b s = decides-iff b _ _ (λ a. (files-fine s, files-apart a)) rule6-apart
 
 -- one used object, whose type is judged last

@@ -2,7 +2,6 @@
 pub mod Slots
 pub mod Heads
 pub mod Pages
-pub mod Named
 pub mod Alike
 pub mod Judged
 pub mod Blocks

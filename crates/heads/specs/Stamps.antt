@@ -1,27 +1,36 @@
--- A table of stamps that tells which words were met before: equal words have the same two slots. Assumes nothing.
+-- A table of stamps that tells which names were met before: equal names have the same two slots. Assumes nothing.
 use mathlib.Core.Path.{_≡_}
 use mathlib.Core.List.{List}
 use Prim.Native.Nat.{ℕ, zero, suc, _+_, _*_, _/_, _%_, _<_}
 use lib.ListN.{length, getD}
 use Rattle.book.specs.Words.{Words}
 use Rattle.book.specs.Entries.{Table, used}
+use Rattle.book.specs.Names.{wordsOf, stored}
 use Rattle.heads.specs.Span.{Span}
 
 -- one word more
 abbrev pub mix : ℕ → ℕ → ℕ
 mix h x = (h + x) * 1597334677 % 4294967296
 
--- a number of the n words from k on
-unfoldable pub hash : Words → ℕ → ℕ → ℕ
-hash w k zero = 0
-hash w k (suc n) = mix (hash w k n) (w (k + n))
+-- h and the first n words of x in one number
+unfoldable pub hash : ℕ → Words → ℕ → ℕ
+hash h x zero = h
+hash h x (suc n) = mix (hash h x n) (x n)
 
--- the two slots of an entry's n words from word 1 on
+-- h and a name, up to its end
+unfoldable pub hashOf : ℕ → List ℕ → ℕ
+hashOf h s = hash h (wordsOf s) ((length s + 1) / 2)
+
+-- the number of an entry's name and of its type in n bytes
+abbrev pub titleHash : ℕ → Words → ℕ
+titleHash n w = hashOf (hashOf 0 (stored 16 w 1)) (stored n w 9)
+
+-- its two slots
 abbrev pub lowPlace : ℕ → Words → ℕ
-lowPlace n w = hash w 1 n / 256 % 4096
+lowPlace n w = titleHash n w / 256 % 4096
 
 abbrev pub highPlace : ℕ → Words → ℕ
-highPlace n w = hash w 1 n / 1048576
+highPlace n w = titleHash n w / 1048576
 
 -- the stamp of the 256 entries from `base` on; a new table has only zeros
 abbrev pub stampOf : ℕ → ℕ

@@ -172,7 +172,7 @@ fn all_apart(img: &[u16], table: &mut [u16; 4096], flags: u16, top: usize, users
 {
     let mut u: usize = 0;
     while u < users {
-        if !apart(img, table, flags, top, 10, 256 * u) {
+        if !apart(img, table, flags, top, 4, 256 * u) {
             return false;
         }
         u += 1;

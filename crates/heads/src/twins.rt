@@ -1,9 +1,12 @@
-// Equal names: used entries of one file whose n words from word 1 on are the same. The file is given by its flags and top page.
+// Equal names: used entries of one file that have the same name and, in n bytes, the same type: 4 for files, 0 for users. The file is given by its flags and top page.
 use crate::stamps::SLOTS;
 use crate::stamps::hash_of;
 use crate::stamps::stamp;
 use crate::stamps::stamp_of;
+use crate::stored::entry_end;
 use crate::stored::entry_same;
+use page::entry::NAME;
+use page::entry::TYPE;
 use tree::entry::entry_used;
 use tree::root::root_page;
 ghost use mathlib.Core.Path.{_≡_};
@@ -14,14 +17,24 @@ ghost use Rattle.book.specs.Words.{vol};
 ghost use Rattle.book.specs.Trees.{rootBy};
 ghost use Rattle.book.specs.Entries.{entry, used};
 ghost use Rattle.book.specs.Decides.{Decides};
-ghost use Rattle.tree.specs.Reach.{Reach};
+ghost use Rattle.tree.specs.Reach.{Reach, entryIn};
 ghost use Rattle.heads.specs.Span.{Span};
 ghost use Rattle.heads.specs.Stamps.{Stamped};
-ghost use Rattle.heads.specs.Twins.{Twins, Fresh, Apart, On};
+ghost use Rattle.heads.specs.Twins.{TypeBytes, EndsAt, Twins, Fresh, Apart, On};
 
-// Whether entry x is a twin of the used entry y, which is on page q.
-fn twin(img: &[u16], flags: u16, top: usize, n: usize, q: usize, y: usize, x: usize) -> bool
-    requires { ⌜ On (now img) (rootBy flags top 0) q y × (0 < used (entry (vol (now img)) (rootBy flags top 0) y)) × (n < 32) ⌝ }
+// Whether entry x is a twin of the used entry y, which is on page q, and whose name and type end at bytes l and m.
+fn twin(
+    img: &[u16],
+    flags: u16,
+    top: usize,
+    n: usize,
+    q: usize,
+    y: usize,
+    x: usize,
+    l: usize,
+    m: usize,
+) -> bool
+    requires { ⌜ On (now img) (rootBy flags top 0) q y × (0 < used (entry (vol (now img)) (rootBy flags top 0) y)) × TypeBytes n × EndsAt (entryIn (vol (now img)) q y) n l m ⌝ }
     ensures { λ r. ⌜ Decides r (Twins (entry (vol (now (img .entry))) (rootBy flags top 0)) n x y) ⌝ }
 {
     let p = root_page(img, flags, top, 0, x / 32);
@@ -31,17 +44,19 @@ fn twin(img: &[u16], flags: u16, top: usize, n: usize, q: usize, y: usize, x: us
     if !entry_used(img, p, x) {
         return false;
     }
-    entry_same(img, p, x, q, y, n)
+    entry_same(img, p, x, q, y, n, l, m)
 }
 
 // Whether no entry from `base` on before the used entry y, which is on page q, is its twin.
 pub fn fresh(img: &[u16], flags: u16, top: usize, n: usize, base: usize, q: usize, y: usize) -> bool
-    requires { ⌜ On (now img) (rootBy flags top 0) q y × (0 < used (entry (vol (now img)) (rootBy flags top 0) y)) × (n < 32) × (base ≤ y) ⌝ }
+    requires { ⌜ On (now img) (rootBy flags top 0) q y × (0 < used (entry (vol (now img)) (rootBy flags top 0) y)) × TypeBytes n × (base ≤ y) ⌝ }
     ensures { λ r. ⌜ Decides r (Fresh (entry (vol (now (img .entry))) (rootBy flags top 0)) n base y) ⌝ }
 {
+    let l = entry_end(img, q, y, NAME, 16);
+    let m = entry_end(img, q, y, TYPE, n);
     let mut x = base;
     while x < y {
-        if twin(img, flags, top, n, q, y, x) {
+        if twin(img, flags, top, n, q, y, x, l, m) {
             return false;
         }
         x += 1;
@@ -49,7 +64,7 @@ pub fn fresh(img: &[u16], flags: u16, top: usize, n: usize, base: usize, q: usiz
     true
 }
 
-// The same of any entry y on page q: an unused one has no twin, and one that has a slot without this stamp is the first of its words.
+// The same of any entry y on page q: an unused one has no twin, and one that has a slot without this stamp is the first of its name.
 fn entry_apart(
     img: &[u16],
     table: &mut [u16; 4096],
@@ -60,7 +75,7 @@ fn entry_apart(
     q: usize,
     y: usize,
 ) -> bool
-    requires { ⌜ On (now img) (rootBy flags top 0) q y × (n < 32) × (base ≤ y) × (y < 65536) × Stamped (entry (vol (now img)) (rootBy flags top 0)) n base y (now table) ⌝ }
+    requires { ⌜ On (now img) (rootBy flags top 0) q y × TypeBytes n × (base ≤ y) × (y < 65536) × Stamped (entry (vol (now img)) (rootBy flags top 0)) n base y (now table) ⌝ }
     ensures { λ r. ⌜ Decides r (Fresh (entry (vol (now (img .entry))) (rootBy flags top 0)) n base y) × Stamped (entry (vol (now (img .entry))) (rootBy flags top 0)) n base (y + 1) (now (table .exit)) ⌝ }
 {
     if !entry_used(img, q, y) {
@@ -89,7 +104,7 @@ fn page_apart(
     base: usize,
     first: usize,
 ) -> bool
-    requires { ⌜ Reach (now img) (rootBy flags top 0) × (n < 32) × (base ≤ first) × (first % 32 ≡ 0) × (first < 65536) × Stamped (entry (vol (now img)) (rootBy flags top 0)) n base first (now table) ⌝ }
+    requires { ⌜ Reach (now img) (rootBy flags top 0) × TypeBytes n × (base ≤ first) × (first % 32 ≡ 0) × (first < 65536) × Stamped (entry (vol (now img)) (rootBy flags top 0)) n base first (now table) ⌝ }
     ensures { λ r. ⌜ Decides r (Span (Fresh (entry (vol (now (img .entry))) (rootBy flags top 0)) n base) first (first + 32)) × (r ≡ true → Stamped (entry (vol (now (img .entry))) (rootBy flags top 0)) n base (first + 32) (now (table .exit))) ⌝ }
 {
     let q = root_page(img, flags, top, 0, first / 32);
@@ -116,7 +131,7 @@ pub fn apart(
     n: usize,
     base: usize,
 ) -> bool
-    requires { ⌜ Reach (now img) (rootBy flags top 0) × (n < 32) × (base % 32 ≡ 0) × (base + 256 ≤ 65536) × (length (now table) ≡ 4096) ⌝ }
+    requires { ⌜ Reach (now img) (rootBy flags top 0) × TypeBytes n × (base % 32 ≡ 0) × (base + 256 ≤ 65536) × (length (now table) ≡ 4096) ⌝ }
     ensures { λ r. ⌜ Decides r (Apart (entry (vol (now (img .entry))) (rootBy flags top 0)) n base (base + 256)) × (r ≡ true → length (now (table .exit)) ≡ 4096) ⌝ }
 {
     let end = base + 256;

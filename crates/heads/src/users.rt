@@ -90,5 +90,5 @@ pub fn rule4(img: &[u16], table: &mut [u16; 4096]) -> bool
     }
     let flags = flags_at(img, 0, USERS);
     let top = page_at(img, 0, USERS) as usize;
-    apart(img, table, flags, top, 8, 0)
+    apart(img, table, flags, top, 0, 0)
 }

@@ -2,5 +2,6 @@
 pub mod Broken
 pub mod BrokenLate
 pub mod FirstUser
+pub mod Leftovers
 pub mod Where
 pub mod Sparse

@@ -7,3 +7,5 @@ pub mod Kinds
 pub mod Named
 pub mod Owned
 pub mod Packed
+pub mod Stored
+pub mod ZeroFilled

@@ -3,7 +3,7 @@ use libc::STDOUT_FILENO;
 ghost use mathlib.Core.Path.{_≡_};
 ghost use Prim.Native.Nat.{_+_, _*_, _≤_, _<_};
 ghost use lib.ListN.{length, getD, set};
-ghost use Rattle.book.specs.Names.{packed};
+ghost use Rattle.book.specs.Names.{wordsOf};
 ghost use Rattle.lister.specs.Input.{WordsOf, Answered};
 
 // The bytes of 32 pages; the text for an image of so many is no longer.
@@ -18,7 +18,7 @@ fn wide(b: u8) -> u16
 // Word i of the bytes s.
 fn word_of(s: &[u8], i: usize) -> u16
     requires { ⌜ 2 * i + 1 < length (now s) ⌝ }
-    ensures { λ r. ⌜ r ≡ packed (now (s .entry)) i ⌝ }
+    ensures { λ r. ⌜ r ≡ wordsOf (now (s .entry)) i ⌝ }
 {
     wide(s[2 * i]) * 256 + wide(s[2 * i + 1])
 }

@@ -5,14 +5,15 @@ use Prim.Native.Nat.{ℕ, zero, suc, _+_, _*_, _/_, _%_, _≤_, zero-le}
 use native.Mathlib.Nat.{le-refl}
 use native.Mathlib.Omega.{arith}
 use lib.ListN.{length, length-append}
-use Rattle.sums.specs.Sum.{sum, is, sum-le, sum-const}
-use Rattle.sums.specs.Search.{pick}
+use Rattle.sums.specs.Sum.{sum, is}
+use Rattle.sums.specs.Search.{pick, lowest-is}
 use Rattle.book.specs.Words.{Words, Vol}
 use Rattle.book.specs.Pointers.{flags, volumeName}
 use Rattle.book.specs.Bits.{reserved}
 use Rattle.book.specs.Entries.{Table, given, usedPages, pageCount, filePointer, unreserved}
-use Rattle.book.specs.Names.{byteAt}
-use Rattle.book.specs.Listing.{Bytes, joined, digits, letter, spelled, field, volume, pagesAre, reservedAre, unreservedAre, userIs, givenAre, usedAre, fileIs, refusedIs, ruleIs, space, colon, newline}
+use Rattle.book.specs.Names.{byteAt, ends, stored}
+use Rattle.laws.specs.File.Stored.{stored-length}
+use Rattle.book.specs.Listing.{Bytes, joined, digits, field, volume, pagesAre, reservedAre, unreservedAre, userIs, givenAre, usedAre, fileIs, refusedIs, ruleIs, space, colon, newline}
 use Rattle.book.specs.Listing.{subindex, contiguous, kindOf, headLine, userLine, fileTitle, fileLine, refusedLine}
 
 -- ---- parts
@@ -53,20 +54,8 @@ field-length : (label : Bytes) (n : ℕ) → AtMost (length label + 10) (field l
 unfolding field
 field-length label n = both (all-of label) (digits-length 10 n)
 
-letter-length : (b : ℕ) → AtMost 1 (letter b)
-unfolding letter
-letter-length b = either b 1 (all-of (b ∷ [])) (none 1)
-
-spelled-length : (w : Words) (k n : ℕ) → AtMost n (spelled w k n)
-unfolding spelled
-spelled-length w k n = record {
-  most = omega (
-    arith,
-    joined-length (λ i. letter (byteAt w k i)) n,
-    sum-le n (λ i. length (letter (byteAt w k i))) (λ i. 1) (λ i h. letter-length (byteAt w k i) .most),
-    sum-const n 1,
-  );
-}
+name-length : (n : ℕ) (w : Words) (k : ℕ) → AtMost n (stored n w k)
+name-length n w k = record { most = omega (arith, stored-length n w k, lowest-is (λ i. ends (byteAt w k i)) n .most) }
 
 kind-length : (x n : ℕ) → AtMost 11 (kindOf x n)
 unfolding kindOf
@@ -80,7 +69,7 @@ pub head-length : (P : ℕ) (v : Vol) → length (headLine P v) ≤ 83
 unfolding headLine
 head-length P v =
     let l : AtMost 83 (headLine P v) =
-    both (both (both (both (both (all-of volume) (spelled-length (v 0) volumeName 16)) (field-length pagesAre P)) (field-length reservedAre (reserved P v)))
+    both (both (both (both (both (all-of volume) (name-length 16 (v 0) volumeName)) (field-length pagesAre P)) (field-length reservedAre (reserved P v)))
     (field-length unreservedAre (unreserved v))) (all-of newline) in
     l .most
 
@@ -89,13 +78,13 @@ pub user-length : (U : Table) (u : ℕ) → length (userLine U u) ≤ 66
 unfolding userLine
 user-length U u =
     let l : AtMost 66 (userLine U u) =
-    both (both (both (both (both (field-length userIs u) (all-of space)) (spelled-length (U u) 1 16)) (field-length givenAre (given U u)))
+    both (both (both (both (both (field-length userIs u) (all-of space)) (name-length 16 (U u) 1)) (field-length givenAre (given U u)))
     (field-length usedAre (usedPages U u))) (all-of newline) in
     l .most
 
 title-length : (f : ℕ) (w : Words) → AtMost 37 (fileTitle f w)
 unfolding fileTitle
-title-length f w = both (both (both (both (field-length fileIs f) (all-of space)) (spelled-length w 1 16)) (all-of colon)) (spelled-length w 9 4)
+title-length f w = both (both (both (both (field-length fileIs f) (all-of space)) (name-length 16 w 1)) (all-of colon)) (name-length 4 w 9)
 
 pub file-length : (f : ℕ) (w : Words) → length (fileLine f w) ≤ 66
 unfolding fileLine

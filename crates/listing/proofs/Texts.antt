@@ -1,21 +1,19 @@
 -- The parts of the listing, as code goes through them. Assumes nothing.
 use mathlib.Core.Path.{_≡_, refl, sym, ap, ap₂, _∙_}
 use mathlib.Core.List.{[], _∷_, _++_, append-assoc, append-nil}
-use Prim.Native.Nat.{ℕ, zero, suc, _+_, _-_, _*_, _/_, _%_, _^_, _≤_, _<_}
+use Prim.Native.Nat.{ℕ, zero, suc, _+_, _-_, _*_, _/_, _%_, _≤_, _<_}
 use mathlib.Core.Logic.{inl, inr}
-use native.Mathlib.Nat.{add-zero, add-suc, add-assoc, eq-zero-or-pos}
+use native.Mathlib.Nat.{add-zero, add-suc, eq-zero-or-pos}
 use native.Mathlib.Numerals.{add-one}
 use native.Mathlib.Omega.{arith}
 use Rattle.sums.specs.Search.{pick-yes, pick-no}
 use Rattle.book.specs.Words.{Words, Vol}
-use Rattle.book.specs.Entries.{entryWord, used, user, userPage, objectPage, objectFile, fileEntry}
+use Rattle.book.specs.Entries.{used, user, userPage, objectPage, objectFile, fileEntry}
 use Rattle.book.specs.Trees.{pageAt}
-use Rattle.book.specs.Names.{byteAt}
-use Rattle.page.proofs.Stored.{byte-high}
 use Rattle.tree.specs.Reach.{entryIn}
-use Rattle.tree.proofs.Entries.{there-word, user-in, object-in}
+use Rattle.tree.proofs.Entries.{user-in, object-in}
 use Rattle.seek.proofs.Search.{absent-used}
-use Rattle.book.specs.Listing.{Bytes, joined, digits, letter, spelled, empty, index, subindex, contiguous, kindOf, fileLine, fileLines, fileOf, userLine, userLines}
+use Rattle.book.specs.Listing.{Bytes, joined, digits, empty, index, subindex, contiguous, kindOf, fileLine, fileLines, fileOf, userLine, userLines}
 
 -- ---- rows
 
@@ -45,7 +43,7 @@ unfolding joined
 joined-none g zero e = refl
 joined-none g (suc n) e = ap₂ (λ (a b : Bytes). a ++ b) (joined-none g n (λ i l. e i (omega arith))) (sym (e n (omega arith)))
 
--- ---- digits and letters
+-- ---- digits
 
 pub digits-none : (k n : ℕ) → k ≡ 0 → [] ≡ digits k n
 unfolding digits
@@ -66,36 +64,6 @@ digits-more (suc k) n h l =
     let s : suc k - 1 ≡ k = omega arith in
     ap (λ (x : ℕ). digits x (n / 10) ++ ((48 + n % 10) ∷ [])) s
     ∙ ap (λ (t : Bytes). t ++ ((48 + n % 10) ∷ [])) (sym (pick-yes (n / 10) (digits k (n / 10)) [] (omega arith)))
-
-pub letter-none : (b : ℕ) → b ≡ 0 → [] ≡ letter b
-unfolding letter
-letter-none b e = sym (pick-no b (b ∷ []) [] e)
-
-pub letter-one : (b : ℕ) → (b ≡ 0 → ⊥) → b ∷ [] ≡ letter b
-unfolding letter
-letter-one b h = sym (pick-yes b (b ∷ []) [] (omega arith))
-
--- ---- names
-
--- words that are alike spell alike
-pub spelled-as : (w x : Words) (k j n : ℕ) → ((i : ℕ) → w (k + i) ≡ x (j + i)) → spelled w k n ≡ spelled x j n
-unfolding spelled byteAt
-spelled-as w x k j n e = joined-ext _ _ n (λ i h. ap (λ (y : ℕ). letter (y / 256 ^ (1 - i % 2) % 256)) (e (i / 2)))
-
--- a name in entry n on page q, from the entry's first word a
-pub spelled-there : (v : Vol) (q n a k m : ℕ) → 0 < q → a ≡ entryWord n → spelled (v q) (a + k) m ≡ spelled (entryIn v q n) k m
-spelled-there v q n a k m h e = spelled-as (v q) (entryIn v q n) (a + k) k m (λ i. ap (v q) (add-assoc a k i) ∙ there-word v q n a (k + i) h e)
-
-pub spelled-zero : (w : Words) (k : ℕ) → [] ≡ spelled w k 0
-unfolding spelled
-spelled-zero w k = joined-zero _
-
-pub spelled-more : (w : Words) (k i : ℕ) → spelled w k i ++ letter (byteAt w k i) ≡ spelled w k (i + 1)
-unfolding spelled
-spelled-more w k i = joined-one _ i
-
-pub byte-even : (w : Words) (k l : ℕ) → l % 2 ≡ 0 → byteAt w k l ≡ w (k + l / 2) / 256 % 256
-byte-even w k l e = ap (byteAt w k) (let q : l ≡ 2 * (l / 2) = omega arith in q) ∙ byte-high w k (l / 2)
 
 -- ---- kinds
 

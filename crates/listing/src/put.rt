@@ -1,13 +1,13 @@
 // Writing into a lent buffer: each function writes its text from byte `at` on, as far as the buffer reaches, and gives the place after it.
 ghost use mathlib.Core.Path.{_≡_};
-ghost use mathlib.Core.List.{_∷_, []};
+ghost use mathlib.Core.List.{_∷_};
 ghost use Prim.Native.Nat.{_+_, _*_, _≤_, _<_};
 ghost use lib.ListN.{length, set};
-ghost use Rattle.book.specs.Listing.{digits, decimal, letter, field};
+ghost use Rattle.book.specs.Listing.{digits, decimal, field};
 ghost use Rattle.listing.specs.Wrote.{far, Wrote};
 
 // One byte; the buffer stays as it is where it does not reach.
-fn put(out: &mut [u8], at: usize, b: u8)
+pub(crate) fn put(out: &mut [u8], at: usize, b: u8)
     ensures { λ _. ⌜ now (out .exit) ≡ set (now (out .entry)) at b ⌝ }
 {
     if at < out.len() {
@@ -26,18 +26,6 @@ pub fn put_bytes(out: &mut [u8], at: usize, s: &[u8]) -> usize
         i += 1;
     }
     at + i
-}
-
-// A byte of a name, if it is none of the zero fill.
-pub fn put_letter(out: &mut [u8], at: usize, b: u8) -> usize
-    requires { ⌜ at < 6 * far ⌝ }
-    ensures { λ r. ⌜ Wrote (letter b) (now (out .entry)) at (now (out .exit)) r × (r ≤ at + 1) ⌝ }
-{
-    if b == 0 {
-        return at;
-    }
-    put(out, at, b);
-    at + 1
 }
 
 fn digit(d: usize) -> u8

@@ -8,7 +8,7 @@ use Rattle.book.specs.Words.{Vol, vol, put2}
 use Rattle.book.specs.Bits.{lowestFree, claimRun, highestRun}
 use Rattle.book.specs.Entries.{Table, user, used, usedPages, spare, unreserved, userPage, objectPage, putEntry, entryWord, fileEntry, newUser, newFile}
 use Rattle.book.specs.Image.{pages, mostPages, Ready}
-use Rattle.book.specs.Rules.{Rule4}
+use Rattle.book.specs.Rules.{Rule4Over}
 use Rattle.book.specs.Create.{userEntry, objectEntry, userNeed, fileNeed, userPlace, filePlace, createUser, createIndexed, createContiguous}
 use Rattle.laws.specs.Bits.Choose.{FreeRun, lowest-stock, run-found}
 use Rattle.laws.specs.Count.Room.{given-room}
@@ -60,7 +60,7 @@ module _ {img : List ℕ} {u f e : ℕ} (d : Ready img) (hu : u < 256) (hf : f <
 
     -- the owner's used pages stay, and n more are few
     pub used-room : (n : ℕ) → n ≤ spare (vol img) u → (w : Vol) → w ≡ filePlace (lowestFree (pages img)) (pages img) (vol img) e → usedPages (user w) u + n ≤ mostPages
-    unfolding spare Rule4
+    unfolding spare Rule4Over
     used-room n le w q = omega (
       arith,
       le,

@@ -10,10 +10,6 @@ use Rattle.book.specs.Names.{Letter, byteAt}
 abbrev pub Begins : ℕ → List ℕ → Words → Type 0
 Begins n xs w = (k : ℕ) → k < n → getD xs k 0 ≡ w k
 
--- words k to z - 1 are zeros
-abbrev pub Blank : Words → ℕ → ℕ → Type 0
-Blank w k z = (i : ℕ) → i < z → k ≤ i → w i ≡ 0
-
 -- of the n bytes from word k on, those before byte l are letters, and byte l is not
 pub record Letters (n : ℕ) (w : Words) (k l : ℕ) : Type 0 where
   pub most : l ≤ n

@@ -9,7 +9,7 @@ use native.Mathlib.Omega.{arith}
 use Rattle.book.specs.Decides.{Decides}
 use Rattle.book.specs.Entries.{Table, entry, entryWord, user, userPage, object, objectPage, used, fileEntry}
 use Rattle.book.specs.Image.{pages, Whole}
-use Rattle.book.specs.Names.{Same, LegalName, LegalType}
+use Rattle.book.specs.Names.{SameFile, LegalName, LegalType}
 use Rattle.book.specs.Pointers.{flags, page, objectPointer}
 use Rattle.book.specs.Rules.{Rule2, Rule3, Rule5, FileOk}
 use Rattle.book.specs.Trees.{Root, rootBy, pageAt}
@@ -17,7 +17,6 @@ use Rattle.book.specs.Words.{Words, Vol, vol}
 use Rattle.book.specs.declared.Place.{Place}
 use Rattle.book.specs.Spots.{Spots, at, each, AllHold, First, when-all}
 use Rattle.book.specs.Places.{inObject, NewFile, objectSpots}
-use Rattle.laws.specs.File.Named.{SameFile-ten, ten-SameFile}
 use Rattle.tree.specs.Reach.{entryIn}
 use Rattle.tree.proofs.Entries.{user-in, object-in}
 use Rattle.heads.specs.Fine.{FileFine}
@@ -31,16 +30,16 @@ use Rattle.places.specs.Rows.{Objects, UsedObject, objectRow}
 -- ---- a name that no lower file of the user has
 
 module _ (O : Table) (u f : ℕ) where
-  new-by : 0 < used (O (fileEntry u f)) → Fresh O 10 (256 * u) (fileEntry u f) → NewFile O u f
+  new-by : 0 < used (O (fileEntry u f)) → Fresh O 4 (256 * u) (fileEntry u f) → NewFile O u f
   unfolding Span
-  new-by h s a l k same = s (fileEntry u a) (omega arith) (omega arith) (record { first = k; second = h; words = ten-SameFile _ _ same })
+  new-by h s a l k same = s (fileEntry u a) (omega arith) (omega arith) (record { first = k; second = h; title = same })
 
-  by-new : NewFile O u f → Fresh O 10 (256 * u) (fileEntry u f)
+  by-new : NewFile O u f → Fresh O 4 (256 * u) (fileEntry u f)
   unfolding Span
   by-new n x h l w =
       let e : fileEntry u (x - 256 * u) ≡ x = omega arith in
       n (x - 256 * u) (omega arith) (subst (λ (y : ℕ). 0 < used (O y)) (sym e) (w .first))
-      (SameFile-ten _ _ (subst (λ (y : ℕ). Same 10 (O y) 1 (O (fileEntry u f)) 1) (sym e) (w .words)))
+      (subst (λ (y : ℕ). SameFile (O y) (O (fileEntry u f))) (sym e) (w .title))
 
 -- ---- the object file by its pointer
 
@@ -136,7 +135,7 @@ module _ (img : List ℕ) (x t q u f : ℕ) (d : UsedObject img x t q u f) where
   owner-read b o i = subst (λ (g : Words). Decides b (0 < used g)) (user-in w u o i)
 
   abbrev Named : Table → Type 0
-  Named O = LegalName (O e) 1 × Fresh O 10 (256 * u) e
+  Named O = LegalName (O e) 1 × Fresh O 4 (256 * u) e
 
   abbrev Typed : Type 0
   Typed = LegalType (entryIn w q e) 9

@@ -18,6 +18,7 @@ use Rattle.tree.proofs.Reach.{root-read}
 use Rattle.tree.proofs.Entries.{user-in}
 use Rattle.heads.specs.Span.{Span}
 use Rattle.heads.specs.Twins.{Fresh}
+use Rattle.heads.proofs.Alike.{title-none}
 use Rattle.heads.proofs.Judged.{users-table}
 use Rattle.heads.proofs.Pages.{absent-unused}
 use Rattle.book.specs.declared.Place.{Place}
@@ -53,17 +54,17 @@ module _ (img : List ℕ) (x t q u : ℕ) (d : UserAt img x t q u) where
   here k p e = e ∙ ap (λ (r : ℕ). at r (entryWord u + k)) page-is
 
   -- the name, by the code's two tests of it
-  fresh-new : Fresh E 8 0 u → NewName (user v) u
+  fresh-new : Fresh E 0 0 u → NewName (user v) u
   unfolding Span
-  fresh-new f a h k s = subst (λ (T : Table). Fresh T 8 0 u) table f a (omega arith) h (record { first = k; second = d .used; words = s })
+  fresh-new f a h k s = subst (λ (T : Table). Fresh T 0 0 u) table f a (omega arith) h (record { first = k; second = d .used; title = title-none (user v a) (user v u) s })
 
-  new-fresh : NewName (user v) u → Fresh E 8 0 u
+  new-fresh : NewName (user v) u → Fresh E 0 0 u
   unfolding Span
-  new-fresh n = subst (λ (T : Table). Fresh T 8 0 u) (sym table) (λ a z h w. n a h (w .first) (w .words))
+  new-fresh n = subst (λ (T : Table). Fresh T 0 0 u) (sym table) (λ a z h w. n a h (w .first) (w .title .0))
 
   -- the name, as the code tests it
   abbrev Named : Type 0
-  Named = LegalName (E u) 1 × Fresh E 8 0 u
+  Named = LegalName (E u) 1 × Fresh E 0 0 u
 
   named : Named → LegalName (user v u) 1 × NewName (user v) u
   named n = (subst (λ (T : Table). LegalName (T u) 1) table (n .0), fresh-new (n .1))

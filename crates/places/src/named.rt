@@ -9,9 +9,9 @@ ghost use Rattle.book.specs.Image.{pages};
 ghost use Rattle.book.specs.Names.{LegalName};
 ghost use Rattle.book.specs.Trees.{rootBy};
 ghost use Rattle.book.specs.Words.{vol};
-ghost use Rattle.heads.specs.Twins.{Fresh, On};
+ghost use Rattle.heads.specs.Twins.{TypeBytes, Fresh, On};
 
-// Whether the name of the used entry y, which is on page q of the file with these flags and top page, is legal, and none from `base` on before it has the same n words.
+// Whether the name of the used entry y, which is on page q of the file with these flags and top page, is legal, and none from `base` on before it has the same name and, in n bytes, the same type.
 pub(crate) fn name_ok(
     img: &[u16],
     flags: u16,
@@ -21,7 +21,7 @@ pub(crate) fn name_ok(
     q: usize,
     y: usize,
 ) -> bool
-    requires { ⌜ On (now img) (rootBy flags top 0) q y × (q < pages (now img)) × (0 < used (entry (vol (now img)) (rootBy flags top 0) y)) × (n < 32) × (base ≤ y) ⌝ }
+    requires { ⌜ On (now img) (rootBy flags top 0) q y × (q < pages (now img)) × (0 < used (entry (vol (now img)) (rootBy flags top 0) y)) × TypeBytes n × (base ≤ y) ⌝ }
     ensures { λ r. ⌜ Decides r (LegalName (entry (vol (now (img .entry))) (rootBy flags top 0) y) 1 × Fresh (entry (vol (now (img .entry))) (rootBy flags top 0)) n base y) ⌝ }
 {
     if !entry_legal(img, q, y, NAME, 1, 16) {

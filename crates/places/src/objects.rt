@@ -45,7 +45,7 @@ fn used_object(img: &[u16], flags: u16, top: usize, q: usize, u: usize, f: usize
             place: place_of(q, e, 0),
         };
     }
-    if !name_ok(img, flags, top, 10, 256 * u, q, e) {
+    if !name_ok(img, flags, top, 4, 256 * u, q, e) {
         return Fault::At {
             place: place_of(q, e, NAME),
         };
@@ -123,7 +123,7 @@ fn all_right(img: &[u16], flags: u16, top: usize, u: usize) -> bool
         return false;
     }
     let mut table = room();
-    apart(img, &mut table, flags, top, 10, base)
+    apart(img, &mut table, flags, top, 4, base)
 }
 
 // The first of the places of the files of user u, where the judge's tests are asked first.

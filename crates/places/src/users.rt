@@ -52,7 +52,7 @@ fn used_user(img: &[u16], flags: u16, top: usize, q: usize, u: usize) -> Fault
     requires { ⌜ UserAt (now img) flags top q u ⌝ }
     ensures { λ r. ⌜ Finds (userSpots (vol (now (img .entry))) u) r ⌝ }
 {
-    if !name_ok(img, flags, top, 8, 0, q, u) {
+    if !name_ok(img, flags, top, 0, 0, q, u) {
         return Fault::At {
             place: place_of(q, u, NAME),
         };

@@ -1,20 +1,20 @@
 -- Searches through the entries of a file, page by page. Assumes nothing.
-use mathlib.Core.Path.{_≡_, sym, ap, ap₂, _∙_, subst, fun-ext}
+use mathlib.Core.Path.{_≡_, refl, sym, ap, ap₂, _∙_, subst, fun-ext}
 use mathlib.Core.List.{List}
 use mathlib.Core.Bool.{Bool, true, false}
 use Prim.Native.Nat.{ℕ, _+_, _-_, _*_, _/_, _%_, _<_}
-use native.Mathlib.Nat.{add-assoc, zero-add, not-suc-le-zero}
+use native.Mathlib.Nat.{zero-add}
 use native.Mathlib.Decide.{decLt}
 use native.Mathlib.Omega.{arith}
 use Rattle.book.specs.Words.{Words, Vol, word}
 use Rattle.book.specs.Trees.{Root, pageAt}
 use Rattle.book.specs.Entries.{entry, entryWord, used, user, object, userFile, objectFile, fileEntry}
-use Rattle.book.specs.Names.{Same}
+use Rattle.book.specs.Names.{stored}
 use Rattle.book.specs.Decides.{Decides}
 use Rattle.book.specs.Calls.{IsUser, IsFile}
-use Rattle.page.proofs.Deciding.{decides-iff}
+use Rattle.page.proofs.Deciding.{never}
 use Rattle.tree.specs.Reach.{entryIn}
-use Rattle.tree.proofs.Entries.{absent-word, there-word}
+use Rattle.tree.proofs.Entries.{absent-word, there-stored}
 use Rattle.seek.specs.declared.Found.{Found}
 use Rattle.seek.specs.declared.Found.the-variants.{At, Nothing}
 use Rattle.seek.specs.Search.{FoundBy, Fits}
@@ -45,15 +45,9 @@ pub absent-used : (v : Vol) (q k : ℕ) → q ≡ 0 → used (entryIn v q k) ≡
 unfolding used
 absent-used v q k z = ap (λ (x : ℕ). x / 32768) (absent-word v q k 0 z)
 
--- words of an entry compared on its page, from the entry's first word w
-pub there-same : (b : Bool) (v : Vol) (q n w k m : ℕ) (x : Words) (j : ℕ) → 0 < q → w ≡ entryWord n → Decides b (Same m (v q) (w + k) x j) → Decides b (Same m (entryIn v q n) k x j)
-unfolding Same
-there-same b v q n w k m x j h e = decides-iff b _ _
-    (λ s i l. sym (at i) ∙ s i l)
-    (λ s i l. at i ∙ s i l)
-  where
-    at : (i : ℕ) → v q (w + k + i) ≡ entryIn v q n (k + i)
-    at i = ap (v q) (add-assoc w k i) ∙ there-word v q n w (k + i) h e
+-- a name of an entry, read on its page from the entry's first word w
+pub there-named : (b : Bool) (v : Vol) (q n w k m : ℕ) (s : List ℕ) → 0 < q → w ≡ entryWord n → Decides b (stored m (v q) (w + k) ≡ s) → Decides b (stored m (entryIn v q n) k ≡ s)
+there-named b v q n w k m s h e = subst (λ (t : List ℕ). Decides b (t ≡ s)) (there-stored v q n w k m h e)
 
 -- entry k of page i from page b on is entry n from that page on
 module _ (v : Vol) (r : Root) (b i q : ℕ) (at : q ≡ pageAt v r (b + i)) where
@@ -82,20 +76,20 @@ module _ (v : Vol) (r : Root) (b i q : ℕ) (at : q ≡ pageAt v r (b + i)) wher
 
 -- ---- users and files: the entries from page b of the file at r on
 
-pub users-found : (v : Vol) (r : Root) (name : List ℕ) (x : Found) → userFile v ≡ r → FoundBy (λ (n : ℕ). (n < 256) × Fits 0 name name (entry v r (32 * 0 + n))) x → FoundBy (IsUser v name) x
-unfolding user Same
+pub users-found : (v : Vol) (r : Root) (name : List ℕ) (x : Found) → userFile v ≡ r → FoundBy (λ (n : ℕ). (n < 256) × Fits false name name (entry v r (32 * 0 + n))) x → FoundBy (IsUser v name) x
+unfolding user
 users-found v r name x e = found-iff _ _ x
-    (λ n h. let d = subst (Fits 0 name name) (at n) (h .1) in (h .0, d .0, d .1))
-    (λ n h. (h .0, subst (Fits 0 name name) (sym (at n)) (h .1, h .2, λ i l. absurd (not-suc-le-zero l))))
+    (λ n h. let d = subst (Fits false name name) (at n) (h .1) in (h .0, d .0, d .1))
+    (λ n h. (h .0, subst (Fits false name name) (sym (at n)) (h .1, h .2, λ t. never t)))
   where
     at : (n : ℕ) → entry v r (32 * 0 + n) ≡ user v n
     at n = ap₂ (entry v) (sym e) (zero-add n)
 
-pub files-found : (v : Vol) (r : Root) (u : ℕ) (name type : List ℕ) (x : Found) → objectFile v ≡ r → FoundBy (λ (n : ℕ). (n < 256) × Fits 2 name type (entry v r (32 * (8 * u) + n))) x → FoundBy (IsFile v u name type) x
+pub files-found : (v : Vol) (r : Root) (u : ℕ) (name type : List ℕ) (x : Found) → objectFile v ≡ r → FoundBy (λ (n : ℕ). (n < 256) × Fits true name type (entry v r (32 * (8 * u) + n))) x → FoundBy (IsFile v u name type) x
 unfolding object
 files-found v r u name type x e = found-iff _ _ x
-    (λ n h. let d = subst (Fits 2 name type) (at n) (h .1) in (h .0, d .0, d .1, d .2))
-    (λ n h. (h .0, subst (Fits 2 name type) (sym (at n)) (h .1, h .2, h .3)))
+    (λ n h. let d = subst (Fits true name type) (at n) (h .1) in (h .0, d .0, d .1, d .2 refl))
+    (λ n h. (h .0, subst (Fits true name type) (sym (at n)) (h .1, h .2, λ t. h .3)))
   where
     at : (n : ℕ) → entry v r (32 * (8 * u) + n) ≡ object v (fileEntry u n)
     at n = let s : 32 * (8 * u) + n ≡ fileEntry u n = omega arith in ap₂ (entry v) (sym e) s

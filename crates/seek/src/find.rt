@@ -21,33 +21,36 @@ ghost use Rattle.book.specs.Calls.{IsUser, IsFile};
 ghost use Rattle.tree.specs.Reach.{Reach, entryIn};
 ghost use Rattle.seek.specs.Search.{FoundBy, Fits};
 
-// Entry k of page q is used, has this name, and in m words this type: 2 for a file, 0 for a user.
-fn fits(img: &[u16], q: usize, k: usize, name: &[u8], kind: &[u8], m: usize) -> bool
-    requires { ⌜ (0 < q) × (q < pages (now img)) × (m ≤ 2) ⌝ }
-    ensures { λ r. ⌜ Decides r (Fits m (now (name .entry)) (now (kind .entry)) (entryIn (vol (now (img .entry))) q k)) ⌝ }
+// Entry k of page q is used, has this name and, if types are asked for, this type.
+fn fits(img: &[u16], q: usize, k: usize, name: &[u8], kind: &[u8], typed: bool) -> bool
+    requires { ⌜ (0 < q) × (q < pages (now img)) ⌝ }
+    ensures { λ r. ⌜ Decides r (Fits typed (now (name .entry)) (now (kind .entry)) (entryIn (vol (now (img .entry))) q k)) ⌝ }
 {
     if !entry_used(img, q, k) {
         return false;
     }
     let place = EntryPlace::of(k);
     let w = place.word;
-    if !named_at(img, q, w + NAME, 8, name) {
+    if !named_at(img, q, w + NAME, 16, name) {
         return false;
     }
-    named_at(img, q, w + TYPE, m, kind)
+    if !typed {
+        return true;
+    }
+    named_at(img, q, w + TYPE, 4, kind)
 }
 
 // The lowest entry of page q that fits, counted on the page; an absent page has none.
-fn find_on(img: &[u16], q: usize, name: &[u8], kind: &[u8], m: usize) -> Found
-    requires { ⌜ (q < pages (now img)) × (m ≤ 2) ⌝ }
-    ensures { λ r. ⌜ FoundBy (λ (k : ℕ). (k < 32) × Fits m (now (name .entry)) (now (kind .entry)) (entryIn (vol (now (img .entry))) q k)) r ⌝ }
+fn find_on(img: &[u16], q: usize, name: &[u8], kind: &[u8], typed: bool) -> Found
+    requires { ⌜ q < pages (now img) ⌝ }
+    ensures { λ r. ⌜ FoundBy (λ (k : ℕ). (k < 32) × Fits typed (now (name .entry)) (now (kind .entry)) (entryIn (vol (now (img .entry))) q k)) r ⌝ }
 {
     if q == 0 {
         return Found::Nothing;
     }
     let mut k: u32 = 0;
     while k < 32 {
-        if fits(img, q, k as usize, name, kind, m) {
+        if fits(img, q, k as usize, name, kind, typed) {
             return Found::At { index: k };
         }
         k += 1;
@@ -71,15 +74,15 @@ fn find_in(
     b: usize,
     name: &[u8],
     kind: &[u8],
-    m: usize,
+    typed: bool,
 ) -> Found
-    requires { ⌜ Reach (now img) (rootBy flags top 0) × (b < objectPages) × (m ≤ 2) ⌝ }
-    ensures { λ r. ⌜ FoundBy (λ (n : ℕ). (n < 256) × Fits m (now (name .entry)) (now (kind .entry)) (entry (vol (now (img .entry))) (rootBy flags top 0) (32 * b + n))) r ⌝ }
+    requires { ⌜ Reach (now img) (rootBy flags top 0) × (b < objectPages) ⌝ }
+    ensures { λ r. ⌜ FoundBy (λ (n : ℕ). (n < 256) × Fits typed (now (name .entry)) (now (kind .entry)) (entry (vol (now (img .entry))) (rootBy flags top 0) (32 * b + n))) r ⌝ }
 {
     let mut i: usize = 0;
     while i < 8 {
         let q = root_page(img, flags, top, 0, b + i);
-        let r = find_on(img, q, name, kind, m);
+        let r = find_on(img, q, name, kind, typed);
         if let Found::At { index } = r {
             return Found::At {
                 index: index_at(i, index),
@@ -97,7 +100,7 @@ pub fn find_user(img: &[u16], name: &[u8]) -> Found
 {
     let flags = flags_at(img, 0, USERS);
     let top = page_at(img, 0, USERS) as usize;
-    find_in(img, flags, top, 0, name, name, 0)
+    find_in(img, flags, top, 0, name, name, false)
 }
 
 // The file of this user, name and type.
@@ -107,5 +110,5 @@ pub fn find_file(img: &[u16], user: usize, name: &[u8], kind: &[u8]) -> Found
 {
     let flags = flags_at(img, 0, OBJECTS);
     let top = page_at(img, 0, OBJECTS) as usize;
-    find_in(img, flags, top, 8 * user, name, kind, 2)
+    find_in(img, flags, top, 8 * user, name, kind, true)
 }

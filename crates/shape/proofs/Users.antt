@@ -12,7 +12,7 @@ use Rattle.book.specs.Decides.{Decides, decides-and}
 use Rattle.book.specs.Entries.{user, object, userFile, userPage, used, given, usedPages, grant, unreserved, fileEntry}
 use Rattle.book.specs.Holders.{all, mine, some, systemPages}
 use Rattle.book.specs.Image.{pages, Whole}
-use Rattle.book.specs.Rules.{Rule2, Rule3, Rule6, Rule7, Rule10}
+use Rattle.book.specs.Rules.{Rule2, Rule3, Rule6, Rule6Over, Rule7, Rule10}
 use Rattle.book.specs.Trees.{pageAt}
 use Rattle.book.specs.Words.{Words, Vol, vol, two}
 use Rattle.book.specs.Pointers.{unreservedCount}
@@ -79,7 +79,7 @@ grants-sum v = sum-ext 256 (λ u. countIn 14 (user v u)) (grant (user v)) (λ u 
 -- the used pages, where they are those of the files: an unused user has none
 module _ (P : ℕ) (v : Vol) (r6 : Rule6 (user v) (object v)) (r7 : Rule7 P v) (right : UsersRight v 0 256) where
   none-held : (u : ℕ) → u < 256 → (0 < used (user v u) → ⊥) → 0 ≡ pagesOf v u
-  unfolding Rule6
+  unfolding Rule6Over
   none-held u h n = pages-none v u (λ i k a b j. n (r6 .0 u (32 * i + k) h (omega arith) (subst (λ (e : ℕ). 0 < used (object v e)) (here i k) j) .owner))
     where
       here : (i k : ℕ) → 32 * (8 * u + i) + k ≡ fileEntry u (32 * i + k)

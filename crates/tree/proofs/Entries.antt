@@ -1,13 +1,18 @@
 -- Entries on a page that is known. Assumes nothing.
 use mathlib.Core.Path.{_≡_, sym, ap, ap₂, _∙_, subst, fun-ext}
+use mathlib.Core.List.{List}
 use Prim.Native.Nat.{ℕ, suc, _+_, _*_, _/_, _%_, _<_}
+use native.Mathlib.Nat.{add-assoc}
 use native.Mathlib.Omega.{arith}
+use lib.ListN.{length}
 use Rattle.book.specs.Words.{Words, Vol, two, word}
 use Rattle.book.specs.Written.{word-pos}
 use Rattle.book.specs.Pointers.{flags, page, flagsAbove}
 use Rattle.book.specs.Trees.{run, rootBy}
 use Rattle.book.specs.Entries.{entryWord, entry, user, object, userPage, objectPage, used}
 use Rattle.book.specs.Files.{fileAt}
+use Rattle.book.specs.Names.{endOf, stored}
+use Rattle.laws.specs.File.Stored.{stored-length, stored-words}
 use Rattle.laws.specs.Tree.Pointer.{file-unused, file-used}
 use Rattle.laws.specs.Tree.Slot.{word-zero}
 use Rattle.tree.specs.Reach.{entryIn}
@@ -79,3 +84,10 @@ module _ (v : Vol) (q n w k : ℕ) (h : 0 < q) (e : w ≡ entryWord n) where
   pub there-flags : flags (v q) (w + k) ≡ flags (entryIn v q n) k
   unfolding flags
   there-flags = ap (λ (x : ℕ). x / flagsAbove) there-word
+
+-- so it stores the name that stands there
+pub there-stored : (v : Vol) (q e w k n : ℕ) → 0 < q → w ≡ entryWord e → stored n (v q) (w + k) ≡ stored n (entryIn v q e) k
+there-stored v q e w k n h a = stored-words n (v q) (entryIn v q e) (w + k) k (λ i l. ap (v q) (add-assoc w k (i / 2)) ∙ there-word v q e w (k + i / 2) h a)
+
+pub there-end : (v : Vol) (q e w k n : ℕ) → 0 < q → w ≡ entryWord e → endOf n (v q) (w + k) ≡ endOf n (entryIn v q e) k
+there-end v q e w k n h a = sym (stored-length n (v q) (w + k)) ∙ ap (λ (s : List ℕ). length s) (there-stored v q e w k n h a) ∙ stored-length n (entryIn v q e) k

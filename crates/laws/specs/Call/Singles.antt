@@ -5,11 +5,9 @@ use Prim.Native.Nat.{ℕ}
 use native.Mathlib.Omega.{arith}
 use Rattle.book.specs.Calls.{checkCall, addressCall, readCall, createUserCall, deleteUserCall, giveCall, takeCall, createIndexedCall, createContiguousCall, growCall, shrinkCall, deleteFileCall, writeCall, openCall, findUserCall, findFileCall}
 use Rattle.book.specs.Coincide.{single-call}
-use Rattle.book.specs.Names.{Same}
 use Rattle.book.specs.Outcome.{Single, asking, judged}
 use Rattle.book.specs.Rows.{Clear}
-use Rattle.book.specs.Rules.{Rule4, Rule6}
-use Rattle.book.specs.Words.{Words}
+use Rattle.book.specs.Rules.{Rule4Over, Rule6Over}
 
 -- who holds and format: Count.Who.single-who, Format.Call.single-format
 
@@ -72,16 +70,11 @@ module _ (img : List ℕ) where
       unfolding openCall
       single-open = single-call img _ _ _ _
 
--- two that are the same as a third
-same-both : (n : ℕ) (w x y : Words) (k j : ℕ) → Same n w k y j → Same n x k y j → Same n w k x k
-unfolding Same
-same-both n w x y k j a b i h = a i h ∙ sym (b i h)
-
 pub single-find-user : (img name : List ℕ) → Single (findUserCall img name)
-unfolding Single findUserCall asking judged Clear Rule4
-single-find-user img name c x y a b = c .1 .1 .0 .r4 .1 x y (a .0) (b .0) (a .1) (b .1) (same-both 8 _ _ _ 1 0 (a .2) (b .2))
+unfolding Single findUserCall asking judged Clear Rule4Over
+single-find-user img name c x y a b = c .1 .1 .0 .r4 .1 x y (a .0) (b .0) (a .1) (b .1) (a .2 ∙ sym (b .2))
 
 pub single-find-file : (img : List ℕ) (u : ℕ) (name type : List ℕ) → Single (findFileCall img u name type)
-unfolding Single findFileCall asking judged Clear Rule6
+unfolding Single findFileCall asking judged Clear Rule6Over
 single-find-file img u name type c x y a b =
-    c .1 .1 .0 .r6 .1 u x y (omega (arith, c .1 .0 .0)) (a .0) (b .0) (a .1) (b .1) (same-both 8 _ _ _ 1 0 (a .2) (b .2), same-both 2 _ _ _ 9 0 (a .3) (b .3))
+    c .1 .1 .0 .r6 .1 u x y (omega (arith, c .1 .0 .0)) (a .0) (b .0) (a .1) (b .1) (a .2 ∙ sym (b .2), a .3 ∙ sym (b .3))

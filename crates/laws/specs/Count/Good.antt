@@ -11,7 +11,7 @@ use Rattle.book.specs.Entries.{userFile, objectFile, user, object, used, given,
 use Rattle.book.specs.Files.{fileAt}
 use Rattle.book.specs.Holders.{hit, some, mine, system, all, holders, systemPages}
 use Rattle.book.specs.Pointers.{unreservedCount}
-use Rattle.book.specs.Rules.{Rule1, Rule2, Rule3, Rule4, Rule5, Rule6, Rule7, Rule8, Rule9, Rule10, Sound}
+use Rattle.book.specs.Rules.{Rule1, Rule2, Rule3, Rule4, Rule4Over, Rule5, Rule6, Rule6Over, Rule7, Rule8, Rule9, Rule10, Sound}
 use Rattle.book.specs.Trees.{Root, tree, run, weighR}
 use Rattle.book.specs.Words.{Vol, two}
 use Rattle.book.specs.Written.{digit-le}
@@ -144,7 +144,7 @@ module _ (P : ℕ) (v : Vol) (hand : ℕ → ℕ) (G : Good P v hand) where
 module _ (P : ℕ) (v : Vol) (s : Most P v) where
   -- the files of an unused user hold nothing
   pub mine-unused : (u : ℕ) → u < 256 → used (user v u) ≡ 0 → (g : ℕ → ℕ) → mine v u g ≡ 0
-  unfolding mine Rule6 weighR sum
+  unfolding mine Rule6Over weighR sum
   mine-unused u h z g = sum-none 256 (λ f. weighR v (fileAt v (256 * u + f)) g) (λ f i. ap (λ (r : Root). weighR v r g) (file-unused v (256 * u + f) (no-file f i)))
     where
       no-file : (f : ℕ) → f < 256 → used (object v (256 * u + f)) ≡ 0
@@ -154,7 +154,7 @@ module _ (P : ℕ) (v : Vol) (s : Most P v) where
       ]
 
   pub mine-le : (u : ℕ) → u < 256 → mine v u some ≤ grant (user v) u
-  unfolding Rule10 Rule4
+  unfolding Rule10 Rule4Over
   mine-le u h = elim (eq-zero-or-pos (used (user v u))) [
     | inl z ↦ omega (arith, mine-unused u h z some)
     | inr q ↦ omega (arith, grant-used v u q, s .r10 .0 u h q, s .r4 .0 u h q .within)

@@ -6,7 +6,7 @@ use Rattle.sums.specs.Sum.{sum-le, sum-none, sum-at}
 use Rattle.book.specs.Entries.{user, grant, unreserved, used, given, object, usedPages}
 use Rattle.book.specs.Files.{fileAt}
 use Rattle.book.specs.Holders.{some, mine, all, systemPages}
-use Rattle.book.specs.Rules.{Rule10, Sound, Rule6}
+use Rattle.book.specs.Rules.{Rule10, Sound, Rule6Over}
 use Rattle.book.specs.Trees.{weighR}
 use Rattle.book.specs.Words.{Vol}
 use Rattle.laws.specs.Count.Good.{free, free-count, good, most, mine-le, grant-used}
@@ -42,7 +42,7 @@ module _ (P : ℕ) (v : Vol) (S : Sound P v) (pos : 0 < P) (u : ℕ) (hu : u < 2
   -- a file of his is charged to him
   module _ (f : ℕ) (hf : f < 256) (h : 0 < used (object v (256 * u + f))) where
     pub charged-owner : 0 < used (user v u)
-    unfolding Rule6
+    unfolding Rule6Over
     charged-owner = S .r6 .0 u f hu hf h .owner
 
     pub charged-file : weighR v (fileAt v (256 * u + f)) some ≤ usedPages (user v) u

@@ -10,7 +10,7 @@ use Rattle.book.specs.Bits.{bit, claimRun, highestRun}
 use Rattle.book.specs.Create.{objectEntry, fileNeed, filePlace, createIndexed, createContiguous}
 use Rattle.book.specs.Entries.{Table, user, userPage, objectPage, entryWord, fileEntry, given, usedPages, spare, newFile, putEntry}
 use Rattle.book.specs.Holders.{hit}
-use Rattle.book.specs.Rules.{Rule4, Sound}
+use Rattle.book.specs.Rules.{Rule4Over, Sound}
 use Rattle.book.specs.Words.{Vol, Words, two}
 use Rattle.book.specs.Written.{put2-two}
 use Rattle.laws.specs.Bits.Choose.{Stock, FreeRun, run-found}
@@ -41,7 +41,7 @@ module _ {choose : Vol → ℕ} {P : ℕ} {v : Vol} (stock : Stock choose P v) {
   Gw = good P w sound-w
 
   within : usedPages (user v) u ≤ given (user v) u
-  unfolding Rule4
+  unfolding Rule4Over
   within = stock .sound .r4 .0 u (A .index) (A .owner) .within
 
   -- ---- an indexed file has no page yet

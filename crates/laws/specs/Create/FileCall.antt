@@ -7,7 +7,7 @@ use Rattle.book.specs.Answers.{Numbers}
 use Rattle.book.specs.Bits.{lowestFree, highestRun}
 use Rattle.book.specs.Calls.{createIndexedCall, createContiguousCall, HasUser, IsFile}
 use Rattle.book.specs.Create.{objectEntry, fileNeed, filePlace, createIndexed, createContiguous}
-use Rattle.book.specs.Entries.{user, userPage, objectPage, fileEntry, newFile, spare, unreserved}
+use Rattle.book.specs.Entries.{user, object, userPage, objectPage, fileEntry, newFile, spare, unreserved}
 use Rattle.book.specs.Image.{pages, Whole, IndexArg, CountArg}
 use Rattle.book.specs.Names.{NameText, TypeText}
 use Rattle.book.specs.Outcome.{Outcome, DoneAs, call, asking, judged}
@@ -21,6 +21,8 @@ use Rattle.laws.specs.Call.Done.{done}
 use Rattle.laws.specs.Create.Created.{FileWanted, BesideNew, beside-new-same, Created}
 use Rattle.laws.specs.Create.File.{indexed-created, indexed-users, contiguous-created}
 use Rattle.laws.specs.Create.FilePlace.{FilePlaceWords}
+use Rattle.laws.specs.Create.NewEntry.{new-used, file-named, file-typed}
+use Rattle.laws.specs.Tree.Pointer.{used-ext}
 use Rattle.laws.specs.Frame.Places.{Places, EntryOf, FieldOf, Either, OnlyAt}
 
 -- the words that it may change: those of the pages taken, of its place, of its entry; and, for a run, the used pages of its owner
@@ -42,6 +44,15 @@ module _ (img : List ℕ) (u : ℕ) (name type : List ℕ) (created : ℕ) where
 
   pub wanted : IndexArg u → NameText name → TypeText type → HasUser v u → ((f : ℕ) → IsFile v u name type f → ⊥) → newFile v u < 256 → fileNeed v e ≤ unreserved v → FileWanted P v u name type
   wanted a n t h fresh lt have = record { index = omega arith; owner = h; named = n; typed = t; fresh = fresh; entry = lt; room = have }
+
+  -- a created file is found under its name and type
+  found-new : {w : Vol} {n s k : ℕ} {F : Places} → NameText name → TypeText type → newFile v u < 256 → Created P v w u e (objectEntry u e name type created n s) n s k F → IsFile w u name type (newFile v u)
+  found-new {w} {n} {s} T Y lt c = (
+    lt,
+    omega (arith, used-ext (object w e) (objectEntry u e name type created n s) (c .words 0 (omega arith)), new-used u e name type created n s),
+    file-named u e name type created n s T (object w e) (c .words),
+    file-typed u e name type created n s Y (object w e) (c .words),
+  )
 
   -- ---- an indexed file
 
@@ -92,6 +103,11 @@ module _ (img : List ℕ) (u : ℕ) (name type : List ℕ) (created : ℕ) where
       indexed-made = let c = create-indexed-done .clear in let A = c .1 .0 in let R = c .1 .1 .1 in
           subst (λ (w : Vol). Created P v w u e (objectEntry u e name type created 0 0) 0 0 (fileNeed v e) (EntryOf (objectPage w e) e)) (sym (create-indexed-done .image))
           (indexed-step (c .0) (c .1 .1 .0) (wanted (A .0) (A .1) (A .2) (R .0) (R .1 .0) (R .1 .1 .0) (R .1 .1 .1 .0)))
+
+      pub found-create-indexed : IsFile v′ u name type (r .value)
+      unfolding createIndexedCall call asking judged Clear
+      found-create-indexed = let c = create-indexed-done .clear in
+          subst (IsFile v′ u name type) (sym create-indexed-value) (found-new (c .1 .0 .1) (c .1 .0 .2) (c .1 .1 .1 .1 .1 .0) indexed-made)
 
   -- ---- a contiguous file of n pages
 
@@ -147,3 +163,8 @@ module _ (img : List ℕ) (u : ℕ) (name type : List ℕ) (created : ℕ) where
             subst (λ (w : Vol). Created P v w u e (objectEntry u e name type created n s) n s (fileNeed v e) (Either (EntryOf (objectPage w e) e) (FieldOf (userPage v u) u 16 2)))
             (sym (create-contiguous-done .image))
             (contiguous-step (c .0) (c .1 .1 .0) (A .3) (wanted (A .0) (A .1) (A .2) (R .0) (R .1 .0) (R .1 .1 .0) (R .1 .1 .1 .1 .0)) (R .1 .1 .1 .0) (R .1 .1 .1 .1 .1 .0))
+
+        pub found-create-contiguous : IsFile y u name type (r .value)
+        unfolding createContiguousCall call asking judged Clear
+        found-create-contiguous = let c = create-contiguous-done .clear in
+            subst (IsFile y u name type) (sym create-contiguous-value) (found-new (c .1 .0 .1) (c .1 .0 .2) (c .1 .1 .1 .1 .1 .0) contiguous-made)

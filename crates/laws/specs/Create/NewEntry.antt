@@ -6,8 +6,9 @@ use native.Mathlib.Omega.{arith}
 use Rattle.book.specs.Create.{userEntry, objectEntry}
 use Rattle.book.specs.Entries.{used}
 use Rattle.book.specs.Files.{bytesOf}
-use Rattle.book.specs.Names.{packed}
+use Rattle.book.specs.Names.{NameText, TypeText, packed, Named, Typed}
 use Rattle.book.specs.Pointers.{flags, page}
+use Rattle.laws.specs.File.Packed.{packed-back}
 use Rattle.book.specs.Words.{Words, two, setWord, setTwo, setWords, zeros}
 use Rattle.book.specs.Written.{setWord-here, setWord-other, setTwo-hi, setTwo-lo, setTwo-two, setTwo-other, setWords-in, setWords-low, setWords-high}
 use Rattle.laws.specs.Tree.Slot.{two-ext}
@@ -29,6 +30,10 @@ module _ (u : ℕ) (name : List ℕ) where
   unfolding userEntry
   user-name i h = setWord-other b 18 u (1 + i) (omega arith) ∙ setWords-in a 1 8 (packed name) (1 + i) (omega arith) (omega arith)
       ∙ ap (packed name) (let q : 1 + i - 1 ≡ i = omega arith in q)
+
+  -- an entry with these words reads as it was named
+  pub user-named : NameText name → (w : Words) → ((k : ℕ) → k < 32 → w k ≡ userEntry u name k) → Named w name
+  user-named T w h = packed-back 1 16 name T w 1 (λ i l. h (1 + i / 2) (omega arith) ∙ user-name (i / 2) (omega arith))
 
   pub user-own : userEntry u name 18 ≡ u
   unfolding userEntry
@@ -87,6 +92,12 @@ module _ (u e : ℕ) (name type : List ℕ) (created n ptr : ℕ) where
 
   pub file-type : (i : ℕ) → i < 2 → E (9 + i) ≡ packed type i
   file-type i h = before-16 (9 + i) (omega arith) ∙ setWords-in w₂ 9 2 (packed type) (9 + i) (omega arith) (omega arith) ∙ ap (packed type) (let q : 9 + i - 9 ≡ i = omega arith in q)
+
+  pub file-named : NameText name → (w : Words) → ((k : ℕ) → k < 32 → w k ≡ E k) → Named w name
+  file-named T w h = packed-back 1 16 name T w 1 (λ i l. h (1 + i / 2) (omega arith) ∙ file-name (i / 2) (omega arith))
+
+  pub file-typed : TypeText type → (w : Words) → ((k : ℕ) → k < 32 → w k ≡ E k) → Typed w type
+  file-typed T w h = packed-back 0 4 type T w 9 (λ i l. h (9 + i / 2) (omega arith) ∙ file-type (i / 2) (omega arith))
 
   pub file-whose : E 16 ≡ u
   file-whose = before-20 16 (omega arith) ∙ setWord-other w₄ 17 e 16 (omega arith) ∙ setWord-here w₃ 16 u

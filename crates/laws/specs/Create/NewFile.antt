@@ -11,17 +11,17 @@ use Rattle.book.specs.Create.{objectEntry}
 use Rattle.book.specs.Entries.{user, object, used, given, usedPages, grant, fileEntry, newFile}
 use Rattle.book.specs.Files.{fileAt, Shape, FileShape, Empty, Contiguous, pageBytes}
 use Rattle.book.specs.Holders.{hit, some}
-use Rattle.book.specs.Names.{NameText, TypeText, Same, packed}
+use Rattle.book.specs.Names.{Text, NameText, TypeText, Named, Typed}
 use Rattle.book.specs.Pointers.{flags, page, unreservedCount}
-use Rattle.book.specs.Rules.{UserOk, Rule4, Rule10}
+use Rattle.book.specs.Rules.{UserOk, Rule4Over, Rule10}
 use Rattle.book.specs.Trees.{Root, run, weighR}
 use Rattle.book.specs.Words.{Vol, two}
 use Rattle.laws.specs.Count.Good.{Good}
 use Rattle.laws.specs.Count.Pages.{run-count}
 use Rattle.laws.specs.Count.Reach.{high-unused}
-use Rattle.laws.specs.Create.NewEntry.{new-used, file-name, file-type, file-whose, file-number, file-pages, file-bytes, file-flags, file-page}
+use Rattle.laws.specs.Create.NewEntry.{new-used, file-named, file-typed, file-whose, file-number, file-pages, file-bytes, file-flags, file-page}
 use Rattle.laws.specs.File.Named.{Legal-ext, SameName-ext}
-use Rattle.laws.specs.File.Packed.{packed-legal}
+use Rattle.laws.specs.File.Stored.{stored-words}
 use Rattle.laws.specs.Frame.Edit.{Change, entries, objs-words, edit-mine, edit-good, Seat}
 use Rattle.laws.specs.Frame.Renewed.{FileNew, used-same}
 use Rattle.laws.specs.Tree.Pointer.{file-unused, root-0, file-used, used-ext, flags-ext, page-ext}
@@ -89,23 +89,28 @@ module _ {P : ℕ} {x : Vol} {hand : ℕ → ℕ} {u f : ℕ} (seat : Seat P x h
       go (inl h) = subst (λ (m : ℕ). sum m (λ i. some (s + i)) ≡ m) (sym (h .0)) (sum-zero (λ i. some (s + i)))
       go (inr h) = run-count v′ s n (h .1)
 
+  is-named : Named (object v′ e) name
+  is-named = file-named u e name type created n s N (object v′ e) words
+
+  is-typed : Typed (object v′ e) type
+  is-typed = file-typed u e name type created n s T (object v′ e) words
+
   file-new : FileNew P v′ u f
-  unfolding Same
   file-new = record {
     ok = λ h. record {
       owner = omega (arith, uu, used-ext (user v′ u) (user x u) (kept 0 (omega arith) (omega arith) (omega arith)));
       whose = words 16 (omega arith) ∙ file-whose u e name type created n s;
       number = words 17 (omega arith) ∙ file-number u e name type created n s;
-      name = packed-legal 1 16 name N (object v′ e) 1 (λ i h. words (1 + i / 2) (omega arith) ∙ file-name u e name type created n s (i / 2) (omega arith));
-      type = packed-legal 0 4 type T (object v′ e) 9 (λ i h. words (9 + i / 2) (omega arith) ∙ file-type u e name type created n s (i / 2) (omega arith));
+      name = subst (Text 1 16) (sym is-named) N;
+      type = subst (Text 0 4) (sym is-typed) T;
     };
     alone = λ h i m a b q.
         let old : (k : ℕ) → k < 32 → object v′ (fileEntry u h) k ≡ object x (fileEntry u h) k = objs-words seat E (fileEntry u h) (λ z. m (omega arith)) in
         fresh h (
           i,
           omega (arith, a, used-ext (object v′ (fileEntry u h)) (object x (fileEntry u h)) (old 0 (omega arith))),
-          (λ k j. sym (old (1 + k) (omega arith)) ∙ q .0 k j ∙ words (1 + k) (omega arith) ∙ file-name u e name type created n s k j ∙ ap (packed name) (let z : k ≡ 0 + k = omega arith in z)),
-          (λ k j. sym (old (9 + k) (omega arith)) ∙ q .1 k j ∙ words (9 + k) (omega arith) ∙ file-type u e name type created n s k j ∙ ap (packed type) (let z : k ≡ 0 + k = omega arith in z)),
+          stored-words 16 (object x (fileEntry u h)) (object v′ (fileEntry u h)) 1 1 (λ k j. sym (old (1 + k / 2) (omega arith))) ∙ q .0 ∙ is-named,
+          stored-words 4 (object x (fileEntry u h)) (object v′ (fileEntry u h)) 9 9 (λ k j. sym (old (9 + k / 2) (omega arith))) ∙ q .1 ∙ is-typed,
         );
     shape = λ h. shape;
   }
@@ -120,11 +125,11 @@ module _ {P : ℕ} {x : Vol} {hand : ℕ → ℕ} {u f : ℕ} (seat : Seat P x h
   given-kept = two-ext (user v′ u) (user x u) 14 (kept 14 (omega arith) (omega arith) (omega arith)) (kept 15 (omega arith) (omega arith) (omega arith))
 
   ok : UserOk (user x) u
-  unfolding Rule4
+  unfolding Rule4Over
   ok = seat .good .most .r4 .0 u (seat .ha) uu
 
   new-good : Good P v′ (λ p. 0)
-  unfolding Rule4 Rule10 grant
+  unfolding Rule4Over Rule10 grant
   new-good = edit-good seat E (λ g. 0) (λ g. sum n (λ i. g (s + i))) (λ p. 0) record {
     weight = λ g g0. omega (arith, weight g, none g);
     hands = λ p h. omega (arith, hands p h);

@@ -1,5 +1,5 @@
 -- A new user: his place, then his entry. A sound volume is sound again, and all other entries and all files stay. Assumes nothing.
-use mathlib.Core.Path.{_≡_, refl, sym, ap, _∙_}
+use mathlib.Core.Path.{_≡_, refl, sym, ap, _∙_, subst}
 use mathlib.Core.Logic.{_≢_, inl, inr}
 use mathlib.Core.List.{List}
 use Prim.Native.Nat.{ℕ, suc, _+_, _-_, _*_, _/_, _%_, _≤_, _<_}
@@ -13,7 +13,7 @@ use Rattle.book.specs.Create.{userEntry, userNeed, userPlace, createUser}
 use Rattle.book.specs.Entries.{Table, userFile, objectFile, user, object, userPage, entry, entryWord, used, given, usedPages, grant, newUser, unreserved}
 use Rattle.book.specs.Files.{fileAt}
 use Rattle.book.specs.Holders.{hit, some}
-use Rattle.book.specs.Names.{NameText, Same, packed}
+use Rattle.book.specs.Names.{Text, NameText, Named}
 use Rattle.book.specs.Pointers.{page, Inside, unreservedCount, userPointer}
 use Rattle.book.specs.Rules.{Rule2, Sound}
 use Rattle.book.specs.Trees.{pageAt}
@@ -21,9 +21,9 @@ use Rattle.book.specs.Words.{Vol, two, word}
 use Rattle.laws.specs.Bits.Choose.{Stock}
 use Rattle.laws.specs.Bits.Taking.{TakenWords}
 use Rattle.laws.specs.Count.Good.{Good, good, sound, free, mine-unused, most}
-use Rattle.laws.specs.Create.NewEntry.{user-used, user-name, user-own, user-zero}
+use Rattle.laws.specs.Create.NewEntry.{user-used, user-named, user-own, user-zero}
 use Rattle.laws.specs.Create.UserPlace.{UserPlaceWords, UserPlaced, user-placed}
-use Rattle.laws.specs.File.Packed.{packed-legal}
+use Rattle.laws.specs.File.Stored.{stored-words}
 use Rattle.laws.specs.Frame.Edit.{user-page}
 use Rattle.laws.specs.Frame.Fields.{Outside, entry-page, entry-agree, entry-outside, entry-here}
 use Rattle.laws.specs.Frame.Places.{Places, EntryOf, Either, OnlyAt, only-then, only-wider, only-putWords}
@@ -132,18 +132,20 @@ module _ {choose : Vol → ℕ} {P : ℕ} {v : Vol} (stock : Stock choose P v) (
   unfolding given usedPages two
   none = (omega (arith, zeros 14 (omega arith) (omega arith), zeros 15 (omega arith) (omega arith)), omega (arith, zeros 16 (omega arith) (omega arith), zeros 17 (omega arith) (omega arith)))
 
+  is-named : Named (user v′ u) name
+  is-named = user-named u name T (user v′ u) new-user-entry
+
   new : UserNew v′ u
-  unfolding Same
   new = record {
     ok = λ h. record {
       own = new-user-entry 18 (omega arith) ∙ user-own u name;
-      name = packed-legal 1 16 name T (user v′ u) 1 (λ i h. new-user-entry (1 + i / 2) (omega arith) ∙ user-name u name (i / 2) (omega arith));
+      name = subst (Text 1 16) (sym is-named) T;
       within = omega (arith, none);
     };
     alone = λ x h n a b s. fresh x (
       h,
       omega (arith, a, used-ext (user v′ x) (user v x) (other-users x n 0 (omega arith))),
-      λ i j. sym (other-users x n (1 + i) (omega arith)) ∙ s i j ∙ new-user-entry (1 + i) (omega arith) ∙ user-name u name i j ∙ ap (packed name) (let q : i ≡ 0 + i = omega arith in q),
+      stored-words 16 (user v x) (user v′ x) 1 1 (λ i j. sym (other-users x n (1 + i / 2) (omega arith))) ∙ s ∙ is-named,
     );
   }
 

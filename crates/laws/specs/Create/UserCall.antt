@@ -7,7 +7,7 @@ use native.Mathlib.Omega.{arith}
 use Rattle.book.specs.Answers.{Numbers}
 use Rattle.book.specs.Bits.{lowestFree}
 use Rattle.book.specs.Calls.{createUserCall, IsUser}
-use Rattle.book.specs.Create.{userNeed, createUser}
+use Rattle.book.specs.Create.{userNeed, userEntry, createUser}
 use Rattle.book.specs.Entries.{user, object, newUser, unreserved}
 use Rattle.book.specs.Files.{fileAt}
 use Rattle.book.specs.Image.{pages, Whole}
@@ -21,7 +21,9 @@ use Rattle.laws.specs.Bits.Choose.{lowest-stock}
 use Rattle.laws.specs.Call.After.{after-call, kept-call}
 use Rattle.laws.specs.Call.Done.{done}
 use Rattle.laws.specs.Create.User.{UserCreateWords, UserCreated, create-user}
+use Rattle.laws.specs.Create.NewEntry.{user-used, user-named}
 use Rattle.laws.specs.Frame.Places.{OnlyAt}
+use Rattle.laws.specs.Tree.Pointer.{used-ext}
 
 module _ (img : List ℕ) (name : List ℕ) where
   abbrev P : ℕ
@@ -78,3 +80,13 @@ module _ (img : List ℕ) (name : List ℕ) where
       pub create-user-value : r .value ≡ newUser v
       unfolding createUserCall call asking
       create-user-value = create-user-done .value
+
+      -- he is found under his name
+      pub found-create-user : IsUser v′ name (r .value)
+      unfolding createUserCall call asking judged Clear
+      found-create-user =
+          let c = create-user-done .clear in let w = user-created .words in (
+            omega (arith, create-user-value, c .1 .1 .1 .1 .0),
+            omega (arith, used-ext (user v′ (r .value)) (userEntry (r .value) name) (w 0 (omega arith)), user-used (r .value) name),
+            user-named (r .value) name (c .1 .0) (user v′ (r .value)) w,
+          )

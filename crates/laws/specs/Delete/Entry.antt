@@ -9,7 +9,7 @@ use Rattle.book.specs.Entries.{user, object, used, given, usedPages, grant}
 use Rattle.book.specs.Files.{fileAt}
 use Rattle.book.specs.Holders.{hit, some}
 use Rattle.book.specs.Pointers.{flags, page, objectPointer, unreservedCount}
-use Rattle.book.specs.Rules.{UserOk, Rule4, Rule5, Rule5By, Rule6, Rule10}
+use Rattle.book.specs.Rules.{UserOk, Rule4Over, Rule5, Rule5By, Rule6Over, Rule10}
 use Rattle.book.specs.Trees.{Root, weighR}
 use Rattle.book.specs.Words.{Vol}
 use Rattle.laws.specs.Count.Good.{Good}
@@ -27,7 +27,7 @@ module _ {P : ℕ} {v : Vol} {hand : ℕ → ℕ} {a f : ℕ} (seat : Seat P v h
   e = 256 * a + f
 
   owner-used : 0 < used (user v a)
-  unfolding Rule6
+  unfolding Rule6Over
   owner-used = seat .good .most .r6 .0 a f (seat .ha) (seat .hf) uf .owner
 
   user-used : used (user v′ a) ≡ used (user v a)
@@ -38,7 +38,7 @@ module _ {P : ℕ} {v : Vol} {hand : ℕ → ℕ} {a f : ℕ} (seat : Seat P v h
   given-kept = two-ext (user v′ a) (user v a) 14 (kept 14 (omega arith) (omega arith) (omega arith)) (kept 15 (omega arith) (omega arith) (omega arith))
 
   ok : UserOk (user v) a
-  unfolding Rule4
+  unfolding Rule4Over
   ok = seat .good .most .r4 .0 a (seat .ha) owner-used
 
   none : (g : ℕ → ℕ) → weighR v′ (fileAt v′ e) g ≡ 0
@@ -51,7 +51,7 @@ module _ {P : ℕ} {v : Vol} {hand : ℕ → ℕ} {a f : ℕ} (seat : Seat P v h
 
   -- all that the file held is now in hand
   pub delete-good : Good P v′ (λ p. hand p + weighR v (fileAt v e) (hit p))
-  unfolding Rule4 Rule10 grant
+  unfolding Rule4Over Rule10 grant
   delete-good = edit-good seat E (λ g. weighR v (fileAt v e) g) (λ g. 0) (λ p. hand p + weighR v (fileAt v e) (hit p)) record {
     weight = λ g g0. omega (arith, none g);
     hands = λ p h. omega arith;

@@ -1,7 +1,7 @@
 -- For each rule a volume that breaks it and no lower one: the rules are apart, and each says something. Assumes nothing.
 use mathlib.Core.Path.{_≡_, refl, sym, ap, _∙_, subst}
 use mathlib.Core.Logic.{inl, inr}
-use mathlib.Core.List.{List, [], _∷_}
+use mathlib.Core.List.{List, [], _∷_, _++_}
 use Prim.Native.Nat.{ℕ, zero, suc, _+_, _-_, _*_, _/_, _%_, _^_, _≤_, _<_}
 use native.Mathlib.Nat.{not-suc-le-zero}
 use native.Mathlib.Omega.{arith}
@@ -13,20 +13,21 @@ use Rattle.book.specs.Pointers.{flags, page, slot, Zero, Inside, bitPointer, ob
 use Rattle.book.specs.Trees.{Root, tree, Below}
 use Rattle.book.specs.Bits.{bitPages, bit}
 use Rattle.book.specs.Entries.{entry, user, object, userFile, objectFile, used, unreserved}
-use Rattle.book.specs.Names.{Letter, Text, NameText, byteAt, Legal, packed}
+use Rattle.book.specs.Names.{Letter, Text, NameText, LegalName, byteAt, ends, wordsOf}
 use Rattle.book.specs.Rows.{Lowest}
-use Rattle.book.specs.Rules.{Rule1, Rule2, Rule3, Rule4, Rule5, Rule5By, Rule6, rules}
+use Rattle.book.specs.Rules.{Rule1, Rule2, Rule3, Rule4, Rule4Over, Rule5, Rule5By, Rule6, Rule6Over, rules}
 use Rattle.laws.specs.Example.Sparse.{Cell, cell, volume, Off, volume-off, entry-first, entry-bare}
-use Rattle.laws.specs.File.Packed.{packed-legal}
+use Rattle.laws.specs.File.Packed.{legal-back, behind-old}
+use Rattle.laws.specs.File.Stored.{nameless}
 use Rattle.laws.specs.Format.Formatted.{rule4-none}
 use Rattle.laws.specs.Tree.Pointer.{root-1}
 
--- ---- a yard disk of 16 pages, bit page 8, name YARD
+-- ---- a yard disk of 16 pages, bit page 8, name YARD, zero-filled as disks were at first
 
-yardName : List ℕ
+unfoldable pub yardName : List ℕ
 yardName = 89 ∷ 65 ∷ 82 ∷ 68 ∷ []
 
-yard-text : NameText yardName
+pub yard-text : NameText yardName
 unfolding Text Letter yardName
 yard-text = (omega arith, omega arith, go)
   where
@@ -46,15 +47,15 @@ pub record Head (v : Vol) (b : ℕ) : Type 0 where
   pub low : v 0 (suc bitPointer) ≡ b
 
 pub head-rule : {P b : ℕ} (v : Vol) → Head v b → 0 < b → b < P → P ≤ 16384 → Rule1 P v
-unfolding flags page bitPages packed yardName
+unfolding flags page bitPages wordsOf yardName
 head-rule v H pos below most = record {
-  name = packed-legal 1 16 yardName yard-text (v 0) volumeName (λ i h. words (i / 2) (omega arith));
+  name = legal-back 1 16 yardName yard-text [] behind-old (v 0) volumeName (λ i h. words (i / 2) (omega arith));
   unflagged = omega (arith, H .high);
   start = omega (arith, H .high, H .low);
   fits = omega (arith, H .high, H .low);
 }
   where
-    words : (j : ℕ) → j < 8 → v 0 (volumeName + j) ≡ packed yardName j
+    words : (j : ℕ) → j < 8 → v 0 (volumeName + j) ≡ wordsOf (yardName ++ []) j
     words zero h = H .first
     words (suc zero) h = H .second
     words (suc (suc zero)) h = H .tail 1010 (omega arith) (omega arith)
@@ -115,22 +116,21 @@ broken10 = cell 0 (suc unreservedCount) 15 ∷ yard
 
 -- ---- rule 1
 
-no-letter : Letter 0 → ⊥
-unfolding Letter
-no-letter (inl h) = omega (arith, h .0)
-no-letter (inr (inl h)) = omega (arith, h .0)
-no-letter (inr (inr h)) = omega (arith, h)
-
--- a name whose first word is zero is no name
-pub nameless : (w : Words) (k : ℕ) → w k ≡ 0 → Legal 1 16 w k → ⊥
-unfolding Legal byteAt
-nameless w k z (l, a, b, c, d) =
+-- a name whose first byte ends it is no name
+pub first-ends : (w : Words) (k x : ℕ) → w k ≡ x → 0 < ends (x / 256 ^ 1 % 256) → LegalName w k → ⊥
+unfolding byteAt
+first-ends w k x z h =
     let e : k + 0 / 2 ≡ k = omega arith in
-    no-letter (subst Letter (ap (λ (j : ℕ). w j / 256 ^ 1 % 256) e ∙ ap (λ (x : ℕ). x / 256 ^ 1 % 256) z) (c 0 a))
+    nameless 16 w k 0 (subst (λ (b : ℕ). 0 < ends b) (sym (ap (λ (j : ℕ). w j / 256 ^ 1 % 256) e ∙ ap (λ (y : ℕ). y / 256 ^ 1 % 256) z)) h)
+
+-- so no name begins with a zero word
+pub zero-first : (w : Words) (k : ℕ) → w k ≡ 0 → LegalName w k → ⊥
+unfolding ends is
+zero-first w k z = first-ends w k 0 z (omega arith)
 
 pub breaks1 : Lowest (rules 16 (volume broken1)) 1
 unfolding rules Lowest volume
-breaks1 = inl (refl, λ r. nameless (volume [] 0) volumeName refl (r .name))
+breaks1 = inl (refl, λ r. zero-first (volume [] 0) volumeName refl (r .name))
 
 -- ---- rule 2
 
@@ -251,7 +251,7 @@ unfolding user word
 user-first l M e u k h = ap (λ (r : Root). entry (volume l) r u k) (user-root (volume l) M) ∙ entry-first (volume l) 1 u k h ∙ ap (λ (q : ℕ). word (volume l) q (32 * u + k)) e
 
 pub breaks4 : Lowest (rules 16 (volume broken4)) 4
-unfolding rules Lowest Rule4 slot two word volume put pick is Off used
+unfolding rules Lowest Rule4Over slot two word volume put pick is Off used
 breaks4 = inr (
   head-rule (volume broken4) (master4 .head) (omega arith) (omega arith) (omega arith),
   inr (
@@ -264,7 +264,7 @@ breaks4 = inr (
     at k = user-first broken4 master4 refl 0 k (omega arith)
 
     no : Rule4 (user (volume broken4)) → ⊥
-    no r = nameless (user (volume broken4) 0) 1 (at 1) (r .0 0 (omega arith) (omega (arith, at 0)) .name)
+    no r = zero-first (user (volume broken4) 0) 1 (at 1) (r .0 0 (omega arith) (omega (arith, at 0)) .name)
 
 pub master5 : Master (volume broken5) 8 2
 unfolding volume Off put pick is
@@ -296,7 +296,7 @@ unfolding object word
 object-first l M q e k h = ap (λ (r : Root). entry (volume l) r e k) (object-root (volume l) M) ∙ entry-first (volume l) 2 e k h ∙ ap (λ (p : ℕ). word (volume l) p (32 * e + k)) q
 
 pub breaks6 : Lowest (rules 16 (volume broken6)) 6
-unfolding rules Lowest Rule6 slot two word volume put pick is Off used
+unfolding rules Lowest Rule6Over slot two word volume put pick is Off used
 breaks6 = inr (
   head-rule (volume broken6) (master6 .head) (omega arith) (omega arith) (omega arith),
   inr (

@@ -1,7 +1,7 @@
 -- The volumes that break rules 7 to 10 and no lower one. Assumes nothing.
 use mathlib.Core.Path.{_≡_, refl, sym, ap, _∙_, subst}
 use mathlib.Core.Logic.{inl, inr}
-use mathlib.Core.List.{List, [], _∷_}
+use mathlib.Core.List.{List, [], _∷_, _++_}
 use Prim.Native.Nat.{ℕ, zero, suc, _+_, _-_, _*_, _/_, _%_, _≤_, _<_}
 use native.Mathlib.Nat.{not-suc-le-zero}
 use native.Mathlib.Decide.{ℕ-discrete, decLt}
@@ -14,15 +14,15 @@ use Rattle.book.specs.Pointers.{page, slot, Zero, bitPointer, objectPointer, us
 use Rattle.book.specs.Trees.{Root, tree, weigh, weighR, pageAt, upto}
 use Rattle.book.specs.Bits.{digit, bitPages, bitFile, bitPage, bit}
 use Rattle.book.specs.Entries.{entry, user, object, userFile, objectFile, used, given, usedPages, unreserved}
-use Rattle.book.specs.Names.{Letter, Text, NameText, Legal, packed}
+use Rattle.book.specs.Names.{Letter, Text, NameText, LegalName, LegalType, wordsOf}
 use Rattle.book.specs.Files.{FileShape, pageBytes}
 use Rattle.book.specs.Holders.{hit, some, all, system, holders, systemPages}
 use Rattle.book.specs.Rows.{Rows, end, row, Lowest}
-use Rattle.book.specs.Rules.{Rule1, Rule2, Rule3, Rule4, UserOk, Rule5, Rule6, FileOk, Rule7, Rule8, Rule9, Rule10, rules}
+use Rattle.book.specs.Rules.{Rule1, Rule2, Rule3, Rule4, Rule4Over, UserOk, Rule5, Rule6, Rule6Over, FileOk, Rule7, Rule8, Rule9, Rule10, rules}
 use Rattle.laws.specs.Count.Good.{bit-le}
 use Rattle.laws.specs.Example.Broken.{Head, Master, broken7, broken8, broken9, broken10, head-rule, user-root, object-root, rule-2, rule-3, rule-5, no-users, no-objects, bare, user-first, object-first}
 use Rattle.laws.specs.Example.Sparse.{volume, Off, volume-off, entry-past}
-use Rattle.laws.specs.File.Packed.{packed-legal}
+use Rattle.laws.specs.File.Packed.{legal-back, behind-old}
 use Rattle.laws.specs.Format.Formatted.{rule3-none, rule4-none, rule5-none, rule6-none, rule7-none, user-none, object-none, all-none, all-system}
 use Rattle.laws.specs.Tree.Slot.{hit-same, some-pos}
 
@@ -32,9 +32,9 @@ aName : List ℕ
 aName = 65 ∷ []
 
 -- the name A, and no type
-pub a-legal : (w : Words) → w 1 ≡ 16640 → ((k : ℕ) → 1 < k → k < 12 → w k ≡ 0) → Legal 1 16 w 1 × Legal 0 4 w 9
-unfolding Text Letter packed aName
-a-legal w e z = (packed-legal 1 16 aName text w 1 (λ i h. words (i / 2) (omega arith)), packed-legal 0 4 [] none w 9 (λ i h. z (9 + i / 2) (omega arith) (omega arith)))
+pub a-legal : (w : Words) → w 1 ≡ 16640 → ((k : ℕ) → 1 < k → k < 12 → w k ≡ 0) → LegalName w 1 × LegalType w 9
+unfolding Text Letter wordsOf aName
+a-legal w e z = (legal-back 1 16 aName text [] behind-old w 1 (λ i h. words (i / 2) (omega arith)), legal-back 0 4 [] none [] behind-old w 9 (λ i h. z (9 + i / 2) (omega arith) (omega arith)))
   where
     text : NameText aName
     text = (omega arith, omega arith, go)
@@ -49,7 +49,7 @@ a-legal w e z = (packed-legal 1 16 aName text w 1 (λ i h. words (i / 2) (omega 
     past : (i : ℕ) → 1 ≤ i → getD aName i 0 ≡ 0
     past i h = List·getD-eq-default aName 0 h
 
-    words : (j : ℕ) → j < 8 → w (1 + j) ≡ packed aName j
+    words : (j : ℕ) → j < 8 → w (1 + j) ≡ wordsOf (aName ++ []) j
     words zero h = e
     words (suc zero) h = z 2 (omega arith) (omega arith)
     words (suc (suc j)) h = z (1 + suc (suc j)) (omega arith) (omega arith) ∙ sym (omega (arith, past (2 * suc (suc j)) (omega arith), past (2 * suc (suc j) + 1) (omega arith)))
@@ -79,7 +79,7 @@ object7 u h = elim (decLt u 32) [
 ]
 
 pub breaks7 : Lowest (rules 16 (volume broken7)) 7
-unfolding rules Lowest Rule4 Rule6 Rule7 FileShape slot two word volume put pick is Off used given usedPages
+unfolding rules Lowest Rule4Over Rule6Over Rule7 FileShape slot two word volume put pick is Off used given usedPages
 breaks7 = inr (
   head-rule v (master7 .head) (omega arith) (omega arith) (omega arith),
   inr (

@@ -14,7 +14,7 @@ use Rattle.book.specs.Bits.{bitPages, bitFile}
 use Rattle.book.specs.Entries.{entry, user, object, userFile, objectFile, used, given, usedPages}
 use Rattle.book.specs.Holders.{hit, all, system, holders}
 use Rattle.book.specs.Rows.{Rows, row, Lowest}
-use Rattle.book.specs.Rules.{Rule1, Rule2, Rule3, Rule4, UserOk, Rule5, Rule6, Rule7, Rule8}
+use Rattle.book.specs.Rules.{Rule1, Rule2, Rule3, Rule4, Rule4Over, UserOk, Rule5, Rule6, Rule7, Rule8}
 use Rattle.laws.specs.Count.Sums.{sum-1}
 use Rattle.laws.specs.Example.Sparse.{Cell, cell, volume, Off, volume-off, entry-past}
 use Rattle.laws.specs.Example.Broken.{Master, head-rule, user-root, object-root, rule-2, rule-3, rule-5, no-objects, bare, user-first}
@@ -86,7 +86,7 @@ module _ (x y z : ℕ) where
   keeps3 = rule-3 v master (omega (arith, first-slot)) other-slots
 
   pub named : UserOk (user v) 0 → Rule4 (user v)
-  unfolding Rule4
+  unfolding Rule4Over
   named o = ((λ u h l. subst (UserOk (user v)) (sym (only u l)) o), λ a b ha hb p q s. only a p ∙ sym (only b q))
 
   pub keeps5 : Rule5 154 v

@@ -17,7 +17,7 @@ use Rattle.book.specs.Files.{pageBytes, fileAt}
 use Rattle.book.specs.Holders.{hit, mine, some, holders, Holds, Exists, heldPage, rolePage, systemPages}
 use Rattle.book.specs.Rows.{end, row, Lowest}
 use Rattle.book.specs.Names.{LegalName}
-use Rattle.book.specs.Rules.{rules, Rule4, Rule9, Rule10}
+use Rattle.book.specs.Rules.{rules, Rule4Over, Rule9, Rule10}
 use Rattle.book.specs.Spots.{at, spot, when, AllHold, First, nth, when-all, when-first}
 use Rattle.book.specs.Places.{inUser, pointers, spots1, spots2, spots3, spots4, userSpots, spots5, spots5By, spots6, objectSpots, spots7, fileSpots, spots8, spots9, spots10, spots}
 use Rattle.book.specs.Pair.{Ahead, Before}
@@ -39,7 +39,7 @@ use Rattle.laws.specs.Tree.Slot.{some-pos}
 use Rattle.laws.specs.Example.Broken.{Master, broken1, broken2, broken3, broken4, broken5, broken6, broken7, broken8, broken9, broken10, breaks1, breaks2, breaks3, breaks4, breaks5, breaks6}
 use Rattle.laws.specs.Example.FirstUser.{firstUser, master, first-slot, words, only, nothing, keeps1, keeps2, keeps3, keeps-eight, held, held-by}
 use Rattle.laws.specs.Example.BrokenLate.{a-legal, breaks7, breaks8, breaks9, breaks10, master7, master8, fresh9, fresh10, fresh-all, fresh-holders, agree, held-twice}
-use Rattle.laws.specs.Example.Broken.{master3, master4, master5, master6, nameless, user-page, object-page, object-flags, user-root, object-root, user-first, object-first, no-users, no-objects, bare}
+use Rattle.laws.specs.Example.Broken.{master3, master4, master5, master6, zero-first, user-page, object-page, object-flags, user-root, object-root, user-first, object-first, no-users, no-objects, bare}
 
 -- a rule other than 8 has no holders to tell
 pub plain : {P : ℕ} {v : Vol} {r : ℕ} {q : Place} → (r ≡ 8 → ⊥) → Lowest (rules P v) r → First (spots P v r) q
@@ -51,7 +51,7 @@ plain n l f = record { rule = l; place = f; pair = (λ e. absurd (n e), λ e. (r
 
 told1 : BrokenAt 16 (volume broken1) (record { rule = 1; place = at 0 1008; first = Free; second = Free })
 unfolding spots nth spots1 First volume
-told1 = plain (λ e. omega (arith, e)) breaks1 (inl (refl, nameless (volume [] 0) volumeName refl))
+told1 = plain (λ e. omega (arith, e)) breaks1 (inl (refl, zero-first (volume [] 0) volumeName refl))
 
 -- ---- 2: one pointer of the two is zero
 
@@ -85,7 +85,7 @@ told4 = plain (λ e. omega (arith, e)) breaks4 (
   omega arith,
   (λ j h. absurd (not-suc-le-zero h)),
   when-first _ (userSpots (volume broken4) 0) (at 3 1) (omega (arith, U 0))
-      (inl (ap (λ (q : ℕ). at q 1) (sym (first-page broken4 master4 refl)), λ a. nameless (user (volume broken4) 0) 1 (U 1) (a .0))),
+      (inl (ap (λ (q : ℕ). at q 1) (sym (first-page broken4 master4 refl)), λ a. zero-first (user (volume broken4) 0) 1 (U 1) (a .0))),
 )
   where
     U : (k : ℕ) → user (volume broken4) 0 k ≡ volume broken4 3 (32 * 0 + k)
@@ -234,7 +234,7 @@ told10 = plain (λ e. omega (arith, e)) breaks10 (inr ((λ u h. when-all _ _ (λ
 
 -- his used count is 1
 told-used : BrokenAt 154 (volume (firstUser 1 149 0)) (record { rule = 4; place = at 2 16; first = Free; second = Free })
-unfolding rules Lowest spots nth spots4 userSpots AllHold First Rule4 volume put pick is Off used given usedPages two userPage
+unfolding rules Lowest spots nth spots4 userSpots AllHold First Rule4Over volume put pick is Off used given usedPages two userPage
 told-used = plain (λ e. omega (arith, e)) (inr (keeps1 1 149 0, inr (keeps2 1 149 0, inr (keeps3 1 149 0, inl (refl, λ r. over (r .0 0 (omega arith) (omega (arith, U 0)) .within)))))) (
   0,
   omega arith,

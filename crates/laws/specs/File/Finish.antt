@@ -9,7 +9,7 @@ use Rattle.book.specs.Files.{fileAt, Shape, FileShape, pageBytes}
 use Rattle.book.specs.Grow.{finish}
 use Rattle.book.specs.Holders.{hit, some, all}
 use Rattle.book.specs.Pointers.{flags, page, pointer, objectPointer, unreservedCount, flagsAbove}
-use Rattle.book.specs.Rules.{UserOk, FileOk, Rule4, Rule5, Rule5By, Rule6, Rule10}
+use Rattle.book.specs.Rules.{UserOk, FileOk, Rule4Over, Rule5, Rule5By, Rule6Over, Rule10}
 use Rattle.book.specs.Trees.{Root, weighR, blocksR, pageAt, rootAt, rootBy}
 use Rattle.book.specs.Words.{Vol, two, word, put2}
 use Rattle.book.specs.Written.{word-pos, word-ext, put2-hi, put2-lo, put2-page, put2-word}
@@ -95,7 +95,7 @@ module _ {P : ℕ} {v : Vol} {hand : ℕ → ℕ} {a f : ℕ} (here : Owned P v 
   isO = used-page v (objectFile v) ee (here .uf)
 
   pub owner-used : 0 < used (user v a)
-  unfolding Rule6
+  unfolding Rule6Over
   owner-used = here .seat .good .most .r6 .0 a f (here .seat .ha) (here .seat .hf) (here .uf) .owner
 
   pub isU : 0 < UU
@@ -273,11 +273,11 @@ module _ {P : ℕ} {v : Vol} {hand : ℕ → ℕ} {a f : ℕ} (here : Owned P v 
       E = entries (here .seat) change
 
       owner-ok : UserOk (user v) a
-      unfolding Rule4
+      unfolding Rule4Over
       owner-ok = here .seat .good .most .r4 .0 a (here .seat .ha) owner-used
 
       file-ok : FileOk (user v) (object v) a ee
-      unfolding Rule6
+      unfolding Rule6Over
       file-ok = here .seat .good .most .r6 .0 a f (here .seat .ha) (here .seat .hf) (here .uf)
 
       shaped : FileShape P v₃ ee
@@ -299,7 +299,7 @@ module _ {P : ℕ} {v : Vol} {hand : ℕ → ℕ} {a f : ℕ} (here : Owned P v 
       master k = fin-page v₂ UU OO a ee n (pointer kind t) x UO 0 k (λ i. omega (arith, i, isO)) (λ i. omega (arith, i, isU)) ∙ K .master k
 
       fine : Fine (here .seat) change gone new hand′
-      unfolding Rule4 Rule6 Rule10 grant
+      unfolding Rule4Over Rule6Over Rule10 grant
       fine = record {
         weight = weight;
         hands = R .hands;

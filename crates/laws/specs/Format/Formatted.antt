@@ -10,7 +10,7 @@ use Rattle.book.specs.Entries.{entry, userFile, objectFile, user, object, used,
 use Rattle.book.specs.Files.{fileAt}
 use Rattle.book.specs.Holders.{hit, some, all, system, mine, holders, systemPages}
 use Rattle.book.specs.Pointers.{slot, page, Zero, objectPointer, unreservedCount, userPointer}
-use Rattle.book.specs.Rules.{Rule1, Rule2, Rule3, Rule4, Rule5, Rule5By, Rule6, Rule7, Rule8, Rule9, Rule10, Sound}
+use Rattle.book.specs.Rules.{Rule1, Rule2, Rule3, Rule4, Rule4Over, Rule5, Rule5By, Rule6, Rule6Over, Rule7, Rule8, Rule9, Rule10, Sound}
 use Rattle.book.specs.Trees.{Root, run, weighR, pageAt}
 use Rattle.book.specs.Words.{Vol, two, word}
 use Rattle.laws.specs.Count.Good.{bit-le}
@@ -23,7 +23,7 @@ use Rattle.laws.specs.Tree.Slot.{word-zero, slot-zero}
 -- no user is used
 module _ (v : Vol) (nu : (u : ℕ) → used (user v u) ≡ 0) where
   pub rule4-none : Rule4 (user v)
-  unfolding Rule4
+  unfolding Rule4Over
   rule4-none = ((λ u i q. absurd (let w : ⊥ = omega (arith, nu u) in w)), λ x y i j q. absurd (let w : ⊥ = omega (arith, nu x) in w))
 
   pub grants-none : sum 256 (grant (user v)) ≡ 0
@@ -33,7 +33,7 @@ module _ (v : Vol) (nu : (u : ℕ) → used (user v u) ≡ 0) where
 -- no object is used
 module _ (v : Vol) (no : (e : ℕ) → used (object v e) ≡ 0) where
   pub rule6-none : Rule6 (user v) (object v)
-  unfolding Rule6
+  unfolding Rule6Over
   rule6-none = ((λ u f i j q. absurd (let w : ⊥ = omega (arith, no (256 * u + f)) in w)), λ u x y i j k q. absurd (let w : ⊥ = omega (arith, no (256 * u + x)) in w))
 
   pub rule7-none : (P : ℕ) → Rule7 P v

@@ -9,7 +9,7 @@ use native.Mathlib.Omega.{arith}
 use Rattle.book.specs.Pointers.{volumeName, objectPointer, userPointer, bitPointer, flags, page, pointer, Zero, unreservedCount}
 use Rattle.book.specs.Bits.{pageBits, bitPageOf, bitWord, bitPlace, digit, bitPages, bitFile, bitPage, bit, mark}
 use Rattle.book.specs.Entries.{unreserved}
-use Rattle.book.specs.Names.{Same, NameText, packed}
+use Rattle.book.specs.Names.{NameText, stored, packed}
 use Rattle.book.specs.Written.{digit-other, put-here, put-page, put-word, word-pos, put2-hi, put2-lo, put2-two, put2-word, putWords-here, wipe-here, wipe-page}
 use Rattle.sums.specs.Sum.{sum, is, is-same, is-other, sum-suc, sum-zero, sum-ext, sum-const}
 use Rattle.book.specs.Words.{Vol, two, put2, putWords, wipe}
@@ -20,7 +20,7 @@ use Rattle.book.specs.Rules.{Rule1, Sound}
 use Rattle.book.specs.Format.{wipeRun, markRun, directory, format}
 use Rattle.laws.specs.Bits.Claim.{bitPage-is, bitPage-pos}
 use Rattle.laws.specs.Bits.Mark.{mark-page, mark-master, mark-bit, mark-other}
-use Rattle.laws.specs.File.Packed.{packed-legal}
+use Rattle.laws.specs.File.Packed.{packed-back, packed-legal}
 use Rattle.laws.specs.Format.Formatted.{Formatted, format-sound}
 use Rattle.laws.specs.Frame.Places.{Places, WordsOf, RunOf, Either, OnlyAt, only-wider, only-then, only-put2, only-putWords}
 use Rattle.laws.specs.Tree.Slot.{hit-same, hit-other, some-pos, two-ext}
@@ -292,12 +292,16 @@ module _ (P : ℕ) (v : Vol) (name : List ℕ) (b : ℕ) (T : NameText name) (A 
       unfolding two
       bits-at = omega (arith, same bitPointer, same (suc bitPointer), dir-bits .0, dir-bits .1)
 
-      -- the directory entry: the name, no objects and no users, the bit file at b, all but the master page and the bit file unreserved
-      pub format-entry : Same 8 (format P v name b 0) volumeName (packed name) 0 × Zero (format P v name b 0) objectPointer × Zero (format P v name b 0) userPointer
+      name-words : (i : ℕ) → i < 8 → markRun P w₂ b n 0 (volumeName + i) ≡ packed name i
+      name-words i h = same (volumeName + i) ∙ dir-name (volumeName + i) (omega arith) (omega arith) ∙ ap (packed name) (let e : volumeName + i - volumeName ≡ i = omega arith in e)
+
+      -- the directory entry: the name as it is written, which reads as it was given, no objects and no users, the bit file at b, all but the master page and the bit file unreserved
+      pub format-entry : ((i : ℕ) → i < 8 → format P v name b 0 (volumeName + i) ≡ packed name i) × (stored 16 (format P v name b 0) volumeName ≡ name) × Zero (format P v name b 0) objectPointer × Zero (format P v name b 0) userPointer
           × (two (format P v name b 0) bitPointer ≡ b) × (unreserved (format P v name b) ≡ P - 1 - n)
-      unfolding format Same unreserved
+      unfolding format unreserved
       format-entry = (
-        λ i h. same (volumeName + i) ∙ dir-name (volumeName + i) (omega arith) (omega arith) ∙ ap (packed name) (let e : volumeName + i - volumeName ≡ 0 + i = omega arith in e),
+        name-words,
+        packed-back 1 16 name T (markRun P w₂ b n 0) volumeName (λ i h. name-words (i / 2) (omega arith)),
         formatted .noObjs,
         formatted .noUsers,
         bits-at,

@@ -8,7 +8,7 @@ use Rattle.book.specs.Bits.{bit}
 use Rattle.book.specs.Entries.{Table, user, object, used, usedPages}
 use Rattle.book.specs.Files.{fileAt}
 use Rattle.book.specs.Holders.{hit, all, some, mine}
-use Rattle.book.specs.Rules.{Rule6, Rule10}
+use Rattle.book.specs.Rules.{Rule6Over, Rule10}
 use Rattle.book.specs.Trees.{Root, weighR, pageAt}
 use Rattle.book.specs.Words.{Vol}
 use Rattle.laws.specs.Count.Good.{Good, free, free-count}
@@ -97,7 +97,7 @@ beside-mine P v v′ a f ha hf B g = sum-change 256 (λ h. weighR v (fileAt v (2
 
 pub beside-free : (P : ℕ) (v v′ : Vol) (a f : ℕ) → 0 < P → a < 256 → f < 256 → 0 < used (object v (256 * a + f)) → Good P v (λ p. 0) → Good P v′ (λ p. 0) → Beside P v v′ a (256 * a + f)
     → free P v′ + usedPages (user v′) a ≡ free P v + usedPages (user v) a
-unfolding Rule6 Rule10
+unfolding Rule6Over Rule10
 beside-free P v v′ a f pos ha hf uf G H B =
     let o : 0 < used (user v a) = G .most .r6 .0 a f ha hf uf .owner in
     omega (

@@ -10,7 +10,7 @@ use Rattle.book.specs.Files.{fileAt}
 use Rattle.book.specs.Holders.{hit, some, mine, system, all, systemPages}
 use Rattle.book.specs.Names.{SameFile}
 use Rattle.book.specs.Pointers.{unreservedCount}
-use Rattle.book.specs.Rules.{FileOk, Rule4, Rule6, Rule7, Rule10, Sound}
+use Rattle.book.specs.Rules.{FileOk, Rule4, Rule6, Rule6Over, Rule7, Rule10, Sound}
 use Rattle.book.specs.Trees.{Root, weighR, blocksR, pageAt}
 use Rattle.book.specs.Words.{Vol, word}
 use Rattle.laws.specs.Count.Good.{good, sound}
@@ -87,7 +87,7 @@ module _ (P : ℕ) (v v′ : Vol) (C : ℕ → ℕ) (q : Quiet P v C) (s : Stays
   used-user u = ap (λ (U : Table). used (U u)) (s .users)
 
   six : Rule6 (user v) (object v) → Rule6 (user v′) (object v′)
-  unfolding Rule6
+  unfolding Rule6Over
   six r = (ok, one)
     where
       ok : (u f : ℕ) → u < 256 → f < 256 → 0 < used (object v′ (fileEntry u f)) → FileOk (user v′) (object v′) u (fileEntry u f)

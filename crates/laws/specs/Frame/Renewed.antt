@@ -10,10 +10,10 @@ use Rattle.book.specs.Entries.{userFile, objectFile, user, object, used, given,
 use Rattle.book.specs.Files.{fileAt, Shape, FileShape}
 use Rattle.book.specs.Names.{SameName, SameFile}
 use Rattle.book.specs.Pointers.{slot, flags, page, Zero, Inside, bitPointer, objectPointer, unreservedCount, userPointer, volumeName}
-use Rattle.book.specs.Rules.{UserOk, FileOk, Rule1, Rule2, Rule3, Rule4, Rule5, Rule5By, Rule6, Rule7}
+use Rattle.book.specs.Rules.{UserOk, FileOk, Rule1, Rule2, Rule3, Rule4, Rule4Over, Rule5, Rule5By, Rule6, Rule6Over, Rule7}
 use Rattle.book.specs.Trees.{run, blocks, blocksR, rootAt, rootBy, Root}
 use Rattle.book.specs.Words.{Vol, two}
-use Rattle.laws.specs.File.Named.{Legal-ext, SameName-ext, SameName-sym, SameFile-ext, SameFile-sym}
+use Rattle.laws.specs.File.Named.{Legal-ext, SameName-ext, SameFile-ext, SameFile-sym}
 use Rattle.laws.specs.Frame.Roots.{Roots}
 use Rattle.laws.specs.Tree.Pointer.{flags-ext, page-ext, used-ext, root-1, zero-page}
 use Rattle.laws.specs.Tree.Slot.{Agree, two-ext, slot-same}
@@ -163,7 +163,7 @@ module _ (P : ℕ) (v v′ : Vol) (a f : ℕ) (ha : a < 256) (hf : f < 256) (E :
   grant-same u h n = ap₂ (λ (x y : ℕ). pick x y 0) (used-same u h n) (given-same u h n)
 
   pub rule4 : UserNew v′ a → Rule4 (user v) → Rule4 (user v′)
-  unfolding Rule4
+  unfolding Rule4Over
   rule4 N r = (ok, one)
     where
       ok : (u : ℕ) → u < 256 → 0 < used (user v′ u) → UserOk (user v′) u
@@ -182,7 +182,7 @@ module _ (P : ℕ) (v v′ : Vol) (a f : ℕ) (ha : a < 256) (hf : f < 256) (E :
       one x y hx hy ux uy s = elim (ℕ-discrete x a) [
         | yes e ↦ elim (ℕ-discrete y a) [
           | yes e′ ↦ e ∙ sym e′
-          | no n ↦ absurd (N .alone y hy n uy (subst (λ (z : ℕ). 0 < used (user v′ z)) e ux) (SameName-sym _ _ (subst (λ (z : ℕ). SameName (user v′ z) (user v′ y)) e s)))
+          | no n ↦ absurd (N .alone y hy n uy (subst (λ (z : ℕ). 0 < used (user v′ z)) e ux) (sym (subst (λ (z : ℕ). SameName (user v′ z) (user v′ y)) e s)))
         ]
         | no n ↦ elim (ℕ-discrete y a) [
           | yes e ↦ absurd (N .alone x hx n ux (subst (λ (z : ℕ). 0 < used (user v′ z)) e uy) (subst (λ (z : ℕ). SameName (user v′ x) (user v′ z)) e s))
@@ -195,7 +195,7 @@ module _ (P : ℕ) (v v′ : Vol) (a f : ℕ) (ha : a < 256) (hf : f < 256) (E :
   obj-used-same x h n = used-ext (object v′ x) (object v x) (E .files x h n 0 (omega arith))
 
   pub rule6 : FileNew P v′ a f → ((h : ℕ) → h < 256 → 0 < used (object v′ (256 * a + h)) → 0 < used (user v′ a)) → Rule6 (user v) (object v) → Rule6 (user v′) (object v′)
-  unfolding Rule6
+  unfolding Rule6Over
   rule6 N keep r = (ok, one)
     where
       owner : (u h : ℕ) → u < 256 → h < 256 → 0 < used (object v′ (256 * u + h)) → 0 < used (user v u) → 0 < used (user v′ u)

@@ -14,7 +14,7 @@ use Rattle.book.specs.Image.{pages, Whole, IndexArg}
 use Rattle.book.specs.Outcome.{Outcome, DoneAs, call, asking, judged}
 use Rattle.book.specs.Pointers.{flags}
 use Rattle.book.specs.Rows.{Clear, Counted}
-use Rattle.book.specs.Rules.{Rule4, Sound}
+use Rattle.book.specs.Rules.{Rule4Over, Sound}
 use Rattle.book.specs.Trees.{pageAt}
 use Rattle.book.specs.Words.{Vol, vol}
 use Rattle.laws.specs.Bits.Choose.{lowest-stock}
@@ -45,7 +45,7 @@ module _ (img : List ℕ) (u f : ℕ) where
 
   -- the step that the call takes
   grow-step : Whole img → IndexArg u × IndexArg f → Sound P v → HasFile v u f → Grows v e → need n ≤ spare v u → Grew P v (grow (lowestFree P) P v u f) u e n (lowestFree P v) (λ p. 0)
-  unfolding spare Rule4
+  unfolding spare Rule4Over
   grow-step W A S h g l =
       let hu : u < 256 = omega (arith, A .0) in let hf : f < 256 = omega (arith, A .1) in
       grown (lowest-stock S (omega (arith, W .least))) (omega (arith, W .most)) u f hu hf (h .1)

@@ -15,7 +15,7 @@ use Rattle.book.specs.Image.{pages, Whole, IndexArg}
 use Rattle.book.specs.Outcome.{Outcome, RefusedAs, DoneAs, call, asking, judged}
 use Rattle.book.specs.Pointers.{flags}
 use Rattle.book.specs.Rows.{Lowest, Clear, lowest-one, clear-none, lowest-applies}
-use Rattle.book.specs.Rules.{Rule4, Sound}
+use Rattle.book.specs.Rules.{Rule4Over, Sound}
 use Rattle.book.specs.Words.{Vol, vol}
 use Rattle.laws.specs.Bits.Choose.{Stock, lowest-stock}
 use Rattle.laws.specs.Call.Done.{clear-done}
@@ -84,7 +84,7 @@ module _ (img : List ℕ) (u f : ℕ) (W : Whole img) (A : IndexArg u × IndexAr
     hf = omega (arith, A .1)
 
     le : usedPages (user v) u + need n ≤ given (user v) u
-    unfolding Rule4 spare
+    unfolding Rule4Over spare
     le = omega (arith, l, S .r4 .0 u hu (H .0) .within)
 
     stock : Stock (lowestFree P) P v

@@ -12,7 +12,7 @@ use Rattle.book.specs.Files.{fileAt, Shape, need}
 use Rattle.book.specs.Grow.{first, onward, raise, block, phaseBy, indexOf, entered, growTo, grow}
 use Rattle.book.specs.Holders.{hit, some}
 use Rattle.book.specs.Pointers.{flags, page, pointer, setSlot}
-use Rattle.book.specs.Rules.{Rule6, Sound}
+use Rattle.book.specs.Rules.{Rule6Over, Sound}
 use Rattle.book.specs.Trees.{Root, weighR, rootBy, Fill}
 use Rattle.book.specs.Words.{Vol, two}
 use Rattle.laws.specs.Bits.Choose.{Stock}
@@ -49,7 +49,7 @@ module _ {choose : Vol → ℕ} {P : ℕ} {v : Vol} (stock : Stock choose P v) (
   -- the file is not contiguous
   module _ (kind : flags (object v e) 30 ≡ 0 → n ≡ 0) (le : usedPages (user v) a + need n ≤ given (user v) a) where
     owner : 0 < used (user v a)
-    unfolding Rule6
+    unfolding Rule6Over
     owner = stock .sound .r6 .0 a f ha hf uf .owner
 
     -- the flags by the page count

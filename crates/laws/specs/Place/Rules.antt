@@ -9,10 +9,10 @@ use Rattle.book.specs.Pointers.{flags, page, slot, Zero, Inside, userPointer, o
 use Rattle.book.specs.Trees.{Below}
 use Rattle.book.specs.Entries.{Table, user, object, used, fileEntry}
 use Rattle.book.specs.Names.{SameName, SameFile}
-use Rattle.book.specs.Rules.{Rule1, Rule2, Rule3, Rule4, Rule5, Rule5By, Rule6, Rule8, Rule9, Rule10}
+use Rattle.book.specs.Rules.{Rule1, Rule2, Rule3, Rule4, Rule4Over, Rule5, Rule5By, Rule6, Rule6Over, Rule8, Rule9, Rule10}
 use Rattle.laws.specs.Tree.Pointer.{zero-page, zero-flags}
 use Rattle.laws.specs.Tree.Slot.{slot-zero}
-use Rattle.laws.specs.File.Named.{SameName-sym, SameFile-sym}
+use Rattle.laws.specs.File.Named.{SameFile-sym}
 use Rattle.book.specs.Spots.{Spots, AllHold, when-all, when-hold}
 use Rattle.book.specs.Places.{pointers, spots1, spots2, spots3, userSpots, spots4, spots5By, spots5, objectSpots, spots6, spots8, spots9, spots10}
 
@@ -138,26 +138,26 @@ module _ (Used : ℕ → Type 0) (Same : ℕ → ℕ → Type 0) (turn : (a b : 
 
 module _ (v : Vol) where
   pub all4 : Rule4 (user v) → AllHold (spots4 v)
-  unfolding AllHold spots4 userSpots Rule4
+  unfolding AllHold spots4 userSpots Rule4Over
   all4 r u h = when-all (used (user v u)) (userSpots v u) (λ l.
       let o = r .0 u h l in ((o .name, λ a m k s. let e : a ≡ u = r .1 a u (omega arith) h k l s in omega arith), (o .within, o .own)))
 
   pub rule4 : AllHold (spots4 v) → Rule4 (user v)
-  unfolding AllHold spots4 userSpots Rule4
+  unfolding AllHold spots4 userSpots Rule4Over
   rule4 a = (
     (λ u h l. let o = when-hold (used (user v u)) (userSpots v u) (a u h) l in record { own = o .1 .1; name = o .0 .0; within = o .1 .0 }),
-    one-of (λ u. 0 < used (user v u)) (λ x y. SameName (user v x) (user v y)) (λ x y. SameName-sym (user v x) (user v y))
+    one-of (λ u. 0 < used (user v u)) (λ x y. SameName (user v x) (user v y)) (λ x y. sym)
         (λ b h l. when-hold (used (user v b)) (userSpots v b) (a b h) l .0 .1),
   )
 
   pub all6 : Rule6 (user v) (object v) → AllHold (spots6 v)
-  unfolding AllHold spots6 objectSpots Rule6
+  unfolding AllHold spots6 objectSpots Rule6Over
   all6 r u h f l = when-all (used (object v (fileEntry u f))) (objectSpots v u f (fileEntry u f)) (λ m.
       let o = r .0 u f h l m in
       (o .owner, ((o .name, λ a i k s. let e : a ≡ f = r .1 u a f h (omega arith) l k m s in omega arith), (o .type, (o .whose, o .number)))))
 
   pub rule6 : AllHold (spots6 v) → Rule6 (user v) (object v)
-  unfolding AllHold spots6 objectSpots Rule6
+  unfolding AllHold spots6 objectSpots Rule6Over
   rule6 a = (
     (λ u f h l m. let o = when-hold (used (object v (fileEntry u f))) (objectSpots v u f (fileEntry u f)) (a u h f l) m in
         record { owner = o .0; whose = o .1 .1 .1 .0; number = o .1 .1 .1 .1; name = o .1 .0 .0; type = o .1 .1 .0 }),

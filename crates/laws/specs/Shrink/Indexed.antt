@@ -9,7 +9,7 @@ use Rattle.book.specs.Files.{fileAt, Shape, need}
 use Rattle.book.specs.Grow.{finish}
 use Rattle.book.specs.Holders.{hit, some, all, mine}
 use Rattle.book.specs.Pointers.{slot, flags, page, pointer, setSlot}
-use Rattle.book.specs.Rules.{Rule4, Rule10}
+use Rattle.book.specs.Rules.{Rule4Over, Rule10}
 use Rattle.book.specs.Trees.{Root, tree, weigh, weighR, pageAt, indexAt, upto, rootBy, Fill, Below}
 use Rattle.book.specs.Words.{Vol, two}
 use Rattle.laws.specs.Count.Good.{Good}
@@ -80,7 +80,7 @@ module _ {P : ℕ} {v : Vol} {a f : ℕ} (here : Owned P v (λ p. 0) a f) where
   paid k h = omega (arith, here .seat .good .most .r10 .0 a (here .seat .ha) (owner-used here), mine-file)
 
   pub within : usedPages (user v) a ≤ given (user v) a
-  unfolding Rule4
+  unfolding Rule4Over
   within = here .seat .good .most .r4 .0 a (here .seat .ha) (owner-used here) .within
 
   -- ---- the only page of a file: the index block goes too

@@ -11,7 +11,7 @@ use Rattle.book.specs.Files.{fileAt}
 use Rattle.book.specs.Image.{pages}
 use Rattle.book.specs.Outcome.{Outcome}
 use Rattle.book.specs.Rows.{Clear}
-use Rattle.book.specs.Rules.{Rule4, Sound}
+use Rattle.book.specs.Rules.{Rule4Over, Sound}
 use Rattle.book.specs.Trees.{pageAt}
 use Rattle.book.specs.Words.{Vol, vol}
 use Rattle.laws.specs.Call.After.{Called, called}
@@ -27,7 +27,7 @@ GivenWords v u = Either (FieldOf (userPage v u) u 14 2) UnreservedWords
 
 module _ (img : List ℕ) (u n : ℕ) (r : Numbers ℕ) (img′ : List ℕ) (o : Outcome (giveCall img u n) img r img′) where
   give : Called img (GivenWords (vol img) u) (λ w. BesideUser (vol img) w u) img′
-  unfolding giveCall Clear Rule4
+  unfolding giveCall Clear Rule4Over
   give = called img _ _ _ _ _ (moved-only (vol img) u _ _) (beside-same (vol img) u)
       (λ W A S c. let h : u < 256 = omega (arith, A .0) in
       moved-step (pages img) (vol img) S (omega arith) u h (c .0) _ _ (omega (arith, S .r4 .0 u h (c .0) .within)) (omega (arith, c .1 .0)))
@@ -52,7 +52,7 @@ module _ (img : List ℕ) (u n : ℕ) (r : Numbers ℕ) (img′ : List ℕ) (o :
 
 module _ (img : List ℕ) (u n : ℕ) (r : Numbers ℕ) (img′ : List ℕ) (o : Outcome (takeCall img u n) img r img′) where
   take : Called img (GivenWords (vol img) u) (λ w. BesideUser (vol img) w u) img′
-  unfolding takeCall Clear Rule4 spare
+  unfolding takeCall Clear Rule4Over spare
   take = called img _ _ _ _ _ (moved-only (vol img) u _ _) (beside-same (vol img) u)
       (λ W A S c. let h : u < 256 = omega (arith, A .0) in let w = S .r4 .0 u h (c .0) .within in
       moved-step (pages img) (vol img) S (omega arith) u h (c .0) _ _ (omega (arith, w, c .1 .0)) (omega (arith, w, c .1 .0)))

@@ -5,7 +5,7 @@ use Prim.Native.Nat.{ℕ, suc, _+_, _/_, _%_, _≤_, _<_}
 use native.Mathlib.Omega.{arith}
 use Rattle.book.specs.Entries.{user, used, given, usedPages, userPage, entryWord, unreserved}
 use Rattle.book.specs.Pointers.{unreservedCount}
-use Rattle.book.specs.Rules.{UserOk, Rule4, Rule10, Sound}
+use Rattle.book.specs.Rules.{UserOk, Rule4Over, Rule10, Sound}
 use Rattle.book.specs.Steps.{moved}
 use Rattle.book.specs.Words.{Vol, two, put2}
 use Rattle.book.specs.Written.{put2-page, put2-two, put2-hi, put2-lo}
@@ -82,12 +82,12 @@ module _ (P : ℕ) (v : Vol) (S : Sound P v) (pos : 0 < P) (u : ℕ) (hu : u < 2
   beside = user-beside P v S pos u hu uu v′ only
 
   ok : UserOk (user v) u
-  unfolding Rule4
+  unfolding Rule4Over
   ok = S .r4 .0 u hu uu
 
   module _ (within : usedPages (user v) u ≤ g) (balance : s + g ≡ unreserved v + given (user v) u) where
     new : UserNew v′ u
-    unfolding Rule4 v′
+    unfolding Rule4Over v′
     new = record {
       ok = λ h. record {
         own = kept 18 (omega arith) (omega arith) ∙ ok .own;

@@ -9,7 +9,7 @@ use Rattle.book.specs.Entries.{entry, userFile, objectFile, user, object, used,
 use Rattle.book.specs.Files.{fileAt}
 use Rattle.book.specs.Holders.{hit, some, mine}
 use Rattle.book.specs.Pointers.{flags, objectPointer, unreservedCount}
-use Rattle.book.specs.Rules.{Rule6, Rule7}
+use Rattle.book.specs.Rules.{Rule6Over, Rule7}
 use Rattle.book.specs.Trees.{Root, weighR, blocksR, pageAt}
 use Rattle.book.specs.Words.{Vol, two, word}
 use Rattle.laws.specs.Count.Good.{Good}
@@ -90,7 +90,7 @@ module _ (P : ℕ) (v : Vol) (hand : ℕ → ℕ) (G : Good P v hand) (pos : 0 <
       (balance : two (v′ 0) unreservedCount + grant (user v′) a ≡ two (v 0) unreservedCount + grant (user v) a)
       (count : 0 < used (user v′ a) → usedPages (user v′) a ≡ mine v a some) where
     file-new : FileNew P v′ a 0
-    unfolding Rule6 Rule7
+    unfolding Rule6Over Rule7
     file-new = record {
       ok = λ h. let h′ : 0 < used (object v e) = omega (arith, used-obj e) in let o = G .most .r6 .0 a 0 ha zero256 h′ in record {
         owner = owner 0 zero256 h′;

@@ -1,5 +1,5 @@
 use native.Mathlib.Omega.{arith}
-use Rattle.book.specs.Names.{packed}
+use Rattle.book.specs.Names.{wordsOf}
 use borrow.Author.Needs.{needs}
 use Rattle.lister.proofs.word_of.Statement.{statement}
 use Rattle.lister.proofs.word_of.Tie as tie
@@ -35,7 +35,7 @@ add-result : tie.Need-add-result
 add-result c = search needs
 
 returns : tie.Need-returns
-unfolding packed
+unfolding wordsOf
 returns c = omega (arith, c .before .before .wide .ensures .0, c .wide2 .ensures .0)
 
 pub word-of-spec : {M : Type 1} → statement M

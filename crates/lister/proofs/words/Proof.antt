@@ -3,7 +3,7 @@ use Prim.Native.Nat.{_≤_, _-_}
 use native.Mathlib.Omega.{arith}
 use lib.ListN.{length, length-set}
 use borrow.Author.Count.{below-none}
-use Rattle.book.specs.Names.{packed}
+use Rattle.book.specs.Names.{wordsOf}
 use Rattle.page.specs.Parts.{Begins}
 use Rattle.page.proofs.Parts.{begins-more}
 use Rattle.lister.proofs.words.Statement.{statement}
@@ -13,7 +13,7 @@ use Rattle.lister.proofs.words.Lts as lts
 use Rattle.lister.proofs.word_of.Reads as word-of-reads
 
 abbrev Inv-loop : tie.InvT-loop
-Inv-loop s image₀ i₀ image i = (i ≤ length image₀) × (length image ≡ length image₀) × Begins i image (packed s)
+Inv-loop s image₀ i₀ image i = (i ≤ length image₀) × (length image ≡ length image₀) × Begins i image (wordsOf s)
 
 abbrev μ-loop : tie.MeasureT-loop
 μ-loop s image₀ i₀ image i = length image₀ - i

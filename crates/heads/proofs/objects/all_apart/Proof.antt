@@ -8,7 +8,7 @@ use Rattle.book.specs.Trees.{rootBy}
 use Rattle.book.specs.Entries.{entry}
 use Rattle.book.specs.Decides.{holds, fails}
 use Rattle.heads.specs.Span.{Span, span-none, span-more, span-at}
-use Rattle.heads.specs.Twins.{FilesApart}
+use Rattle.heads.specs.Twins.{file-type, FilesApart}
 use Rattle.heads.proofs.objects.all_apart.Statement.{statement}
 use Rattle.heads.proofs.objects.all_apart.Tie as tie
 
@@ -25,7 +25,7 @@ mul-apart : tie.Need-mul-apart Inv-loop μ-loop
 mul-apart c = omega arith
 
 apart-requires : tie.Need-apart-requires Inv-loop μ-loop
-apart-requires c κs = (c .before .before .before .before .pre .0, omega arith, omega arith, omega arith, c .before .before .loop .inv .1)
+apart-requires c κs = (c .before .before .before .before .pre .0, file-type, omega arith, omega arith, c .before .before .loop .inv .1)
 
 returns : tie.Need-returns Inv-loop μ-loop
 returns c = λ s. fails (c .before .apart .result) _ (c .before .apart .ensures .0) (c .if1 .taken) (span-at _ _ _ s (c .before .before .before .before .loop .u) (omega arith) (omega arith))

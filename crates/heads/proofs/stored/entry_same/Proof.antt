@@ -1,30 +1,46 @@
-use Rattle.book.specs.Words.{vol}
-use Rattle.heads.proofs.Named.{same-in}
+use mathlib.Core.Path.{_≡_, sym, _∙_, subst₂}
+use mathlib.Core.Bool.{Bool}
+use mathlib.Core.List.{List}
+use Prim.Native.Nat.{ℕ, _+_, _<_}
+use native.Mathlib.Omega.{arith}
 use borrow.Author.Needs.{needs}
+use Rattle.book.specs.Words.{Vol, vol}
+use Rattle.book.specs.Entries.{entryWord}
+use Rattle.book.specs.Names.{stored}
+use Rattle.book.specs.Decides.{Decides, holds, fails, decides-and}
+use Rattle.tree.specs.Reach.{entryIn}
+use Rattle.tree.proofs.Entries.{there-stored, there-end}
 use Rattle.heads.proofs.stored.entry_same.Statement.{statement}
 use Rattle.heads.proofs.stored.entry_same.Tie as tie
 
-of-requires : tie.Need-of-requires
-of-requires c κs = search needs
-
-of-requires-2 : tie.Need-of-requires-2
-of-requires-2 c κs = search needs
-
-add-same-at : tie.Need-add-same-at
-add-same-at c = search needs
-
-add-same-at-2 : tie.Need-add-same-at-2
-add-same-at-2 c = search needs
+-- a test of two names, or two types, on their pages is one of the entries'
+there : (v : Vol) (p a j q b k m n : ℕ) (r : Bool) → 0 < p → j ≡ entryWord a → 0 < q → k ≡ entryWord b → Decides r (stored n (v p) (j + m) ≡ stored n (v q) (k + m)) → Decides r (stored n (entryIn v p a) m ≡ stored n (entryIn v q b) m)
+there v p a j q b k m n r g e h f = subst₂ (λ (x y : List ℕ). Decides r (x ≡ y)) (there-stored v p a j m n g e) (there-stored v q b k m n h f)
 
 same-at-requires : tie.Need-same-at-requires
-same-at-requires c κs = search needs
+same-at-requires c κs =
+    let o = c .of2 in let s = c .before .before .before in let a = s .args in
+    (omega arith, omega arith, omega arith, omega arith, omega arith, s .pre .5 .name ∙ sym (there-end (vol (a .img .now)) (a .q) (a .b) (o .result .word) 1 16 (s .pre .2) (o .ensures .1)))
+
+same-at-requires-2 : tie.Need-same-at-requires-2
+same-at-requires-2 c κs =
+    let o = c .before .before .of2 in let s = c .before .before .before .before .before in let a = s .args in
+    (omega arith, omega arith, s .pre .4 .even, omega (arith, s .pre .4 .most), omega (arith, s .pre .4 .most), s .pre .5 .type ∙ sym (there-end (vol (a .img .now)) (a .q) (a .b) (o .result .word) 9 (a .n) (s .pre .2) (o .ensures .1)))
 
 returns : tie.Need-returns
 returns c =
-    let a = c .before .before .before .before .args in
-    same-in (vol (a .img .now)) (a .p) (a .a) _ (a .q) (a .b) _ (a .n) (c .same-at .result) (c .before .before .before .before .pre .0) (c .before .before .of .ensures .1) (c .before .before .before .before .pre .2) (c .before .of2 .ensures .1) (c .same-at .ensures)
+    let t = c .before .same-at in let o = c .before .before in let f = o .before in let s = f .before .before in let a = s .args in
+    λ d. fails (t .result) _ (there (vol (a .img .now)) (a .p) (a .a) (f .of .result .word) (a .q) (a .b) (o .of2 .result .word) 1 16 (t .result) (s .pre .0) (f .of .ensures .1) (s .pre .2) (o .of2 .ensures .1) (t .ensures)) (c .if1 .taken) (d .0)
+
+returns-2 : tie.Need-returns-2
+returns-2 c =
+    let i = c .before in let t = i .before .same-at in let u = c .same-at2 in let o = i .before .before in let f = o .before in let s = f .before .before in let a = s .args in
+    decides-and (u .result) _ _
+    (holds (t .result) _ (there (vol (a .img .now)) (a .p) (a .a) (f .of .result .word) (a .q) (a .b) (o .of2 .result .word) 1 16 (t .result) (s .pre .0) (f .of .ensures .1) (s .pre .2) (o .of2 .ensures .1) (t .ensures)) (i .if1 .left))
+    (there (vol (a .img .now)) (a .p) (a .a) (f .of .result .word) (a .q) (a .b) (o .of2 .result .word) 9 (a .n) (u .result) (s .pre .0) (f .of .ensures .1) (s .pre .2) (o .of2 .ensures .1) (u .ensures))
 
 pub entry-same-spec : {M : Type 1} → statement M
 entry-same-spec =
     tie.close
-    (tie.spec of-requires of-requires-2 add-same-at add-same-at-2 same-at-requires returns)
+    (tie.spec
+    (λ c κs. search needs) (λ c κs. search needs) (λ c. search needs) (λ c. search needs) same-at-requires returns (λ c. search needs) (λ c. search needs) same-at-requires-2 returns-2)

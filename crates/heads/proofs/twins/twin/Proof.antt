@@ -29,7 +29,7 @@ returns-2 c =
 entry-same-requires : tie.Need-entry-same-requires
 entry-same-requires c κs =
     let s = c .before .before .before .before .before in let a = s .args in
-    (omega arith, omega arith, s .pre .0 .there, omega (arith, s .pre .0 .at, reach-page _ _ (s .pre .0 .reach) (a .y / 32)), s .pre .2)
+    (omega arith, omega arith, s .pre .0 .there, omega (arith, s .pre .0 .at, reach-page _ _ (s .pre .0 .reach) (a .y / 32)), s .pre .2, s .pre .3)
 
 returns-3 : tie.Need-returns-3
 returns-3 c =

@@ -3,7 +3,7 @@ use native.Mathlib.Omega.{arith}
 use Rattle.book.specs.Words.{vol}
 use Rattle.book.specs.Entries.{Table}
 use Rattle.book.specs.Decides.{Decides, holds, fails}
-use Rattle.heads.specs.Twins.{Apart}
+use Rattle.heads.specs.Twins.{no-type, Apart}
 use Rattle.heads.proofs.Heads.{users-reach, users-reached}
 use Rattle.heads.proofs.Judged.{users-table, rule4-users, rule4-by}
 use borrow.Author.Needs.{needs}
@@ -28,13 +28,13 @@ cast-top c = search needs
 apart-requires : tie.Need-apart-requires
 apart-requires c κs =
     let p = c .before in let f = p .before in let s = f .before .before .before .before in
-    (users-reached _ (omega arith) (s .pre .1) (s .pre .2) (f .flags-at .result) (p .page-at .result) (f .flags-at .ensures .0) (p .page-at .ensures .0), omega arith, omega arith, omega arith, s .pre .3)
+    (users-reached _ (omega arith) (s .pre .1) (s .pre .2) (f .flags-at .result) (p .page-at .result) (f .flags-at .ensures .0) (p .page-at .ensures .0), no-type, omega arith, omega arith, s .pre .3)
 
 returns-2 : tie.Need-returns-2
 returns-2 c =
     let p = c .before .before in let f = p .before in let i = f .before in let o = i .before in let s = o .before .before in let v = vol (s .args .img .now) in (
       rule4-by _ (c .apart .result) (holds (o .users-ok .result) _ (o .users-ok .ensures) (i .if1 .left))
-          (subst (λ (E : Table). Decides (c .apart .result) (Apart E 8 0 256)) (users-table v (f .flags-at .result) (p .page-at .result) (f .flags-at .ensures .0) (p .page-at .ensures .0)) (c .apart .ensures .0)),
+          (subst (λ (E : Table). Decides (c .apart .result) (Apart E 0 0 256)) (users-table v (f .flags-at .result) (p .page-at .result) (f .flags-at .ensures .0) (p .page-at .ensures .0)) (c .apart .ensures .0)),
       c .apart .ensures .1,
     )
 

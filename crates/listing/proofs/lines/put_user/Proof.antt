@@ -4,7 +4,8 @@ use native.Mathlib.Omega.{arith}
 use Rattle.book.specs.Words.{Words, vol}
 use Rattle.tree.proofs.Ready.{ready-users}
 use Rattle.tree.proofs.Entries.{user-in}
-use Rattle.book.specs.Listing.{userLine, field, givenAre, usedAre, spelled}
+use Rattle.book.specs.Listing.{userLine, field, givenAre, usedAre}
+use Rattle.book.specs.Names.{stored}
 use Rattle.listing.proofs.Writing.{wrote-as, wrote-then}
 use Rattle.listing.proofs.Texts.{user-there}
 use borrow.Author.Needs.{needs}
@@ -39,7 +40,7 @@ returns c =
     let pen = pf2 .before .before .before .before .before in let pb = pen .before .before .before .before in let pf = pb .before .before .before .before .before in
     let up = pf .before .before .before in let gi = up .before in let upa = gi .before in let st = upa .before .before .before in
     let a = st .args in
-    let s = ap (λ (w : Words). spelled w 1 16) (user-in (vol (a .img .now)) (a .u) _ (upa .user-page .ensures .0)) in
+    let s = ap (λ (w : Words). stored 16 w 1) (user-in (vol (a .img .now)) (a .u) _ (upa .user-page .ensures .0)) in
     let n = wrote-then (wrote-then (pf .put-field .ensures .0) (pb .put-bytes .ensures)) (wrote-as s (pen .put-entry-name .ensures .0)) in
     let g = wrote-then n (wrote-as (ap (field givenAre) (gi .given .ensures .0)) (pf2 .put-field2 .ensures .0)) in
     let x = wrote-then g (wrote-as (ap (field usedAre) (up .used-pages .ensures .0)) (pf3 .put-field3 .ensures .0)) in

@@ -1,27 +1,30 @@
 -- `page::names::legal_at` meets its contract. Assumes nothing.
+use mathlib.Core.Path.{subst}
+use Prim.Native.Nat.{ℕ, _<_}
 use native.Mathlib.Omega.{arith}
 use borrow.Author.Needs.{needs}
 use Rattle.book.specs.Words.{vol}
-use Rattle.page.proofs.Stored.{legal-by, legal-few}
+use Rattle.book.specs.Names.{ends}
+use Rattle.book.specs.Decides.{Decides}
+use Rattle.page.proofs.Stored.{legal-few, legal-all, legal-by}
 use Rattle.page.proofs.names.legal_at.Statement.{statement}
 use Rattle.page.proofs.names.legal_at.Tie as tie
 
-letters-at-requires : tie.Need-letters-at-requires
-letters-at-requires c κs = search needs
-
 returns : tie.Need-returns
 returns c =
-    let a = c .before .before .before .args in
-    legal-few (a .m) (a .n) (vol (a .img .now) (a .p)) (a .k) (c .before .letters-at .result) (c .before .letters-at .ensures) (omega arith)
-
-filled-at-requires : tie.Need-filled-at-requires
-filled-at-requires c κs = search needs
+    let l = c .before .letters-at in let a = c .before .before .before .args in
+    legal-few (a .m) (a .n) (vol (a .img .now) (a .p)) (a .k) (l .result) (l .ensures) (omega arith)
 
 returns-2 : tie.Need-returns-2
 returns-2 c =
-    let a = c .before .before .before .before .args in
-    let l = c .before .before .letters-at in
-    legal-by (a .m) (a .n) (vol (a .img .now) (a .p)) (a .k) (l .result) (c .filled-at .result) (l .ensures) (c .filled-at .ensures) (omega arith)
+    let l = c .before .before .letters-at in let a = c .before .before .before .before .args in
+    legal-all (a .m) (a .n) (vol (a .img .now) (a .p)) (a .k) (l .result) (l .ensures) (omega arith) (omega arith)
+
+returns-3 : tie.Need-returns-3
+returns-3 c =
+    let t = c .ends-name in let b = c .before .byte-at in let l = c .before .before .before .before .letters-at in let a = c .before .before .before .before .before .before .args in
+    legal-by (a .m) (a .n) (vol (a .img .now) (a .p)) (a .k) (l .result) (l .ensures) (t .result) (omega arith) (omega arith)
+    (subst (λ (x : ℕ). Decides (t .result) (0 < ends x)) (b .ensures) (t .ensures))
 
 pub legal-at-spec : {M : Type 1} → statement M
-legal-at-spec = tie.close (tie.spec letters-at-requires returns filled-at-requires returns-2)
+legal-at-spec = tie.close (tie.spec (λ c κs. search needs) returns returns-2 (λ c κs. omega arith) (λ c κs. search needs) returns-3)

@@ -14,7 +14,7 @@ use Rattle.seek.proofs.find.find_file.Tie as tie
 find-in-requires : tie.Need-find-in-requires
 unfolding objectFile
 find-in-requires c κs = let s = c .before .before .before .before .before in let v = vol (s .args .img .now) in
-    (reach-same _ _ _ (root-read (v 0) objectPointer 0 (c .before .flags-at .result) (c .page-at .result) 0 (c .before .flags-at .ensures .0) (c .page-at .ensures .0) refl) (ready-objects _ (s .pre .0)), omega arith, omega arith)
+    (reach-same _ _ _ (root-read (v 0) objectPointer 0 (c .before .flags-at .result) (c .page-at .result) 0 (c .before .flags-at .ensures .0) (c .page-at .ensures .0) refl) (ready-objects _ (s .pre .0)), omega arith)
 
 returns : tie.Need-returns
 unfolding objectFile

@@ -11,10 +11,10 @@ use Rattle.seek.proofs.find.find_in.Statement.{statement}
 use Rattle.seek.proofs.find.find_in.Tie as tie
 
 abbrev Inv-loop : tie.InvT-loop
-Inv-loop img flags top b name kind m i₀ i = (i ≤ 8) × ((n : ℕ) → n < 32 * i → Fits m name kind (entry (vol img) (rootBy flags top 0) (32 * b + n)) → ⊥)
+Inv-loop img flags top b name kind typed i₀ i = (i ≤ 8) × ((n : ℕ) → n < 32 * i → Fits typed name kind (entry (vol img) (rootBy flags top 0) (32 * b + n)) → ⊥)
 
 abbrev μ-loop : tie.MeasureT-loop
-μ-loop img flags top b name kind m i₀ i = 8 - i
+μ-loop img flags top b name kind typed i₀ i = 8 - i
 
 loop-holds : tie.Need-loop-holds Inv-loop μ-loop
 loop-holds c = (omega arith, λ n h d. omega arith)
@@ -26,7 +26,7 @@ root-page-requires : tie.Need-root-page-requires Inv-loop μ-loop
 root-page-requires c κs = c .before .before .before .before .before .pre .0
 
 find-on-requires : tie.Need-find-on-requires Inv-loop μ-loop
-find-on-requires c κs = (c .root-page .ensures .1, c .before .before .before .before .before .before .pre .2)
+find-on-requires c κs = c .root-page .ensures .1
 
 index-at-requires : tie.Need-index-at-requires Inv-loop μ-loop
 index-at-requires c κs = let f = c .before .before .before .find-on in
@@ -36,7 +36,7 @@ returns : tie.Need-returns Inv-loop μ-loop
 returns c =
     let r = c .before .before in let fo = r .before .before in let rp = fo .before in let l = rp .before .before in let s = l .before .before .before .before in
     let a = s .args in let v = vol (a .img .now) in let q = rp .root-page in let f = fo .find-on in let k = r .r .given .0 .0 in
-    found-on v (rootBy (a .flags) (a .top) 0) (a .b) (l .loop .i) (q .result) (q .ensures .0) (Fits (a .m) (a .name .now) (a .kind .now)) k (c .index-at .result) (omega arith) (c .index-at .ensures)
+    found-on v (rootBy (a .flags) (a .top) 0) (a .b) (l .loop .i) (q .result) (q .ensures .0) (Fits (a .typed) (a .name .now) (a .kind .now)) k (c .index-at .result) (omega arith) (c .index-at .ensures)
     (found-at _ (f .result) k (r .r .given .1) (f .ensures))
 
 add-i : tie.Need-add-i Inv-loop μ-loop
@@ -50,7 +50,7 @@ loop-again c =
     let fo = c .before .before in let rp = fo .before in let lo = rp .before .before in let s = lo .before .before .before .before in
     let a = s .args in let v = vol (a .img .now) in let q = rp .root-page in let f = fo .find-on in let l = lo .loop in (
       omega arith,
-      none-on v (rootBy (a .flags) (a .top) 0) (a .b) (l .i) (q .result) (q .ensures .0) (Fits (a .m) (a .name .now) (a .kind .now)) (l .inv .1)
+      none-on v (rootBy (a .flags) (a .top) 0) (a .b) (l .i) (q .result) (q .ensures .0) (Fits (a .typed) (a .name .now) (a .kind .now)) (l .inv .1)
           (found-none _ (f .result) (c .enum-told .given .1) (f .ensures)),
     )
 

@@ -13,10 +13,10 @@ use Rattle.seek.proofs.find.find_on.Statement.{statement}
 use Rattle.seek.proofs.find.find_on.Tie as tie
 
 abbrev Inv-loop : tie.InvT-loop
-Inv-loop img q name kind m k₀ k = (k ≤ 32) × ((j : ℕ) → j < k → Fits m name kind (entryIn (vol img) q j) → ⊥)
+Inv-loop img q name kind typed k₀ k = (k ≤ 32) × ((j : ℕ) → j < k → Fits typed name kind (entryIn (vol img) q j) → ⊥)
 
 abbrev μ-loop : tie.MeasureT-loop
-μ-loop img q name kind m k₀ k = 32 - k
+μ-loop img q name kind typed k₀ k = 32 - k
 
 returns : tie.Need-returns Inv-loop μ-loop
 returns c = λ i h. let a = c .before .before .before .before .args in omega (arith, h .1 .0, absent-used (vol (a .img .now)) (a .q) i (omega arith))

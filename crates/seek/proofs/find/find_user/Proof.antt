@@ -14,7 +14,7 @@ use Rattle.seek.proofs.find.find_user.Tie as tie
 find-in-requires : tie.Need-find-in-requires
 unfolding userFile
 find-in-requires c κs = let s = c .before .before .before .before in let v = vol (s .args .img .now) in
-    (reach-same _ _ _ (root-read (v 0) userPointer 0 (c .before .flags-at .result) (c .page-at .result) 0 (c .before .flags-at .ensures .0) (c .page-at .ensures .0) refl) (ready-users _ (s .pre)), omega arith, omega arith)
+    (reach-same _ _ _ (root-read (v 0) userPointer 0 (c .before .flags-at .result) (c .page-at .result) 0 (c .before .flags-at .ensures .0) (c .page-at .ensures .0) refl) (ready-users _ (s .pre)), omega arith)
 
 returns : tie.Need-returns
 unfolding userFile

@@ -1,11 +1,10 @@
--- `listing::name::byte_at` meets its contract. Assumes nothing.
+-- `page::names::byte_at` meets its contract. Assumes nothing.
 use native.Mathlib.Omega.{arith}
 use Rattle.book.specs.Words.{vol}
-use Rattle.page.proofs.Stored.{byte-odd}
-use Rattle.listing.proofs.Texts.{byte-even}
+use Rattle.page.proofs.Stored.{byte-even, byte-odd}
 use borrow.Author.Needs.{needs}
-use Rattle.listing.proofs.name.byte_at.Statement.{statement}
-use Rattle.listing.proofs.name.byte_at.Tie as tie
+use Rattle.page.proofs.names.byte_at.Statement.{statement}
+use Rattle.page.proofs.names.byte_at.Tie as tie
 
 returns : tie.Need-returns
 returns c = let a = c .before .before .before .before .args in omega (arith, c .high .ensures, c .before .before .word-at .ensures, byte-even (vol (a .img .now) (a .p)) (a .k) (a .i) (c .before .if1 .taken))
