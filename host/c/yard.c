@@ -428,6 +428,31 @@ static void listing(void)
     free(img);
 }
 
+/* Names as they are written and read: a short one ends in an apostrophe or a zero byte, and what stands behind that is nobody's. */
+static void names(void)
+{
+    static const char text[] = "VOLUME YARD PAGES 16 RESERVED 8 UNRESERVED 5\n"
+                               "USER 0 DOCK GIVEN 5 USED 2\n"
+                               "FILE 0 READS:DATA PAGES 1 INDEXED\n"
+                               "FILE 1 FIFTEEN-LETTERS: PAGES 0 EMPTY\n";
+    size_t words = 16 * PAGE, length = strlen(text);
+    uint16_t *img = yard16(), *user = img + 2 * PAGE, *file = img + 4 * PAGE + 32;
+    uint8_t out[200];
+    told("YARD is written with an apostrophe", img[1008] == 0x5941 && img[1009] == 0x5244 && img[1010] == 0x2700 && img[1011] == 0);
+    done("a name of 15 letters, and no type", nord_create_indexed(img, words, 0, TEXT("FIFTEEN-LETTERS"), TEXT(""), 0), 1);
+    told("its 16th byte is the apostrophe", file[8] == 0x5327);
+    told("no type is 0x2700 and 0", file[9] == 0x2700 && file[10] == 0);
+    refused("an apostrophe in an argument", nord_find_user(img, words, TEXT("DOCK'")), NORD_ARGUMENT);
+    img[1010] = 0x274F, img[1011] = 0x6C64, user[3] = 0x0041, file[10] = 0x4441;
+    done("find DOCK, with leftovers behind a zero byte", nord_find_user(img, words, TEXT("DOCK")), 0);
+    refused("DOCK, taken with another fill", nord_create_user(img, words, TEXT("DOCK")), NORD_TAKEN);
+    refused("a name and no type, taken with another fill", nord_create_indexed(img, words, 0, TEXT("FIFTEEN-LETTERS"), TEXT(""), 0), NORD_TAKEN);
+    told("the listing without what stands behind", nord_list(img, words, out, sizeof out) == length && memcmp(out, text, length) == 0);
+    img[1008] = 0x2741;
+    broken("an apostrophe first in the volume name", nord_check(img, words), NORD_RULE_VOLUME, 0, 1008);
+    free(img);
+}
+
 /* The yard's steps as a list, up to one that is refused and one after it; names and types are parts of the text. */
 static const uint8_t script_text[] = "YARDDOCKREADSDATARUN";
 
@@ -576,6 +601,7 @@ int main(void)
     held_twice();
     every_call();
     listing();
+    names();
     runs();
     nulls();
     free(img);

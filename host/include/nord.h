@@ -24,7 +24,18 @@
  *
  * Users, files, positions, pages and counts are size_t and judged in their full width: 2^32 + 1 pages is a wrong count, and not 1.
  *
- * Names are 1 to 16 bytes of A-Z, 0-9 and hyphen, types 0 to 4 such bytes, without fill.
+ * Names and types
+ *
+ * A name is 1 to 16 bytes of A-Z, 0-9 and hyphen, a type 0 to 4 such bytes. Both are lent without fill: an apostrophe (0x27) or a zero byte
+ * in one is a wrong argument (2).
+ *
+ * In the image a name has 8 words and a type 2, two bytes to a word, the high byte first. A name is the bytes before the first apostrophe or
+ * zero byte, or all 16 (a type: all 4). What stands behind that end is not looked at: names are compared, found and listed by the bytes before
+ * it. A stored name of no bytes is illegal; a type of none is the empty type.
+ *
+ * A short name or type that is written gets one apostrophe and then zeros, one of all 16 (4) bytes gets none: DOCK is 0x444F, 0x434B, 0x2700
+ * and five words of 0, the empty type 0x2700, 0. Format writes the volume's name, and the calls that create write the new entry's; no other
+ * call changes a word of a name. Names with zeros alone behind them, as earlier versions of this library wrote them, stay legal.
  */
 #ifndef NORD_H
 #define NORD_H

@@ -8,6 +8,7 @@ pub mod children;
 pub mod contest;
 pub mod disk;
 pub mod ext2;
+pub mod fill;
 pub mod goals;
 pub mod hostile;
 pub mod machine;

@@ -1,6 +1,6 @@
 //! Names that fall into few slots of the library's table of stamps (crates/heads/src/stamps.rt, twins.rt): about the worst it can be given,
 //! since a name whose two slots were both met is compared with all before it. The files have one name and differ in their types alone, so that
-//! each comparison is long too.
+//! each comparison is long too. Name and types fill their fields: no apostrophe ends them, and no slot depends on a fill.
 
 use second::name::{pack, NAME_WORDS, TYPE_WORDS};
 

@@ -86,7 +86,7 @@ impl Damage<'_> {
             1 => self.wrong_name(user.at + NAME, 8),
             2 => {
                 let other = scene.users.iter().find(|other| other.index != user.index)?;
-                self.copy(other.at + NAME, user.at + NAME, 8)
+                self.same_name(other.at + NAME, user.at + NAME, 8)
             }
             3 => self.two(user.at + USED, user.given + 1),
             4 if user.used > 0 => self.two(user.at + GIVEN, user.used - 1),
@@ -135,7 +135,8 @@ impl Damage<'_> {
             4 => self.wrong_name(file.at + TYPE, 2),
             5 => {
                 let other = self.some_file(|other| other.user == file.user && other.file != file.file)?;
-                self.copy(other.at + NAME, file.at + NAME, 10)
+                self.same_name(other.at + NAME, file.at + NAME, 8)?;
+                self.same_name(other.at + TYPE, file.at + TYPE, 2)
             }
             _ => {
                 let (_, block) = *scene.object_indexes.first()?;

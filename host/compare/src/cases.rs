@@ -7,7 +7,7 @@ use crate::report::told;
 use crate::script::Played;
 use crate::tally::Tally;
 use crate::text::{answer, replies, replies_in_words, step, Step};
-use crate::words::PAGE;
+use crate::words::{to_bytes, PAGE};
 use std::fs;
 use std::path::{Path, PathBuf};
 
@@ -47,6 +47,10 @@ fn one_case(folder: &Path, tally: &mut Tally) -> Result<String, String> {
         let (asked, wanted) = line.split_once(':').ok_or_else(|| format!("expect: `{line}` has no colon"))?;
         if let Some(place) = asked.strip_prefix("word ") {
             expect_word(&both, place, wanted)?;
+            continue;
+        }
+        if let Some(number) = asked.strip_prefix("line ") {
+            expect_line(&both, number, wanted)?;
             continue;
         }
         match step(asked).map_err(|error| format!("expect: `{asked}`: {error}"))? {
@@ -142,6 +146,20 @@ fn expect(both: &mut Both, asked: &str, call: Step, wanted: &Answer, tally: &mut
 fn expect_replies(asked: &str, played: &Played, wanted: &str) -> Result<(), String> {
     if played.replies[..played.made] != replies(wanted)? {
         return Err(format!("`{asked}` gives {}, {wanted} is expected", replies_in_words(played)));
+    }
+    Ok(())
+}
+
+/// A line `line N: TEXT` of expect: this is the N-th line of both programs' listings of the image.
+fn expect_line(both: &Both, number: &str, wanted: &str) -> Result<(), String> {
+    let wrong = || format!("expect: `line {number}:{wanted}` is not `line N: TEXT`");
+    let nth = number.parse::<usize>().ok().and_then(|number| number.checked_sub(1)).ok_or_else(wrong)?;
+    for listing in [proved::list(both.image()), second::list(&to_bytes(both.image()))] {
+        let listing = String::from_utf8_lossy(&listing).into_owned();
+        let line = listing.lines().nth(nth).unwrap_or("none");
+        if line != wanted.trim() {
+            return Err(format!("line {number} of the listing is `{line}`,{wanted} is expected"));
+        }
     }
     Ok(())
 }

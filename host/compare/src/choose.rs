@@ -4,7 +4,7 @@ use crate::calls::{Call, Data};
 use crate::random::Random;
 use crate::scene::{File, Scene, User};
 use crate::volumes::nth;
-use crate::words::PAGE;
+use crate::words::{ENDS, PAGE};
 
 /// What a sequence of calls is mostly about; each is a weight for every call in the order of `calls::NAMES`.
 pub type Profile = [u32; 19];
@@ -142,18 +142,26 @@ impl Choice<'_> {
     /// A name that is wrong somewhere.
     fn wrong_name(&mut self) -> Vec<u8> {
         let wrong: [&[u8]; 12] = [b"", b"yard", b"A B", b"A\0", b"\0A", b"A_B", b"@", b"[", b"/", b":", b"\xC1B", b"SEVENTEEN-LETTERS"];
-        self.random.pick(&wrong).to_vec()
+        let ended: [&[u8]; 4] = [b"A'", b"'", b"A'B", b"FIFTEEN-LETTERS'"];
+        match self.random.below(4) {
+            0 => self.random.pick(&ended).to_vec(),
+            1 => {
+                let known = self.some_user().map_or(b"DOCK".to_vec(), |user| user.name.clone());
+                [&known[..], &[*self.random.pick(&ENDS)]].concat()
+            }
+            _ => self.random.pick(&wrong).to_vec(),
+        }
     }
 
     fn wrong_type(&mut self) -> Vec<u8> {
-        let wrong: [&[u8]; 6] = [b"FIVES", b"a", b"A\0", b"\0", b"A,B", b"\x7F"];
+        let wrong: [&[u8]; 9] = [b"FIVES", b"a", b"A\0", b"\0", b"A,B", b"\x7F", b"A'", b"'", b"DAT'"];
         self.random.pick(&wrong).to_vec()
     }
 
     fn new_name(&mut self) -> Vec<u8> {
         match self.random.below(16) {
             0 => self.wrong_name(),
-            1 => b"SIXTEEN-LETTERS-".to_vec(),
+            1 => b"SIXTEEN-LETTERS-"[..self.random.between(14, 16) as usize].to_vec(),
             2 => vec![*self.random.pick(b"AZ09-")],
             _ => nth(self.random.below(400)),
         }
@@ -177,7 +185,7 @@ impl Choice<'_> {
         if self.random.one_in(24) {
             return self.wrong_type();
         }
-        self.random.pick(&[b"" as &[u8], b"A", b"X", b"DATA", b"T-1"]).to_vec()
+        self.random.pick(&[b"" as &[u8], b"A", b"X", b"DATA", b"DA", b"T-1"]).to_vec()
     }
 
     fn find_file(&mut self) -> Call {

@@ -41,6 +41,8 @@ pub enum Kind {
     Searches,
     /// Searches past 100 full words of the bit file.
     LargeSearches,
+    /// Names and types, with words for each of their edges.
+    Names,
 }
 
 /// How a round gets its volume's size: one of its own, or by chance between two.
@@ -100,6 +102,8 @@ pub const CYCLE: &[(u32, Kind, Size)] = &[
     (10, Kind::Searches, Size::Between(160, 240)),
     (6, Kind::LargeSearches, Size::Between(1_760, 2_048)),
     (1, Kind::LargeSearches, Size::Of(16_384)),
+    (5, Kind::Names, Size::Between(20, 32)),
+    (1, Kind::Names, Size::Between(33, 80)),
 ];
 
 /// One round: its kind and size by its number in the cycle.

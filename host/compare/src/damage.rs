@@ -1,5 +1,6 @@
 //! Damage: words to change on a sound volume. `aimed` has the damage for each rule; here is what it is made of, and damage by chance.
 
+use crate::fills::put_name;
 use crate::random::Random;
 use crate::scene::{File, Scene};
 use crate::words::*;
@@ -52,18 +53,31 @@ impl<'a> Damage<'a> {
         (users > 0).then(|| self.random.below(users) as usize)
     }
 
-    /// Makes a name (or type) wrong: a gap at its start or within, a byte after the fill, or a byte that is not legal.
+    /// Makes a name or type wrong: a byte before its end that is not legal, or, as a type may have no bytes, a name that has none.
     pub fn wrong_name(&mut self, at: usize, words: usize) -> Option<()> {
         let mut bytes = to_bytes(&self.image[at..at + words]);
-        let length = bytes.iter().take_while(|&&byte| byte != 0).count();
-        let illegal = *self.random.pick(b"a@[/:,. _\x01\x7F\xC1");
+        let length = bytes_of(&self.image[at..at + words]).len();
+        let illegal = *self.random.pick(b"az@[/:,.&( _\x01\x7F\x80\xA7\xC1");
         match self.random.below(4) {
-            0 if length > 1 => bytes[self.random.below(length as u32 - 1) as usize] = 0,
-            1 if length + 1 < bytes.len() => bytes[self.random.between(length as u32 + 1, 2 * words as u32 - 1) as usize] = b'A',
-            2 if words == 8 => bytes.fill(0),
+            0 if words == 8 => bytes[0] = *self.random.pick(&ENDS),
+            1 if words == 8 => bytes.fill(*self.random.pick(&ENDS)),
             _ => bytes[self.random.below(length.max(1) as u32) as usize] = illegal,
         }
-        from_bytes(&bytes).into_iter().enumerate().for_each(|(n, word)| self.words.push((at + n, word)));
+        self.put(at, &from_bytes(&bytes))
+    }
+
+    /// Gives a field the name or type of another one, with its fill or with one of its own.
+    pub fn same_name(&mut self, from: usize, to: usize, words: usize) -> Option<()> {
+        if self.random.one_in(3) {
+            return self.copy(from, to, words);
+        }
+        let mut field = vec![0; words];
+        put_name(self.random, &mut field, &bytes_of(&self.image[from..from + words]));
+        self.put(to, &field)
+    }
+
+    fn put(&mut self, at: usize, words: &[u16]) -> Option<()> {
+        self.words.extend((at..).zip(words.iter().copied()));
         Some(())
     }
 
@@ -84,8 +98,10 @@ impl<'a> Damage<'a> {
             let old = self.image[at];
             let pages = self.scene.pages as u16;
             let near = [0, 1, pages - 1, pages, old.wrapping_add(1), old.wrapping_sub(1), 0x4000, 0x8000, 0xC000, u16::MAX, 2_048];
-            let value = match self.random.below(4) {
+            let ended = [old & 0xFF, old & 0xFF00, old & 0xFF | 0x2700, old & 0xFF00 | 0x27];
+            let value = match self.random.below(5) {
                 0 => old ^ 1 << self.random.below(16),
+                4 => *self.random.pick(&ended),
                 1 => self.random.word(),
                 2 => self.random.below(self.scene.pages) as u16,
                 _ => *self.random.pick(&near),

@@ -4,6 +4,7 @@ use crate::both::{Answered, Both, Disagreement};
 use crate::calls::Call;
 use crate::choose::{Choice, Profile, ASKING, FILES, GROWING, MIXED, PROFILES, RUNS, SHRINKING, USERS};
 use crate::cycle::{Kind, Size};
+use crate::fills::{refill, refilled};
 use crate::meets::{leaves, meets};
 use crate::random::Random;
 use crate::scattered::scattered;
@@ -47,13 +48,17 @@ impl Round<'_> {
             Kind::DamagedScripts { times } => self.damaged_scripts(pages, times),
             Kind::Searches => self.searches(pages),
             Kind::LargeSearches => self.large_searches(pages),
+            Kind::Names => self.names(pages),
         }
     }
 
-    /// So many calls by chance, with a wrong length now and then.
+    /// So many calls by chance, with a wrong length now and then, and with other bytes behind some names.
     fn calls(&mut self, both: &mut Both, profile: &Profile, count: u32) -> Agreed {
         for _ in 0..count {
             let scene = Scene::read(both.image());
+            if self.random.one_in(8) {
+                both.put(&refill(&mut self.random, both.image(), &scene));
+            }
             let mut choice = Choice { random: &mut self.random, image: both.image(), scene: &scene };
             let (call, lent) = (choice.call(profile), choice.lent(60));
             self.one(both, &scene, lent, call)?;
@@ -165,7 +170,7 @@ impl Round<'_> {
     }
 
     fn all_files(&mut self) -> Agreed {
-        let mut both = Both::new(all_files());
+        let mut both = Both::new(all_files(&mut self.random));
         let (user, file) = (self.random.below(256) as usize, self.random.below(256) as usize);
         let new = Call::CreateIndexed { user, name: b"NEW".to_vec(), kind: Vec::new(), created: 1 };
         let first = self.plain(&mut both, new.clone())?;
@@ -233,11 +238,12 @@ impl Round<'_> {
             let call = Choice { random: &mut self.random, image: &image, scene: &scene }.call(&profile);
             call.on_second(&mut image);
         }
+        refilled(&mut self.random, &mut image);
         image
     }
 
     fn hostile(&mut self) -> Agreed {
-        let mut image = full_of_entries(262_144, S | 10_000);
+        let mut image = full_of_entries(&mut self.random, 262_144, S | 10_000);
         let circle = self.random.one_in(2);
         shared_blocks(&mut image, circle);
         let mut both = Both::new(image.clone());
@@ -249,7 +255,7 @@ impl Round<'_> {
         let answered = Both::new(image).call(Call::WhoHolds { page: 50 }, self.tally)?;
         assert_eq!(answered.call.place.page, 50, "the maker of the last two holders made another page the lowest");
         let length = self.random.between(16_383, 16_384);
-        Both::new(full_of_entries(length, 1)).call(Call::Shrink { user: 0, file: 0 }, self.tally)?;
+        Both::new(full_of_entries(&mut self.random, length, 1)).call(Call::Shrink { user: 0, file: 0 }, self.tally)?;
         Ok(())
     }
 }

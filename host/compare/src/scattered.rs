@@ -1,10 +1,12 @@
 //! Sound volumes that no sequence of calls gives: pages and indices by chance, stale words in free pages and in unused entries, empty user
-//! pages, object pages and index blocks, bits set past P, a subindexed object file with few users, any bits in word 0 of an entry.
+//! pages, object pages and index blocks, bits set past P, a subindexed object file with few users, any bits in word 0 of an entry, any bytes
+//! behind the end of a name.
 
 mod patterned;
 
 pub use patterned::{patterned, Beyond, Crowd, Wish, FIRST, LATER, OTHER};
 
+use crate::fills::put_name;
 use crate::random::Random;
 use crate::words::*;
 
@@ -97,7 +99,7 @@ impl Making<'_> {
     /// The volume's name and the bit page.
     fn master(&mut self) {
         let name = self.name(0);
-        put_bytes(&mut self.image[VOLUME_NAME..VOLUME_NAME + 8], &name);
+        put_name(self.random, &mut self.image[VOLUME_NAME..VOLUME_NAME + 8], &name);
         let page = self.system_page().expect("8 pages have room for the bit file");
         put_pair(&mut self.image, BIT_POINTER, page);
     }
@@ -141,7 +143,7 @@ impl Making<'_> {
     fn user(&mut self, index: u32, at: usize) {
         let name = self.name(index);
         self.image[at] |= 0x8000;
-        put_bytes(&mut self.image[at + NAME..at + NAME + 8], &name);
+        put_name(self.random, &mut self.image[at + NAME..at + NAME + 8], &name);
         self.image[at + OWN_INDEX] = index as u16;
         self.users.push((index, at, 0));
     }
@@ -264,8 +266,8 @@ impl Making<'_> {
         let opens = if self.random.one_in(4) { 65_535 } else { self.word_by_chance() };
         let entry = &mut self.image[at..at + 32];
         entry[0] |= 0x8000;
-        put_bytes(&mut entry[NAME..NAME + 8], &name);
-        put_bytes(&mut entry[TYPE..TYPE + 2], &kind);
+        put_name(self.random, &mut entry[NAME..NAME + 8], &name);
+        put_name(self.random, &mut entry[TYPE..TYPE + 2], &kind);
         entry[OWNER] = (number / 256) as u16;
         entry[OWN_NUMBER] = number as u16;
         entry[OPENS] = opens;

@@ -5,7 +5,7 @@ use crate::lent::Lent;
 use crate::words::PAGE;
 
 /// The parts that a step names by their places in what is lent.
-#[derive(Clone, Copy, Debug, PartialEq, Eq)]
+#[derive(Clone, Copy, Debug, PartialEq, Eq, PartialOrd, Ord)]
 pub enum Part {
     Name,
     Type,

@@ -3,6 +3,7 @@
 
 use crate::calls::{Answer, NAMES};
 use crate::edges::Edges;
+use crate::names::NameEdges;
 use crate::script::{is_step, Asked, Played, Script};
 use crate::spots::{Spot, SPOTS};
 use crate::twice::{pairs, FILE_SUBINDEX};
@@ -131,6 +132,8 @@ pub struct Tally {
     sizes: BTreeMap<u32, u64>,
     /// The edges of the searches for free pages.
     pub edges: Edges,
+    /// The edges of names as they are stored.
+    pub names: NameEdges,
     met: BTreeMap<Met, u64>,
 }
 
@@ -231,7 +234,8 @@ impl Tally {
         for (what, words, least) in MINIMUMS {
             demand(words.to_string(), self.met.get(&what).copied().unwrap_or(0), least);
         }
-        self.edges.demands().into_iter().for_each(|(words, met, least)| demand(words, met, least));
+        let edges = self.edges.demands().into_iter().chain(self.names.demands());
+        edges.for_each(|(words, met, least)| demand(words, met, least));
         short
     }
 
@@ -253,7 +257,7 @@ impl Tally {
         for (what, words, _) in MINIMUMS {
             let _ = writeln!(out, "{words}: {}", self.met.get(&what).copied().unwrap_or(0));
         }
-        out + "\n" + &self.edges.summary()
+        out + "\n" + &self.edges.summary() + "\n" + &self.names.summary()
     }
 
     /// How often each number was answered, and each rule was the lowest broken one: a line for a run of cases.
@@ -317,12 +321,12 @@ mod tests {
     use super::*;
 
     /// A run that met nothing is told so for each number, each rule twice, each call, each kind of place and pair of holders, each size,
-    /// each edge, and each edge of a search twice.
+    /// each edge, and each edge of a search and of a name, most of them twice.
     #[test]
     fn nothing_is_too_little() {
         let steps = NAMES.into_iter().filter(|name| can_be_a_step(name)).count();
         let wanted = 2 * 12 + 10 + 10 + NAMES.len() + steps + SPOTS.len() + pairs().len() + SIZES.len() + MINIMUMS.len();
-        let wanted = wanted + Edges::default().demands().len();
+        let wanted = wanted + Edges::default().demands().len() + NameEdges::default().demands().len();
         assert_eq!(Tally::default().too_little().len(), wanted);
     }
 }

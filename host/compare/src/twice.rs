@@ -1,6 +1,7 @@
 //! Small volumes that meet rules 1 to 7 and break rule 8: one page with two holders of wanted kinds, and volumes with files of every shape,
 //! also the longest, whose positions share their pages.
 
+use crate::fills::put_name;
 use crate::random::Random;
 use crate::volumes::nth;
 use crate::words::*;
@@ -94,7 +95,7 @@ impl Laid<'_> {
             Laid { random, image, pages, low, kinds, free, zeros: 0, full: 0, users: Vec::new(), user_index: 0, object_block: 0 };
         (laid.zeros, laid.full) = (laid.page(), laid.page());
         laid.fill(laid.full, 0, 512);
-        put_bytes(&mut laid.image[VOLUME_NAME..VOLUME_NAME + 8], b"YARD");
+        put_name(laid.random, &mut laid.image[VOLUME_NAME..VOLUME_NAME + 8], b"YARD");
         let bits = laid.as_kind(BIT_FILE);
         laid.put(BIT_POINTER, bits);
         laid
@@ -141,7 +142,7 @@ impl Laid<'_> {
             for index in [self.random.below(8), self.random.between(8, 31)] {
                 let entry = entry_at(page, index);
                 self.image[entry] = 0x8000;
-                put_bytes(&mut self.image[entry + NAME..entry + NAME + 8], &nth(index));
+                put_name(self.random, &mut self.image[entry + NAME..entry + NAME + 8], &nth(index));
                 self.image[entry + OWN_INDEX] = index as u16;
                 self.users.push((index, self.random.below(3)));
             }
@@ -183,7 +184,7 @@ impl Laid<'_> {
         let page = pair(&self.image, slot_at(self.object_block, number / 32));
         let entry = &mut self.image[entry_at(page, number)..][..32];
         entry[0] = 0x8000;
-        put_bytes(&mut entry[NAME..NAME + 8], &nth(number));
+        put_name(self.random, &mut entry[NAME..NAME + 8], &nth(number));
         entry[OWNER] = user as u16;
         entry[OWN_NUMBER] = number as u16;
         put_pair(entry, PAGES, pages);

@@ -1,6 +1,7 @@
 //! Volumes to begin with: formatted ones, long files and many users by the second program's calls (which are quick), and the ends of what
-//! an image can be.
+//! an image can be. Behind their names stands what the calls write, the zeros of old volumes, or anything.
 
+use crate::fills::{put_name, refilled};
 use crate::random::Random;
 use crate::scene::Scene;
 use crate::words::*;
@@ -30,6 +31,7 @@ pub fn formatted(random: &mut Random, pages: u32) -> Vec<u16> {
     let mut image = blank(random, pages);
     let bit_page = if random.one_in(3) { None } else { Some(random.between(1, pages - 1) as usize) };
     must(second::format(&mut image, b"YARD", bit_page));
+    refilled(random, &mut image);
     image
 }
 
@@ -39,6 +41,7 @@ pub fn with_owner(random: &mut Random, pages: u32, keep: u32) -> Vec<u16> {
     must(second::create_user(&mut image, b"DOCK"));
     let rest = pair(&image, UNRESERVED);
     must(second::give(&mut image, 0, (rest - keep.min(rest - 1)) as usize));
+    refilled(random, &mut image);
     image
 }
 
@@ -53,6 +56,7 @@ pub fn with_long_file(random: &mut Random, pages: u32, length: u32) -> Vec<u16> 
             must(second::grow(&mut image, 0, 1));
         }
     }
+    refilled(random, &mut image);
     image
 }
 
@@ -62,6 +66,26 @@ pub fn with_users(random: &mut Random, pages: u32, users: u32) -> Vec<u16> {
     for n in 0..users {
         must(second::create_user(&mut image, &nth(n)));
     }
+    refilled(random, &mut image);
+    image
+}
+
+/// A volume with three users. User 0 has an indexed file of two pages, an empty one and a contiguous one; the first two have one name. There
+/// is room for more files, and for each to grow.
+pub fn with_names(random: &mut Random, pages: u32) -> Vec<u16> {
+    let mut image = formatted(random, pages);
+    for name in [b"DOCK" as &[u8], b"RAMS-AND-EWES", b"SIXTEEN-LETTERS-"] {
+        must(second::create_user(&mut image, name));
+    }
+    must(second::give(&mut image, 0, 8));
+    must(second::give(&mut image, 1, 2));
+    must(second::create_indexed(&mut image, 0, b"READS", b"DATA", 0));
+    must(second::create_indexed(&mut image, 0, b"READS", b"TX", 0));
+    must(second::create_contiguous(&mut image, 0, b"RUN", b"", 0, 1));
+    for _ in 0..2 {
+        must(second::grow(&mut image, 0, 0));
+    }
+    refilled(random, &mut image);
     image
 }
 
@@ -74,12 +98,13 @@ pub fn with_files(random: &mut Random, pages: u32, files: u32) -> Vec<u16> {
             must(second::grow(&mut image, 0, file));
         }
     }
+    refilled(random, &mut image);
     image
 }
 
 /// 256 users and all 2,048 object pages, each entry a file of the same pages, bytes and pointer: what costs a check most. The object file
 /// has new blocks, whose bits and counts are not yet right.
-pub fn full_of_entries(length: u32, pointer: u32) -> Vec<u16> {
+pub fn full_of_entries(random: &mut Random, length: u32, pointer: u32) -> Vec<u16> {
     let mut image = vec![0; 16_384 * PAGE];
     must(second::format(&mut image, b"YARD", None));
     for n in 0..256 {
@@ -93,7 +118,7 @@ pub fn full_of_entries(length: u32, pointer: u32) -> Vec<u16> {
     for number in 0..65_536 {
         let entry = &mut image[1_000 * PAGE + 32 * number..][..32];
         entry[0] = 0x8000;
-        put_bytes(&mut entry[NAME..NAME + 8], &nth(number as u32 % 256));
+        put_name(random, &mut entry[NAME..NAME + 8], &nth(number as u32 % 256));
         entry[OWNER] = (number / 256) as u16;
         entry[OWN_NUMBER] = number as u16;
         put_pair(entry, PAGES, length);
@@ -104,8 +129,8 @@ pub fn full_of_entries(length: u32, pointer: u32) -> Vec<u16> {
 }
 
 /// A sound volume with 256 users who have 256 empty files each.
-pub fn all_files() -> Vec<u16> {
-    let mut image = full_of_entries(0, 0);
+pub fn all_files(random: &mut Random) -> Vec<u16> {
+    let mut image = full_of_entries(random, 0, 0);
     let scene = Scene::read(&image);
     let system = [0, scene.bit_page, scene.user_index, scene.object_block].into_iter();
     let blocks = scene.user_pages.iter().chain(&scene.object_indexes).chain(&scene.object_pages).map(|&(_, page)| page);
@@ -119,7 +144,7 @@ pub fn all_files() -> Vec<u16> {
     image
 }
 
-/// Two blocks that every file of `full_of_entries(262_144, S | 10_000)` shares; in a circle, the first is its own index block.
+/// Two blocks that every file of `full_of_entries` with 262,144 pages and the pointer `S | 10_000` shares; in a circle, the first is its own index block.
 pub fn shared_blocks(image: &mut [u16], circle: bool) {
     for slot in 0..512 {
         put_pair(image, slot_at(10_000, slot), if circle { 10_000 } else { 10_001 });

@@ -46,17 +46,18 @@ pub fn entry_at(page: u32, number: u32) -> usize {
     page as usize * PAGE + 32 * (number as usize % 32)
 }
 
-/// Writes bytes two to a word, the high byte first, filled with zeros.
+/// What ends a name or type that does not fill its field: an apostrophe, or a zero byte.
+pub const APOSTROPHE: u8 = 39;
+pub const ENDS: [u8; 2] = [APOSTROPHE, 0];
+
+/// Writes the bytes of a field, two to a word, the high byte first.
 pub fn put_bytes(words: &mut [u16], bytes: &[u8]) {
-    for (n, word) in words.iter_mut().enumerate() {
-        let byte = |at: usize| u16::from(bytes.get(at).copied().unwrap_or(0));
-        *word = byte(2 * n) << 8 | byte(2 * n + 1);
-    }
+    words.iter_mut().zip(bytes.chunks_exact(2)).for_each(|(word, two)| *word = u16::from_be_bytes([two[0], two[1]]));
 }
 
-/// The bytes of a name or type before its fill.
+/// The bytes of a name or type: those of its field before the first that ends it, or all.
 pub fn bytes_of(words: &[u16]) -> Vec<u8> {
-    words.iter().flat_map(|word| word.to_be_bytes()).take_while(|&byte| byte != 0).collect()
+    words.iter().flat_map(|word| word.to_be_bytes()).take_while(|byte| !ENDS.contains(byte)).collect()
 }
 
 /// An image as bytes, high byte first, as it is kept in a file.

@@ -66,6 +66,16 @@ pub enum Call {
     Open,
 }
 
+impl Call {
+    /// Whether the call takes a name, and is refused with the name as its subject.
+    fn names(self) -> bool {
+        matches!(
+            self,
+            Call::FindUser | Call::FindFile | Call::Format | Call::AddUser | Call::CreateIndexed | Call::CreateContiguous
+        )
+    }
+}
+
 /// A refusal: its number, with 3 the lowest broken rule and its place, and all that in words.
 #[derive(Debug, PartialEq, Eq)]
 pub struct Refusal {
@@ -83,6 +93,7 @@ impl Refusal {
         match reply.number {
             3 => unsound(reply),
             1 => plain(1, why(1, call).to_string()),
+            2 if call.names() => misspelled(format!("{}: {subject}", why(2, call)), &subject.to_string()),
             number => plain(number, format!("{}: {subject}", why(number, call))),
         }
     }
@@ -105,6 +116,16 @@ impl Refusal {
 fn plain(number: u32, words: String) -> Refusal {
     let (more, json) = (Vec::new(), json!({ "number": number, "rule": 0 }));
     Refusal { number, words, more, json }
+}
+
+/// Number 2 of a call that takes a name, with what is wrong in the name where that is easily done.
+fn misspelled(words: String, name: &str) -> Refusal {
+    let refusal = plain(2, words);
+    match name {
+        _ if name.contains('\'') => refusal.with("an apostrophe ends a short name in an image and is no part of it"),
+        _ if name.bytes().any(|byte| byte.is_ascii_lowercase()) => refusal.with("names are in capitals"),
+        _ => refusal,
+    }
 }
 
 /// Number 3: the rule and its place. `nord check` tells the rest.

@@ -14,6 +14,8 @@ pub struct Cli {
 
 const NAMES: &str =
     "A user is named DOCK, a file DOCK/READS:DATA or, without a type, DOCK/READS. An index is a number after @: user @0, file @0/@3.
+A name is 1 to 16 of A-Z, 0-9 and hyphen, a type 0 to 4 of them. The apostrophe that ends a short one in an image is no part of it: it is
+never shown, and a name given with it is refused (2).
 A file is a whole number of pages of 2,048 bytes. Images are high byte first, 8 to 16,384 pages.
 Exit status: 0 done; 1 to 11 the library's refusal; 64 wrong use; 74 input or output; 75 locked or changed by somebody else.
 A refused or failed command leaves the image as it was. `nord help COMMAND` has an example for each command.";

@@ -103,8 +103,8 @@ impl Broken<'_> {
         let says = self
             .told
             .as_ref()
-            .map(|(meaning, _)| &meaning.says)
-            .filter(|says| **says != decimal);
+            .map(|(meaning, _)| meaning.told())
+            .filter(|says| *says != decimal);
         let says = says.map(|says| format!(": {says}")).unwrap_or_default();
         format!("octal {}, decimal {decimal}{fill}{says}", octal(shown))
     }
@@ -133,6 +133,9 @@ impl Broken<'_> {
         }
         if let Some((meaning, expected)) = &self.told {
             json["there"]["says"] = meaning.says.clone().into();
+            if let Some(leftovers) = &meaning.leftovers {
+                json["there"]["leftovers"] = leftovers.clone().into();
+            }
             if let Some((from, to)) = expected.range {
                 (json["expected"]["from"], json["expected"]["to"]) = (from.into(), to.into());
             }

@@ -112,8 +112,8 @@ the answer is one object on standard output: "number" is 0 and the rest says wha
 in words, of a failure of the host "error" and "status". Of refusal 3 it has also "sentence" (the rule), "page" and "word" (its first broken place),
 "first" and "second" (the page's first two holders with rule 8, free else: "kind", "user", "file", "position");
 .B nord check
-adds "what" (what the words there are), "there" (what they are now), "expected" (in words, and "from" and "to" where numbers of one range are
-right) and the holders' names. Long work shows a bar on a terminal.
+adds "what" (what the words there are), "there" (what they are now, with "leftovers" where something stands behind the end of a name), "expected"
+(in words, and "from" and "to" where numbers of one range are right) and the holders' names. Long work shows a bar on a terminal.
 .SH COMMANDS
 "#;
 
@@ -127,6 +127,15 @@ or, without a type,
 By index they are written
 .BR @0 ", " @0/@3 " and " DOCK/@3 .
 A word without @ is always a name, also if it has digits alone.
+.PP
+In an image a name has 16 bytes and a type 4. One that is shorter ends before the first apostrophe or zero byte, and whatever stands behind that
+end is ignored: by the check, where names are compared, in listings and maps. A short name or type that is written gets one apostrophe
+(hexadecimal 27) and then zeros, so the empty type is the words 2700 and 0000; one that has all 16 or 4 bytes gets none. Volumes whose names have
+zeros alone behind them, as earlier versions wrote them, stay sound: a name is written where it is made, and all others stay as they are.
+.PP
+The apostrophe is no part of a name. It is not shown, and a name or type that is given with one is refused with 2, in words that say so.
+.B nord page
+shows the bytes as they stand in the image, and beside a name what is left behind its end ("leftovers" in JSON).
 "#;
 
 const FILES: &str = r#".SH FILES

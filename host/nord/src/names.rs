@@ -102,12 +102,11 @@ impl FileName {
     }
 }
 
-/// A name that fails and is a number may be meant as an index, and one in small letters as one in capitals.
+/// A name that is not there and is a number may be meant as an index.
 fn hint(refusal: Refusal, name: &str) -> Refusal {
     let digits = !name.is_empty() && name.bytes().all(|byte| byte.is_ascii_digit());
     match refusal.number {
         4 if digits => refusal.with(format!("an index is written @{name}")),
-        2 if name.bytes().any(|byte| byte.is_ascii_lowercase()) => refusal.with("names are in capitals"),
         _ => refusal,
     }
 }

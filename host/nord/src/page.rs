@@ -6,7 +6,7 @@ mod text;
 mod word;
 
 use crate::broken::Broken;
-use crate::volume::{meaning, Disk, Held, Holder, Meaning};
+use crate::volume::{character, meaning, Disk, Held, Holder, Meaning};
 
 /// The words of a page.
 pub const WORDS: u32 = proved::PAGE as u32;
@@ -53,6 +53,5 @@ impl Page<'_> {
 
 /// A word's two bytes as characters; a point stands for what cannot be shown.
 fn characters(value: u16) -> String {
-    let shown = |byte: u8| if (b' '..=b'~').contains(&byte) { char::from(byte) } else { '.' };
-    value.to_be_bytes().map(shown).into_iter().collect()
+    value.to_be_bytes().map(character).into_iter().collect()
 }

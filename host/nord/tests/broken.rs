@@ -50,7 +50,8 @@ fn hurt(sound: &[u16], held: &[u64], dice: &mut Dice) -> Vec<u16> {
         let entry = 32 * dice.below(3);
         let words = [1008 + dice.below(16), dice.below(1024), dice.below(24), entry + dice.below(32)];
         let word = if page == 0 { words[0] } else { words[1 + dice.below(3) as usize] };
-        let values = [dice.below(count), dice.below(40), dice.below(65536), 0, 16384, 32768, 0x4100];
+        let name = [0x4100, 0x2700, 0x4127, 0x2741, 0x5530][dice.below(5) as usize];
+        let values = [dice.below(count), dice.below(40), dice.below(65536), 0, 16384, 32768, name];
         image[(page * 1024 + word) as usize] = values[dice.below(7) as usize] as u16;
     }
     image
@@ -114,6 +115,8 @@ fn places_of_users_and_the_object_file() {
     let name = "name of user 1 U0, words 1-8 of his entry";
     let own = "a name of his own: user 0 has this one";
     is(says(&image, &[(users, 33, 0x5530)]), 4, (users, 33), name, own);
+    let refilled = [(users, 33, 0x5530), (users, 34, 0x0041), (users, 35, 0x2742)];
+    is(says(&image, &refilled), 4, (users, 33), name, own);
     let indexed = [(0, 1016, 0x4000), (0, 1017, first as u16)];
     is(says(&image, &indexed), 5, (0, 1016), pointer, "subindexed, as there is user 64 U64");
     let slot = "slot 4 of the object subindex, words 8-9";
@@ -136,7 +139,7 @@ fn places_of_users_and_the_object_file() {
     let unused = "not used (bit 15 clear), as there is no user 0";
     is(says(&image, &[(users, 0, 0)]), 6, (objects, 0), mark, unused);
     let kind = "type of U0/B:?Z (user 0 file 1), words 9-10 of its entry";
-    let four = "0 to 4 of A-Z, 0-9 and hyphen, then zeros";
+    let four = "0 to 4 of A-Z, 0-9 and hyphen, a shorter one ended by an apostrophe or a zero byte";
     is(says(&image, &[(objects, 41, 0x015a)]), 6, (objects, 41), kind, four);
 }
 

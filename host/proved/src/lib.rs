@@ -6,6 +6,7 @@
 //! that is neither null nor odd, as all slices of Rust have. Words are plain numbers; an image file has the high byte first.
 //!
 //! Indexes, positions, pages and counts are as wide as the header has them, so a number that 32 bits do not hold is refused and not cut.
+//! Names and types are bytes without fill: the apostrophe that ends a short one in an image is no part of it, and is refused in an argument.
 
 mod boundary;
 

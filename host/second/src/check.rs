@@ -2,12 +2,13 @@
 //! hold.
 
 use crate::bits::{bits_below, words_in_use};
-use crate::entry::{entry_words, file_pointer, is_used, name_words, object, type_words, user, EntryPlace, ENTRIES, ENTRIES_TO_A_PAGE};
-use crate::image::{all_zero, page_count, page_words, pair, BIT_POINTER, OBJECT_POINTER, UNRESERVED, USER_POINTER, VOLUME_NAME};
-use crate::name::{are_name_words, are_type_words, sort_key, NAME_WORDS};
+use crate::entry::{entry_words, file_pointer, is_used, object, stored_name, stored_type, user, EntryPlace, ENTRIES, ENTRIES_TO_A_PAGE};
+use crate::image::{all_zero, page_count, page_words, pair, BIT_POINTER, OBJECT_POINTER, UNRESERVED, USER_POINTER};
+use crate::name::Stored;
 use crate::place::broken;
 use crate::pointer::{pages_held, slot, Pointer, SLOTS};
 use crate::reply::{Outcome, Refusal, Reply};
+use crate::volume::volume_name;
 use crate::walk::Walk;
 
 /// Checks the image; with 0, the value is the number of visits.
@@ -32,7 +33,7 @@ struct User {
 /// What rule 6 learns of a used object.
 struct File {
     user: usize,
-    key: (u128, u128),
+    name: (Stored, Stored),
     pages: u32,
     bytes: u32,
     pointer: Pointer,
@@ -103,8 +104,7 @@ impl<'a> Parts<'a> {
     /// The volume's name and the bit pointer; gives the bit page.
     fn rule_1(&mut self) -> Result<u32, u32> {
         let bit_page = pair(self.image, BIT_POINTER);
-        let name = &self.image[VOLUME_NAME..][..NAME_WORDS];
-        rule(1, are_name_words(name) && self.in_range(bit_page))?;
+        rule(1, volume_name(self.image).is_name() && self.in_range(bit_page))?;
         self.system.push(bit_page);
         Ok(bit_page)
     }
@@ -153,10 +153,10 @@ impl<'a> Parts<'a> {
         let mut names = Vec::new();
         for (number, entry) in used_entries(self.image, user_pages) {
             let (given, used) = (pair(entry, user::GIVEN), pair(entry, user::USED));
-            let name = name_words(entry);
+            let name = stored_name(entry);
             let own = u32::from(entry[user::OWN_INDEX]) == number;
-            rule(4, own && are_name_words(name) && used <= given)?;
-            names.push(sort_key(name));
+            rule(4, own && name.is_name() && used <= given)?;
+            names.push(name);
             self.users[number as usize] = Some(User { given, used, held: 0 });
         }
         rule(4, all_differ(names))
@@ -194,20 +194,20 @@ impl<'a> Parts<'a> {
     fn rule_6(&mut self) -> Judged {
         for (number, entry) in used_entries(self.image, &self.object_pages) {
             let user = (number / ENTRIES) as usize;
-            let (name, kind) = (name_words(entry), type_words(entry));
+            let (name, kind) = (stored_name(entry), stored_type(entry));
             let numbered = usize::from(entry[object::USER]) == user && u32::from(entry[object::OWN_NUMBER]) == number;
-            let named = are_name_words(name) && are_type_words(kind);
+            let named = name.is_name() && kind.is_type();
             rule(6, self.users[user].is_some() && numbered && named)?;
             self.files.push(File {
                 user,
-                key: (sort_key(name), sort_key(kind)),
+                name: (name, kind),
                 pages: pair(entry, object::PAGES),
                 bytes: pair(entry, object::BYTES),
                 pointer: file_pointer(entry),
             });
         }
         let mut by_user = self.files.chunk_by(|a, b| a.user == b.user);
-        rule(6, by_user.all(|files| all_differ(files.iter().map(|file| file.key).collect())))
+        rule(6, by_user.all(|files| all_differ(files.iter().map(|file| file.name).collect())))
     }
 
     /// The files' shapes; also marks every held page, and adds up what each

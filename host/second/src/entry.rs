@@ -1,7 +1,7 @@
 //! Entries of the user file and the object file: 32 words, 32 to a page.
 
 use crate::image::{page_start, pair};
-use crate::name::{NAME_WORDS, TYPE_WORDS};
+use crate::name::{Stored, NAME_WORDS, TYPE_WORDS};
 use crate::pointer::Pointer;
 
 pub const ENTRY_WORDS: usize = 32;
@@ -70,12 +70,14 @@ pub fn is_used(entry: &[u16]) -> bool {
     entry[0] & USED_WORD != 0
 }
 
-pub fn name_words(entry: &[u16]) -> &[u16] {
-    &entry[NAME..][..NAME_WORDS]
+/// The name of a user or an object, as it is stored.
+pub fn stored_name(entry: &[u16]) -> Stored {
+    Stored::read(&entry[NAME..][..NAME_WORDS])
 }
 
-pub fn type_words(entry: &[u16]) -> &[u16] {
-    &entry[TYPE..][..TYPE_WORDS]
+/// The type of an object, as it is stored.
+pub fn stored_type(entry: &[u16]) -> Stored {
+    Stored::read(&entry[TYPE..][..TYPE_WORDS])
 }
 
 /// The pointer of an object's entry.

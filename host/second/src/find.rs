@@ -2,9 +2,9 @@
 
 use crate::arguments::index;
 use crate::check::demand_sound;
-use crate::entry::{entry_words, name_words, type_words};
+use crate::entry::{entry_words, stored_name, stored_type};
 use crate::image::{page_count, page_words};
-use crate::name::{is_name, is_type, pack, NAME_WORDS, TYPE_WORDS};
+use crate::name::{is_name, is_type, Stored};
 use crate::reply::{demand, Outcome, Refusal, Reply, ABSENT, BAD_ARGUMENT};
 use crate::volume::{data_page, file_entry, files, user_entry, users};
 
@@ -22,8 +22,8 @@ fn try_find_user(image: &[u16], name: &[u8]) -> Outcome {
 
 /// The used user with this name, on a sound image.
 pub(crate) fn user_named(image: &[u16], name: &[u8]) -> Option<u32> {
-    let wanted = pack::<NAME_WORDS>(name);
-    let found = users(image).find(|(_, entry)| name_words(entry) == wanted);
+    let wanted = Stored::of(name);
+    let found = users(image).find(|(_, entry)| stored_name(entry) == wanted);
     found.map(|(user, _)| user)
 }
 
@@ -42,9 +42,9 @@ fn try_find_file(image: &[u16], user: usize, name: &[u8], kind: &[u8]) -> Outcom
 
 /// The user's file with this name and type, on a sound image.
 pub(crate) fn file_named(image: &[u16], user: u32, name: &[u8], kind: &[u8]) -> Option<u32> {
-    let (name, kind) = (pack::<NAME_WORDS>(name), pack::<TYPE_WORDS>(kind));
+    let (name, kind) = (Stored::of(name), Stored::of(kind));
     let mut files = files(image, user);
-    let found = files.find(|(_, entry)| name_words(entry) == name && type_words(entry) == kind);
+    let found = files.find(|(_, entry)| stored_name(entry) == name && stored_type(entry) == kind);
     found.map(|(file, _)| file)
 }
 

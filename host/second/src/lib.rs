@@ -5,7 +5,7 @@
 //! An image is a slice of 16-bit words; P is its length divided by 1,024.
 //! Each call answers by the numbers of document 01's table, and says with 3
 //! where the image is broken (document 02, T-01). Free pages are searched a word
-//! of the bit file at a step (T-02).
+//! of the bit file at a step (T-02). Short names end in an apostrophe (T-03).
 
 #![forbid(unsafe_code)]
 

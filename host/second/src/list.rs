@@ -2,11 +2,11 @@
 
 use crate::bits::reserved_count;
 use crate::check::check;
-use crate::entry::{file_pointer, name_words, object, type_words, user};
-use crate::image::{pair, PAGE_WORDS, VOLUME_NAME};
-use crate::name::{unpack, NAME_WORDS};
+use crate::entry::{file_pointer, object, stored_name, stored_type, user};
+use crate::image::{pair, PAGE_WORDS};
+use crate::name::Stored;
 use crate::pointer::Pointer;
-use crate::volume::{bits, files, unreserved, users};
+use crate::volume::{bits, files, unreserved, users, volume_name};
 
 /// Bytes of the largest image that is listed.
 const MOST_BYTES: usize = 32 * 2 * PAGE_WORDS;
@@ -25,16 +25,16 @@ pub fn list(bytes: &[u8]) -> Vec<u8> {
     }
 }
 
-/// The words of a name or type as text.
-fn text(words: &[u16]) -> String {
-    unpack(words).into_iter().map(char::from).collect()
+/// A name or type as text, without what ends it.
+fn text(name: Stored) -> String {
+    name.bytes().map(char::from).collect()
 }
 
 fn list_sound(image: &[u16]) -> String {
     let pages = (image.len() / PAGE_WORDS) as u32;
     let mut lines = format!(
         "VOLUME {} PAGES {pages} RESERVED {} UNRESERVED {}\n",
-        text(&image[VOLUME_NAME..][..NAME_WORDS]),
+        text(volume_name(image)),
         reserved_count(bits(image), pages),
         unreserved(image),
     );
@@ -49,7 +49,7 @@ fn list_sound(image: &[u16]) -> String {
 
 fn user_line(index: u32, entry: &[u16]) -> String {
     let (given, used) = (pair(entry, user::GIVEN), pair(entry, user::USED));
-    format!("USER {index} {} GIVEN {given} USED {used}\n", text(name_words(entry)))
+    format!("USER {index} {} GIVEN {given} USED {used}\n", text(stored_name(entry)))
 }
 
 fn file_line(file: u32, entry: &[u16]) -> String {
@@ -61,8 +61,8 @@ fn file_line(file: u32, entry: &[u16]) -> String {
     };
     format!(
         "FILE {file} {}:{} PAGES {} {kind}\n",
-        text(name_words(entry)),
-        text(type_words(entry)),
+        text(stored_name(entry)),
+        text(stored_type(entry)),
         pair(entry, object::PAGES),
     )
 }

@@ -1,9 +1,17 @@
-//! Names and types: bytes of A-Z, 0-9 and hyphen, two to a word, the high
-//! byte first, filled with zeros.
+//! Names and types: bytes of A-Z, 0-9 and hyphen, two to a word of their field,
+//! the high byte first. A short one ends with an apostrophe or a zero byte, and
+//! what stands behind that is nobody's (document 02, T-03).
 
 /// Words of a name and of a type in an entry.
 pub const NAME_WORDS: usize = 8;
 pub const TYPE_WORDS: usize = 2;
+
+/// What ends a short name or type as it is written.
+const APOSTROPHE: u8 = b'\'';
+
+/// The bytes of the longest field, and all of them as a number's bits.
+const MOST_BYTES: usize = 2 * NAME_WORDS;
+const BITS: u32 = 8 * MOST_BYTES as u32;
 
 fn is_legal_byte(byte: u8) -> bool {
     matches!(byte, b'A'..=b'Z' | b'0'..=b'9' | b'-')
@@ -19,51 +27,188 @@ pub fn is_type(bytes: &[u8]) -> bool {
     bytes.len() <= 2 * TYPE_WORDS && bytes.iter().all(|&b| is_legal_byte(b))
 }
 
-/// The words of a legal name or type.
+/// The words that are written for a legal name or type: its bytes, where these
+/// do not fill the field one apostrophe, then zeros.
 pub fn pack<const N: usize>(bytes: &[u8]) -> [u16; N] {
     let mut words = [0; N];
-    for (place, &byte) in bytes.iter().enumerate() {
+    let ended = bytes.iter().chain(&[APOSTROPHE]).take(2 * N);
+    for (place, &byte) in ended.enumerate() {
         words[place / 2] |= u16::from(byte) << if place % 2 == 0 { 8 } else { 0 };
     }
     words
 }
 
-fn bytes_of(words: &[u16]) -> impl Iterator<Item = u8> + '_ {
-    words.iter().flat_map(|word| word.to_be_bytes())
+/// A name or type as its field has it: the bytes before the first apostrophe or
+/// zero byte, or all bytes of the field. They are kept as one number, the first
+/// byte highest and zeros behind the last; as none of them is zero, two are
+/// equal exactly where their bytes are.
+#[derive(Clone, Copy, PartialEq, Eq, PartialOrd, Ord, Hash)]
+pub struct Stored(u128);
+
+impl Stored {
+    /// What the words of a field have. A field shorter than the longest has
+    /// zeros behind it here, which end it.
+    pub fn read(field: &[u16]) -> Stored {
+        let whole = field.iter().fold(0, |all, &word| all << 16 | u128::from(word));
+        let all = whole << (BITS - 16 * field.len() as u32);
+        let ends = zero_bytes(all) | zero_bytes(all ^ each_byte(APOSTROPHE));
+        let before = ends.leading_zeros() & !7;
+        Stored(all & !u128::MAX.checked_shr(before).unwrap_or(0))
+    }
+
+    /// What a field with a caller's legal name or type has, whatever its fill.
+    pub fn of(bytes: &[u8]) -> Stored {
+        let all = bytes.iter().fold(0, |all, &byte| all << 8 | u128::from(byte));
+        Stored(all.checked_shl(BITS - 8 * bytes.len() as u32).unwrap_or(0))
+    }
+
+    fn length(self) -> usize {
+        MOST_BYTES - self.0.trailing_zeros() as usize / 8
+    }
+
+    /// Its bytes, without what ends it.
+    pub fn bytes(self) -> impl Iterator<Item = u8> {
+        self.0.to_be_bytes().into_iter().take(self.length())
+    }
+
+    /// Whether it is a legal name: there is at least one byte, and all are legal.
+    pub fn is_name(self) -> bool {
+        self.0 != 0 && self.is_type()
+    }
+
+    /// Whether it is a legal type, which may have no bytes.
+    pub fn is_type(self) -> bool {
+        let bytes = self.0.to_be_bytes();
+        bytes[..self.length()].iter().all(|&byte| is_legal_byte(byte))
+    }
 }
 
-/// The bytes of a name or type, without the fill.
-pub fn unpack(words: &[u16]) -> Vec<u8> {
-    bytes_of(words).take_while(|&byte| byte != 0).collect()
+/// A number with this byte in each of its places.
+const fn each_byte(byte: u8) -> u128 {
+    u128::MAX / 0xFF * byte as u128
 }
 
-/// How many legal bytes come before the fill, where nothing else is there.
-fn legal_length(words: &[u16]) -> Option<usize> {
-    let mut length = 0;
-    let mut filling = false;
-    for byte in bytes_of(words) {
-        if byte == 0 {
-            filling = true;
-        } else if filling || !is_legal_byte(byte) {
-            return None;
-        } else {
-            length += 1;
+/// Bit 7 of each byte that is zero, and no other bit. Added to the lower seven
+/// bits of a byte, 127 carries into bit 7 unless they are all zero, and never
+/// into the next byte.
+fn zero_bytes(number: u128) -> u128 {
+    let low = each_byte(0x7F);
+    !(((number & low) + low) | number | low)
+}
+
+#[cfg(test)]
+mod tests {
+    use super::*;
+
+    /// Bytes as the words of a field.
+    fn field<const N: usize>(bytes: [u8; N]) -> Vec<u16> {
+        bytes.chunks(2).map(|two| u16::from_be_bytes([two[0], two[1]])).collect()
+    }
+
+    /// What a field has, byte for byte, as the request says it.
+    fn before_the_end(bytes: &[u8]) -> Vec<u8> {
+        let end = bytes.iter().position(|&byte| byte == 39 || byte == 0);
+        bytes[..end.unwrap_or(bytes.len())].to_vec()
+    }
+
+    fn read(bytes: [u8; 16]) -> Vec<u8> {
+        Stored::read(&field(bytes)).bytes().collect()
+    }
+
+    #[test]
+    fn every_byte_in_every_place() {
+        for byte in 0..=255 {
+            for place in 0..16 {
+                let mut bytes = *b"SIXTEEN-LETTERS-";
+                bytes[place] = byte;
+                assert_eq!(read(bytes), before_the_end(&bytes), "byte {byte} in place {place}");
+            }
+            for place in 0..4 {
+                let mut bytes = *b"DATA";
+                bytes[place] = byte;
+                let stored: Vec<u8> = Stored::read(&field(bytes)).bytes().collect();
+                assert_eq!(stored, before_the_end(&bytes), "byte {byte} in place {place} of a type");
+            }
         }
     }
-    Some(length)
-}
 
-/// Whether the eight words of a name are those of a legal one.
-pub fn are_name_words(words: &[u16]) -> bool {
-    matches!(legal_length(words), Some(length) if length > 0)
-}
+    /// Any two bytes side by side: neither changes what the other is taken for.
+    #[test]
+    fn every_two_bytes() {
+        for two in 0..=u16::MAX {
+            let [one, other] = two.to_be_bytes();
+            let bytes = *b"AB--EFGHIJKLMNOP";
+            let (mut first, mut last) = (bytes, bytes);
+            (first[2], first[3]) = (one, other);
+            (last[14], last[15]) = (one, other);
+            assert_eq!(read(first), before_the_end(&first));
+            assert_eq!(read(last), before_the_end(&last));
+        }
+    }
 
-/// Whether the two words of a type are those of a legal one.
-pub fn are_type_words(words: &[u16]) -> bool {
-    legal_length(words).is_some()
-}
+    #[test]
+    fn the_first_end_counts() {
+        assert_eq!(read(*b"AB'CD'EF\0GHIJKLM"), b"AB");
+        assert_eq!(read(*b"AB\0CD'EF\0GHIJKLM"), b"AB");
+        assert_eq!(read(*b"'B\0CD'EF\0GHIJKLM"), b"");
+        assert_eq!(read(*b"\0B\0CD'EF\0GHIJKLM"), b"");
+    }
 
-/// A name's or type's words as one number, to sort by.
-pub fn sort_key(words: &[u16]) -> u128 {
-    words.iter().fold(0, |key, &word| key << 16 | u128::from(word))
+    #[test]
+    fn equal_whatever_the_fill() {
+        let fills: [[u8; 16]; 5] = [
+            *b"DOCK'\0\0\0\0\0\0\0\0\0\0\0",
+            *b"DOCK\0\0\0\0\0\0\0\0\0\0\0\0",
+            *b"DOCK'leftover \xFF-",
+            *b"DOCK\0LEFT'OVER\0\0",
+            *b"DOCK''''''''''''",
+        ];
+        for fill in fills {
+            assert!(Stored::read(&field(fill)) == Stored::of(b"DOCK"));
+            assert!(Stored::read(&field(fill)) != Stored::of(b"DOC"));
+        }
+        assert!(Stored::read(&field(*b"DOCK-'\0\0\0\0\0\0\0\0\0\0")) != Stored::of(b"DOCK"));
+        assert!(Stored::read(&field(*b"'ATA")) == Stored::of(b""));
+        assert!(Stored::read(&field(*b"\0ATA")) == Stored::of(b""));
+        assert!(Stored::read(&field(*b"DATA")) == Stored::of(b"DATA"));
+        assert!(Stored::read(&field(*b"SIXTEEN-LETTERS-")) == Stored::of(b"SIXTEEN-LETTERS-"));
+    }
+
+    #[test]
+    fn legal_before_the_end() {
+        let is_name = |bytes: [u8; 16]| Stored::read(&field(bytes)).is_name();
+        assert!(is_name(*b"SIXTEEN-LETTERS-") && is_name(*b"FIFTEEN-LETTERS'") && is_name(*b"FIFTEEN-LETTERS\0"));
+        assert!(is_name(*b"A'lower case\xFF\x00\x01 ") && is_name(*b"A\0lower case\xFF\x00\x01 "));
+        assert!(!is_name(*b"'OCK\0\0\0\0\0\0\0\0\0\0\0\0") && !is_name([0; 16]));
+        assert!(!is_name(*b"DOCk'\0\0\0\0\0\0\0\0\0\0\0") && !is_name(*b"SIXTEEN-LETTERSs"));
+        let is_type = |bytes: [u8; 4]| Stored::read(&field(bytes)).is_type();
+        assert!(is_type(*b"DATA") && is_type(*b"DAT'") && is_type(*b"DAT\0") && is_type(*b"D'at") && is_type(*b"D\0at"));
+        assert!(is_type(*b"'ata") && is_type(*b"\0ata") && is_type([0; 4]));
+        assert!(!is_type(*b"DATa") && !is_type(*b"a'\0\0") && !is_type(*b" \0\0\0"));
+    }
+
+    /// The numbers to check by of the readings, and the longest and shortest.
+    #[test]
+    fn what_is_written() {
+        assert_eq!(pack::<NAME_WORDS>(b"DOCK"), [0x444F, 0x434B, 0x2700, 0, 0, 0, 0, 0]);
+        assert_eq!(pack::<NAME_WORDS>(b"READS"), [0x5245, 0x4144, 0x5327, 0, 0, 0, 0, 0]);
+        assert_eq!(pack::<TYPE_WORDS>(b"DATA"), [0x4441, 0x5441]);
+        assert_eq!(pack::<TYPE_WORDS>(b"T-1"), [0x542D, 0x3127]);
+        assert_eq!(pack::<TYPE_WORDS>(b"A"), [0x4127, 0]);
+        assert_eq!(pack::<TYPE_WORDS>(b""), [0x2700, 0]);
+        assert_eq!(pack::<NAME_WORDS>(b"FIFTEEN-LETTERS")[7], 0x5327);
+        assert_eq!(pack::<NAME_WORDS>(b"SIXTEEN-LETTERS-")[7], 0x532D);
+    }
+
+    /// What is written is read as it was asked for, of every length.
+    #[test]
+    fn written_and_read() {
+        let bytes = b"SIXTEEN-LETTERS-";
+        for length in 0..=16 {
+            assert!(Stored::read(&pack::<NAME_WORDS>(&bytes[..length])) == Stored::of(&bytes[..length]));
+        }
+        for length in 0..=4 {
+            assert!(Stored::read(&pack::<TYPE_WORDS>(&bytes[..length])) == Stored::of(&bytes[..length]));
+        }
+    }
 }

@@ -3,7 +3,8 @@
 
 use crate::bits::{release, reserve};
 use crate::entry::{entry_words, file_pointer, is_used, object, object_number, EntryPlace, ENTRIES};
-use crate::image::{page_words, page_words_mut, pair, BIT_POINTER, OBJECT_POINTER, UNRESERVED, USER_POINTER};
+use crate::image::{page_words, page_words_mut, pair, BIT_POINTER, OBJECT_POINTER, UNRESERVED, USER_POINTER, VOLUME_NAME};
+use crate::name::{Stored, NAME_WORDS};
 use crate::pointer::{block_and_slot, index_blocks, slot, Pointer};
 use crate::search::lowest_free;
 
@@ -13,6 +14,11 @@ pub(crate) enum Role {
     Subindex,
     Index,
     Data,
+}
+
+/// The volume's name, as it is stored.
+pub(crate) fn volume_name(image: &[u16]) -> Stored {
+    Stored::read(&image[VOLUME_NAME..][..NAME_WORDS])
 }
 
 pub(crate) fn user_pointer(image: &[u16]) -> Pointer {

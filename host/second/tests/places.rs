@@ -94,7 +94,7 @@ fn three_files() -> Vec<u16> {
 #[test]
 fn words_of_objects_ascend() {
     let image = three_files();
-    let (name, kind, owner, own) = ((4, 33, 0), (4, 41, 1), (4, 48, 7), (4, 49, 7));
+    let (name, kind, owner, own) = ((4, 33, 0), (4, 41, 0x6100), (4, 48, 7), (4, 49, 7));
     assert_eq!(with(&image, &[own, owner, kind, name]), unsound(6, 4, 33));
     assert_eq!(with(&image, &[own, owner, kind]), unsound(6, 4, 41));
     assert_eq!(with(&image, &[own, owner]), unsound(6, 4, 48));
@@ -108,7 +108,7 @@ fn words_of_objects_ascend() {
     assert_eq!(with(&image, &later), unsound(6, 4, 49));
     // Files 0 and 1 have one name and one illegal type: the lower one's type.
     let twins: Vec<(usize, usize, u16)> = (1..9).map(|n| (4, 32 + n, image[4 * 1024 + n])).collect();
-    let illegal = [(4, 9, 1), (4, 41, 1), (4, 10, 0), (4, 42, 0)];
+    let illegal = [(4, 9, 0x6100), (4, 41, 0x6100), (4, 10, 0), (4, 42, 0)];
     let both: Vec<(usize, usize, u16)> = twins.into_iter().chain(illegal).collect();
     assert_eq!(with(&image, &both), unsound(6, 4, 9));
 }

@@ -95,7 +95,10 @@ fn number_2_for_indexes_and_counts() {
 #[test]
 fn number_2_for_names_and_types() {
     let image = two_users();
-    let names: [&[u8]; 6] = [b"", b"abc", b"A B", b"A\0", b"ABCDEFGHIJKLMNOPQ", b"A_B"];
+    let wrong: [&[u8]; 6] = [b"", b"abc", b"A B", b"A\0", b"ABCDEFGHIJKLMNOPQ", b"A_B"];
+    // What ends a stored name is no part of it.
+    let ended: [&[u8]; 5] = [b"DOCK'", b"DOCK\0", b"'", b"A'B", b"FIFTEEN-LETTERS'"];
+    let names = wrong.into_iter().chain(ended);
     for name in names {
         refuses(&image, 2, |image| format(image, name, None));
         refuses(&image, 2, |image| find_user(image, name));
@@ -104,7 +107,7 @@ fn number_2_for_names_and_types() {
         refuses(&image, 2, |image| create_indexed(image, 0, name, b"", 0));
         refuses(&image, 2, |image| create_contiguous(image, 0, name, b"", 0, 1));
     }
-    let kinds: [&[u8]; 4] = [b"a", b"ABCDE", b"A\0", b":"];
+    let kinds: [&[u8]; 7] = [b"a", b"ABCDE", b"A\0", b":", b"A'", b"'", b"\0"];
     for kind in kinds {
         refuses(&image, 2, |image| find_file(image, 0, b"A", kind));
         refuses(&image, 2, |image| create_indexed(image, 0, b"A", kind, 0));

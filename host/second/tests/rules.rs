@@ -47,8 +47,9 @@ fn rule_1() {
     assert_eq!(check(&vec![0; 8 * 1024]), unsound(1, 0, 1008));
     assert_eq!(check(&vec![u16::MAX; 8 * 1024]), unsound(1, 0, 1008));
     assert_eq!(word(1008, 0), unsound(1, 0, 1008), "the name starts with fill");
+    assert_eq!(word(1008, 0x2759), unsound(1, 0, 1008), "the name starts with an apostrophe");
     assert_eq!(word(1008, u16::from_be_bytes(*b"ya")), unsound(1, 0, 1008));
-    assert_eq!(word(1011, u16::from_be_bytes(*b"YA")), unsound(1, 0, 1008), "bytes after fill");
+    assert_eq!(word(1010, 0x2041), unsound(1, 0, 1008), "a blank before the end");
     for bad in [0, 32, u32::MAX, I | 16, S | 16] {
         assert_eq!(two_words(1020, bad), unsound(1, 0, 1020));
     }
@@ -90,7 +91,8 @@ fn rule_4() {
     assert_eq!(word(USER + 18, 1), unsound(4, 2, 18));
     assert_eq!(word(USER + 18, 256), unsound(4, 2, 18));
     assert_eq!(word(USER + 1, 0), unsound(4, 2, 1));
-    assert_eq!(word(USER + 8, 0x00FF), unsound(4, 2, 1));
+    assert_eq!(word(USER + 1, 0x2744), unsound(4, 2, 1));
+    assert_eq!(word(USER + 3, 0x4160), unsound(4, 2, 1));
     assert_eq!(two_words(USER + 16, 7), unsound(4, 2, 16));
     let twins = judged(|image| {
         create_user(image, b"RAMS");
@@ -134,7 +136,8 @@ fn rule_6() {
     assert_eq!(word(OBJECT + 16, 1), unsound(6, 4, 16));
     assert_eq!(word(OBJECT + 17, 1), unsound(6, 4, 17));
     assert_eq!(word(OBJECT + 1, 0), unsound(6, 4, 1));
-    assert_eq!(word(OBJECT + 9, 0x0041), unsound(6, 4, 9), "a type with leading fill");
+    assert_eq!(word(OBJECT + 1, 0x2752), unsound(6, 4, 1));
+    assert_eq!(word(OBJECT + 9, 0x6141), unsound(6, 4, 9));
     assert_eq!(word(OBJECT + 10, 0x2020), unsound(6, 4, 9));
     // The user's entry no longer used.
     assert_eq!(word(USER, 0), unsound(6, 4, 0));
@@ -338,6 +341,12 @@ fn odd_but_sound() {
     assert_eq!(word(OBJECT, 0x8001), done(8));
     assert_eq!(word(OBJECT + 18, 77), done(8));
     assert_eq!(word(USER + 13, 77), done(8));
+    // Bytes behind the end of a name, and a type whose first byte ends it.
+    assert_eq!(word(1015, 0x00FF), done(8));
+    assert_eq!(word(USER + 8, 0x00FF), done(8));
+    assert_eq!(word(OBJECT + 8, 0x00FF), done(8));
+    assert_eq!(word(OBJECT + 9, 0x0041), done(8));
+    assert_eq!(word(OBJECT + 9, 0x2741), done(8));
     // An unused entry may hold anything else.
     assert_eq!(judged(|image| image[USER + 33..USER + 64].fill(0xFFFF)), done(8));
     // An object page of a user who is not there.

@@ -25,7 +25,7 @@ fn format_writes_its_words_alone() {
     let mut image = before.clone();
     assert_eq!(format(&mut image, b"YARD-7", Some(19)), done(0));
     let entry = &image[1008..1024];
-    assert_eq!(entry[..4], [0x5941, 0x5244, 0x2D37, 0]);
+    assert_eq!(entry[..4], [0x5941, 0x5244, 0x2D37, 0x2700]);
     assert_eq!(entry[4..], [0, 0, 0, 0, 0, 0, 0, 0, 0, 19, 0, 18]);
     assert_eq!(image[..1008], before[..1008]);
     assert_eq!(image[1024..19 * 1024], before[1024..19 * 1024]);
@@ -40,12 +40,13 @@ fn a_user_is_written() {
     format(&mut image, b"YARD", None);
     assert_eq!(create_user(&mut image, b"A"), done(0));
     let mut entry = [0; 1024];
-    (entry[0], entry[1]) = (32_768, 0x4100);
+    (entry[0], entry[1]) = (32_768, 0x4127);
     assert_eq!(image[2 * 1024..3 * 1024], entry);
     let before = image.clone();
     assert_eq!(create_user(&mut image, b"BC"), done(1));
     let user = 2 * 1024 + 32;
-    assert_eq!(changes(&before, &image), [(user, 32_768), (user + 1, 0x4243), (user + 18, 1)]);
+    let written = [(user, 32_768), (user + 1, 0x4243), (user + 2, 0x2700), (user + 18, 1)];
+    assert_eq!(changes(&before, &image), written);
     // The deleted one's place is cleared, and used again.
     assert_eq!(delete_user(&mut image, 0), done(0));
     assert!(image[2 * 1024..user].iter().all(|&word| word == 0));
@@ -58,7 +59,7 @@ fn a_file_is_written() {
     image[4 * 1024..5 * 1024].fill(0xABCD);
     assert_eq!(create_contiguous(&mut image, 0, b"RUN", b"T", 0x12345, 3), done(0));
     let mut entry = [0; 1024];
-    (entry[0], entry[1], entry[2], entry[9]) = (32_768, 0x5255, 0x4E00, 0x5400);
+    (entry[0], entry[1], entry[2], entry[9]) = (32_768, 0x5255, 0x4E27, 0x5427);
     (entry[20], entry[21], entry[27], entry[29], entry[31]) = (1, 0x2345, 3, 6_144, 37);
     assert_eq!(image[4 * 1024..5 * 1024], entry);
     assert_eq!(pair(&image, 2 * 1024 + 16), 3);
@@ -227,6 +228,6 @@ fn entries_are_cleared_before_they_are_written() {
     assert_eq!(create_user(&mut image, b"Q"), done(1));
     assert_eq!(create_indexed(&mut image, 0, b"X", b"", 0), done(1));
     let written = |start: usize| changes(&[0; 32], &image[start..start + 32]);
-    assert_eq!(written(user), [(0, 32_768), (1, 0x5100), (18, 1)]);
-    assert_eq!(written(object), [(0, 32_768), (1, 0x5800), (17, 1)]);
+    assert_eq!(written(user), [(0, 32_768), (1, 0x5127), (18, 1)]);
+    assert_eq!(written(object), [(0, 32_768), (1, 0x5827), (9, 0x2700), (17, 1)]);
 }

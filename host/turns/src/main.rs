@@ -1,5 +1,6 @@
 //! `turns BEFORE.so AFTER.so` times the check of two builds of the library and counts its instructions, as Markdown.
 
+use bench::fill::with_zeros;
 use bench::scratch::Scratch;
 use bench::{callgrind, parts};
 use std::io;
@@ -23,7 +24,7 @@ fn run(before: &str, after: &str, plan: &Plan) -> io::Result<String> {
     let both = [Library::load(Path::new(before))?, Library::load(Path::new(after))?];
     let scratch = Scratch::new()?;
     let mut all = Vec::new();
-    for volume in parts::volumes(plan.large) {
+    for volume in parts::volumes(plan.large).map(with_zeros) {
         eprintln!("turns: {}: {}", volume.name, volume.about);
         let image = scratch.native_volume(&volume)?;
         all.push(measure(&both, &volume, &image, plan.effort)?);

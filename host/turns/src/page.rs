@@ -7,7 +7,8 @@ use bench::timing::{show, Spread};
 
 const NOTE: &str = "Both builds check one image in memory in turns, in one process, every second round the other way about. Times are the
 processor's. The ratio is taken in each round; its median is given with the 10th and 90th of a hundred. Instructions are those of one
-check, by callgrind; runs differ by a few. Both builds give the same answer on each volume. The volumes are those of docs/BENCHMARKS.md.";
+check, by callgrind; runs differ by a few. Both builds give the same answer on each volume. The volumes are those of docs/BENCHMARKS.md,
+with zeros behind their names and types, which builds from before T-03 want.";
 
 /// What of the machine is told.
 const MACHINE: [&str; 5] = [

@@ -89,7 +89,7 @@ impl Damage<'_> {
         (users.len() > 1).then_some(())?;
         let later = self.random.between(1, users.len() as u32 - 1);
         let (lower, at) = (self.random.below(later), users[later as usize].at + NAME);
-        self.copy(users[lower as usize].at + NAME, at, 8).and(place(at))
+        self.same_name(users[lower as usize].at + NAME, at, 8).and(place(at))
     }
 
     pub(super) fn used_above_given(&mut self) -> Option<Place> {
@@ -151,7 +151,8 @@ impl Damage<'_> {
     pub(super) fn equal_file(&mut self) -> Option<Place> {
         let lower = self.some_file(|_| true)?;
         let later = self.some_file(|file| file.user == lower.user && file.file > lower.file)?;
-        self.copy(lower.at + NAME, later.at + NAME, 10).and(place(later.at + NAME))
+        self.same_name(lower.at + NAME, later.at + NAME, 8)?;
+        self.same_name(lower.at + TYPE, later.at + TYPE, 2).and(place(later.at + NAME))
     }
 
     /// The bit of a page that is held, or free, turned round.

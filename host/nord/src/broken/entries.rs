@@ -1,7 +1,7 @@
 //! Rules 4 and 6: the entries of users and files.
 
 use super::asked::{Asked, Expected};
-use super::names::{legal, NAME, TYPE};
+use super::names::{NAME, TYPE};
 use crate::volume::{Disk, Entry, Holder, Kind, ENTRIES, ENTRIES_TO_A_PAGE, ENTRY_WORDS, OBJECT_BLOCKS, SLOTS, USER_PAGES};
 use proved::Place;
 
@@ -35,13 +35,14 @@ fn first(
 fn user_word(disk: &Disk, user: u32, word: u32) -> Option<Expected> {
     let entry = disk.user(user)?;
     let (given, index) = (entry.given(), u32::from(*entry.words.get(18)?));
+    let name = entry.stored_name();
     match word {
-        1 if !legal(name(&entry), 1) => Some(Expected::words(NAME)),
+        1 if !name.is_legal(1) => Some(Expected::words(NAME)),
         1 => {
             let (lower, _) = disk
                 .users()
                 .take_while(|(lower, _)| *lower < user)
-                .find(|(_, other)| name(other) == name(&entry))?;
+                .find(|(_, other)| other.stored_name() == name)?;
             Some(Expected::words(format!("a name of his own: user {lower} has this one")))
         }
         16 if entry.used_pages() > given => Some(Expected::range(format!("at most {given}, the pages he is given"), 0, given)),
@@ -57,30 +58,25 @@ fn object_word(disk: &Disk, number: u32, word: u32) -> Option<Expected> {
     let (owner, own) = (u32::from(*entry.words.get(16)?), u32::from(*entry.words.get(17)?));
     match word {
         0 if disk.user(user).is_none() => Some(Expected::words(format!("not used (bit 15 clear), as there is no user {user}"))),
-        1 if !legal(name(&entry), 1) => Some(Expected::words(NAME)),
+        1 if !entry.stored_name().is_legal(1) => Some(Expected::words(NAME)),
         1 => {
-            let same = |other: &Entry| both(other) == both(&entry);
             let (lower, _) = disk
                 .files(user)
                 .take_while(|(lower, _)| *lower < file)
-                .find(|(_, other)| same(other))?;
+                .find(|(_, other)| same(other, &entry))?;
             Some(Expected::words(format!(
                 "a name or type of its own: file {lower} of {} has both",
                 disk.user_words(user)
             )))
         }
-        9 if !legal(entry.words.get(9..11)?, 0) => Some(Expected::words(TYPE)),
+        9 if !entry.stored_type().is_legal(0) => Some(Expected::words(TYPE)),
         16 if owner != user => Some(Expected::value(format!("{user}, the user by the place of the entry"), user)),
         17 if own != number => Some(Expected::value(format!("{number}, the entry number by its place"), number)),
         _ => None,
     }
 }
 
-fn name<'a>(entry: &Entry<'a>) -> &'a [u16] {
-    entry.words.get(1..9).unwrap_or(&[])
-}
-
-/// Name and type.
-fn both<'a>(entry: &Entry<'a>) -> &'a [u16] {
-    entry.words.get(1..11).unwrap_or(&[])
+/// Whether two files have the same name and the same type.
+fn same(one: &Entry, other: &Entry) -> bool {
+    one.stored_name() == other.stored_name() && one.stored_type() == other.stored_type()
 }

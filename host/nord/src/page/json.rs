@@ -1,6 +1,7 @@
 //! A page for programs.
 
 use super::{characters, Page, WORDS};
+use crate::volume::Meaning;
 use crate::volume_json;
 use serde_json::{json, Value};
 
@@ -40,16 +41,21 @@ impl Page<'_> {
 
     fn word(&self, word: u32) -> Value {
         let value = self.value(word);
-        let meanings = self.meanings(word);
-        let what = meanings
-            .iter()
-            .map(|meaning| json!({ "what": meaning.what, "says": meaning.says, "first": meaning.first, "words": meaning.words }));
         json!({
             "word": word,
             "value": value,
             "octal": format!("{value:06o}"),
-            "is": what.collect::<Vec<_>>(),
+            "is": self.meanings(word).iter().map(is).collect::<Vec<_>>(),
             "broken": self.broken_at(word).is_some(),
         })
     }
+}
+
+/// What a word is, with what is left behind a name where there is something.
+fn is(meaning: &Meaning) -> Value {
+    let mut json = json!({ "what": meaning.what, "says": meaning.says, "first": meaning.first, "words": meaning.words });
+    if let Some(leftovers) = &meaning.leftovers {
+        json["leftovers"] = leftovers.clone().into();
+    }
+    json
 }

@@ -78,11 +78,11 @@ impl Page<'_> {
     }
 }
 
-/// "given pages: 100".
+/// "given pages: 100", "name: DOCK".
 fn beside(meaning: Meaning) -> String {
     match meaning.says.is_empty() {
         true => meaning.short,
-        false => format!("{}: {}", meaning.short, meaning.says),
+        false => format!("{}: {}", meaning.short, meaning.told()),
     }
 }
 

@@ -33,7 +33,7 @@ impl Page<'_> {
         lines.iter().map(|line| format!("{}\n", line.trim_end())).collect()
     }
 
-    /// What the word is, all words that are one thing with it, and what they say.
+    /// What the word is, all words that are one thing with it, what they say, and what is left behind a name.
     fn meaning_lines(&self, meaning: &Meaning) -> Vec<String> {
         let words = self.disk.words(self.number, meaning.first, meaning.words);
         let mut lines = vec![item("it is", &meaning.what)];
@@ -42,6 +42,9 @@ impl Page<'_> {
         }
         if !meaning.says.is_empty() {
             lines.push(item("it says", &meaning.says));
+        }
+        if let Some(leftovers) = &meaning.leftovers {
+            lines.push(item("leftovers", &format!("{leftovers} (behind its end, and ignored)")));
         }
         lines.extend(self.leads(meaning).map(|to| item("leads to", &to)));
         lines

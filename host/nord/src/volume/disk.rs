@@ -1,5 +1,6 @@
 //! The image as pages of words: numbers, pointers and entries where document 01 puts them. What lies outside the image reads as zeros.
 
+use super::stored::Stored;
 use proved::PAGE;
 
 /// Pointers in a block.
@@ -68,7 +69,7 @@ impl<'a> Disk<'a> {
     }
 
     pub fn volume_name(&self) -> String {
-        letters(self.words(0, VOLUME_NAME, 8))
+        Stored::of(self.words(0, VOLUME_NAME, 8)).to_string()
     }
 
     pub fn unreserved(&self) -> u32 {
@@ -191,12 +192,22 @@ impl Entry<'_> {
     }
 
     pub fn name(&self) -> String {
-        letters(self.words.get(1..9).unwrap_or(&[]))
+        self.stored_name().to_string()
     }
 
     /// A file's type.
     pub fn type_name(&self) -> String {
-        letters(self.words.get(9..11).unwrap_or(&[]))
+        self.stored_type().to_string()
+    }
+
+    /// The name as it stands in the image.
+    pub fn stored_name(&self) -> Stored {
+        Stored::of(self.words.get(1..9).unwrap_or(&[]))
+    }
+
+    /// A file's type as it stands in the image.
+    pub fn stored_type(&self) -> Stored {
+        Stored::of(self.words.get(9..11).unwrap_or(&[]))
     }
 
     /// A user's given pages.
@@ -240,11 +251,4 @@ fn word(words: &[u16], at: usize) -> u32 {
 /// A number of two words, the more significant first.
 fn pair(words: &[u16], at: usize) -> u32 {
     word(words, at) << 16 | word(words, at + 1)
-}
-
-/// The bytes of a name up to its fill; what no name may have shows as a question mark.
-fn letters(words: &[u16]) -> String {
-    let bytes = words.iter().flat_map(|word| word.to_be_bytes());
-    let shown = |byte: u8| if byte.is_ascii_graphic() { char::from(byte) } else { '?' };
-    bytes.take_while(|byte| *byte != 0).map(shown).collect()
 }

@@ -1,6 +1,7 @@
 //! The fields of the directory entry, of a user's entry and of a file's: where document 01 puts them.
 
 use super::disk::Pointer;
+use super::stored::Stored;
 
 /// How the words of a field are read.
 #[derive(Clone, Copy, Debug, PartialEq, Eq)]
@@ -80,6 +81,11 @@ impl Field {
         }
     }
 
+    /// What stands in the field's words behind the end of a name or type.
+    pub fn leftovers(&self, words: &[u16]) -> Option<String> {
+        (self.form == Form::Letters).then(|| Stored::of(words).leftovers())?
+    }
+
     /// The pointer that the field's words are.
     pub fn pointer(&self, words: &[u16]) -> Option<Pointer> {
         (self.form == Form::Pointer).then(|| Pointer::of(number(words)))
@@ -91,14 +97,12 @@ pub fn number(words: &[u16]) -> u32 {
     words.iter().fold(0, |number, word| number << 16 | u32::from(*word))
 }
 
-/// The bytes of a name or type without its fill; a point stands for what no name has.
+/// A name or a type.
 fn letters_say(words: &[u16]) -> String {
-    let bytes: Vec<u8> = words.iter().flat_map(|word| word.to_be_bytes()).collect();
-    let end = bytes.iter().rposition(|byte| *byte != 0).map_or(0, |last| last + 1);
-    let shown = |byte: &u8| if byte.is_ascii_graphic() { char::from(*byte) } else { '.' };
-    match end {
-        0 => "empty".to_string(),
-        _ => bytes[..end].iter().map(shown).collect(),
+    let stored = Stored::of(words);
+    match stored.name().is_empty() {
+        true => "empty".to_string(),
+        false => stored.to_string(),
     }
 }
 

@@ -13,6 +13,8 @@ pub struct Meaning {
     pub what: String,
     /// What the words say: "100", "indexed, page 6".
     pub says: String,
+    /// What stands behind the end of a name or type, and says nothing.
+    pub leftovers: Option<String>,
     /// The first word of the page that belongs to it, and how many do.
     pub first: u32,
     pub words: u32,
@@ -20,6 +22,16 @@ pub struct Meaning {
     pub blank: bool,
     /// The pointer that they are.
     pub pointer: Option<Pointer>,
+}
+
+impl Meaning {
+    /// What the words say, and of a name what is left behind it: "DOCK (leftovers behind it: OLD)".
+    pub fn told(&self) -> String {
+        match &self.leftovers {
+            Some(leftovers) => format!("{} (leftovers behind it: {leftovers})", self.says),
+            None => self.says.clone(),
+        }
+    }
 }
 
 /// What word `word` of page `page` is, if `holder` holds that page. None where document 01 has nothing.
@@ -41,6 +53,7 @@ fn master(disk: &Disk, word: u32) -> Option<Meaning> {
         short: field.name.to_string(),
         what: format!("{}, {} of the master block", field.name, span(field.first, field.words)),
         says: field.says(words),
+        leftovers: field.leftovers(words),
         first: field.first,
         words: field.words,
         blank: word > field.first && words.get((word - field.first) as usize) == Some(&0),
@@ -54,6 +67,7 @@ fn data(disk: &Disk, holder: &Holder, word: u32) -> Meaning {
         short: String::new(),
         what: format!("word {word} of {}", disk.holder_words(holder)),
         says: String::new(),
+        leftovers: None,
         first: word,
         words: 1,
         blank: true,
@@ -78,6 +92,7 @@ fn bits(disk: &Disk, page: u32, word: u32) -> Option<Meaning> {
             all if all == end - first => "all reserved".to_string(),
             _ => format!("reserved {}", ranges(&set)),
         },
+        leftovers: None,
         first: word,
         words: 1,
         blank: set.is_empty(),
@@ -113,6 +128,7 @@ fn entry_word(disk: &Disk, holder: &Holder, page: u32, word: u32) -> Meaning {
         short: if within == 0 { whose.clone() } else { field.name.to_string() },
         what: format!("{} of {whose}, {} of {his}", field.name, span(field.first, field.words)),
         says: field.says(words),
+        leftovers: field.leftovers(words),
         first: start + field.first,
         words: field.words,
         blank: !used || (within > field.first && disk.words(page, word, 1) == [0]),
@@ -127,6 +143,7 @@ fn beyond(disk: &Disk, page: u32, word: u32, (whose, his, used): (&str, &str, bo
         short: String::new(),
         what: format!("word {} of {his}, {whose}: {why}", word % ENTRY_WORDS),
         says: String::new(),
+        leftovers: None,
         first: word,
         words: 1,
         blank: disk.words(page, word, 1) == [0],
@@ -145,6 +162,7 @@ fn slot_word(disk: &Disk, holder: &Holder, page: u32, word: u32) -> Meaning {
         },
         what: format!("slot {slot} of {}, {}", disk.holder_phrase(holder), span(2 * slot, 2)),
         says: fields::pointer_says(number),
+        leftovers: None,
         first: 2 * slot,
         words: 2,
         blank: number == 0,

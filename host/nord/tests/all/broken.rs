@@ -12,15 +12,25 @@ struct Case {
     says: [&'static str; 3],
 }
 
-const CASES: [Case; 22] = [
+const CASES: [Case; 26] = [
     Case {
         words: &[(0, 1008, 0)],
         rule: 1,
         place: (0, 1008),
         says: [
             "volume name, words 1008-1015 of the master block",
-            "octal 000000 051104, decimal 0 21060, then zeros: ..RD",
-            "1 to 16 of A-Z, 0-9 and hyphen, then zeros",
+            "octal 000000 051104 023400, decimal 0 21060 9984, then zeros: empty (leftovers behind it: .RD')",
+            "1 to 16 of A-Z, 0-9 and hyphen, a shorter one ended by an apostrophe or a zero byte",
+        ],
+    },
+    Case {
+        words: &[(0, 1008, 0x2741)],
+        rule: 1,
+        place: (0, 1008),
+        says: [
+            "volume name, words 1008-1015 of the master block",
+            "octal 023501 051104 023400, decimal 10049 21060 9984, then zeros: empty (leftovers behind it: ARD')",
+            "1 to 16 of A-Z, 0-9 and hyphen, a shorter one ended by an apostrophe or a zero byte",
         ],
     },
     Case {
@@ -79,8 +89,18 @@ const CASES: [Case; 22] = [
         place: (2, 1),
         says: [
             "name of user 0 DOCk, words 1-8 of his entry",
-            "octal 042117 041553, decimal 17487 17259, then zeros: DOCk",
-            "1 to 16 of A-Z, 0-9 and hyphen, then zeros",
+            "octal 042117 041553 023400, decimal 17487 17259 9984, then zeros: DOCk",
+            "1 to 16 of A-Z, 0-9 and hyphen, a shorter one ended by an apostrophe or a zero byte",
+        ],
+    },
+    Case {
+        words: &[(2, 1, 0x2720), (2, 2, 0x6f6c), (2, 3, 0x6400)],
+        rule: 4,
+        place: (2, 1),
+        says: [
+            "name of user 0, words 1-8 of his entry",
+            "octal 023440 067554 062000, decimal 10016 28524 25600, then zeros: empty (leftovers behind it:  old)",
+            "1 to 16 of A-Z, 0-9 and hyphen, a shorter one ended by an apostrophe or a zero byte",
         ],
     },
     Case {
@@ -119,8 +139,28 @@ const CASES: [Case; 22] = [
         place: (4, 33),
         says: [
             "name of DOCK/READS:DATA (user 0 file 1), words 1-8 of its entry",
-            "octal 051105 040504 051400, decimal 21061 16708 21248, then zeros: READS",
+            "octal 051105 040504 051447, decimal 21061 16708 21287, then zeros: READS",
             "a name or type of its own: file 0 of user 0 DOCK has both",
+        ],
+    },
+    Case {
+        words: &[(4, 33, 0x5245), (4, 34, 0x4144), (4, 35, 0x5300), (4, 36, 0x4f4c)],
+        rule: 6,
+        place: (4, 33),
+        says: [
+            "name of DOCK/READS:DATA (user 0 file 1), words 1-8 of its entry",
+            "octal 051105 040504 051400 047514, decimal 21061 16708 21248 20300, then zeros: READS (leftovers behind it: OL)",
+            "a name or type of its own: file 0 of user 0 DOCK has both",
+        ],
+    },
+    Case {
+        words: &[(4, 10, 0x6127)],
+        rule: 6,
+        place: (4, 9),
+        says: [
+            "type of DOCK/READS:DAa (user 0 file 0), words 9-10 of its entry",
+            "octal 042101 060447, decimal 17473 24871: DAa",
+            "0 to 4 of A-Z, 0-9 and hyphen, a shorter one ended by an apostrophe or a zero byte",
         ],
     },
     Case {

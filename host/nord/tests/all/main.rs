@@ -12,6 +12,7 @@ mod names;
 mod page;
 mod readme;
 mod refusals;
+mod stored;
 mod terminal;
 mod traced;
 mod transfer;

@@ -26,7 +26,8 @@ fn the_master_block() {
      *  the same to word 1007
   1008 (1760)   054501    22849  YA  volume name: YARD
   1009 (1761)   051104    21060  RD
-  1010 (1762)   000000        0  ..
+  1010 (1762)   023400     9984  '.
+  1011 (1763)   000000        0  ..
      *  the same to word 1015
   1016 (1770)   040000    16384  @.  object pointer: indexed, page 3
   1017 (1771)   000003        3  ..
@@ -82,7 +83,8 @@ fn the_user_file() {
             "     0 (0)      100000    32768  ..  user 0 DOCK: used",
             "     1 (1)      042117    17487  DO  name: DOCK",
             "     2 (2)      041513    17227  CK",
-            "     3 (3)      000000        0  ..",
+            "     3 (3)      023400     9984  '.",
+            "     4 (4)      000000        0  ..",
             "     *  the same to word 13",
             "    14 (16)     000000        0  ..  given pages: 100",
             "    15 (17)     000144      100  .d",
@@ -191,6 +193,48 @@ fn one_word_in_more_detail() {
         &lines(&image, "page IMAGE 2 40"),
         &["  it is     word 8 of his entry, user 1: not used"],
     );
+}
+
+#[test]
+fn beside_a_name_its_leftovers_are_shown() {
+    let (folder, image) = sample();
+    let image = with(&folder, &image, &[(2, 3, 0x2753), (2, 4, 0x204f), (2, 5, 0x4c44), (4, 41, 0x2741)]);
+    has(
+        &lines(&image, "page IMAGE 2"),
+        &[
+            "     0 (0)      100000    32768  ..  user 0 DOCK: used",
+            "     1 (1)      042117    17487  DO  name: DOCK (leftovers behind it: S OLD)",
+            "     2 (2)      041513    17227  CK",
+            "     3 (3)      023523    10067  'S",
+            "     4 (4)      020117     8271   O",
+            "     5 (5)      046104    19524  LD",
+            "     6 (6)      000000        0  ..",
+            "     *  the same to word 13",
+        ],
+    );
+    has(
+        &lines(&image, "page IMAGE 4"),
+        &[
+            "    41 (51)     023501    10049  'A  type: empty (leftovers behind it: ATA)",
+            "    42 (52)     052101    21569  TA",
+        ],
+    );
+    has(
+        &lines(&image, "page IMAGE 2 4"),
+        &[
+            "  it is     name of user 0 DOCK, words 1-8 of his entry",
+            "  together  042117 041513 023523 020117 046104 000000 000000 000000",
+            "  it says   DOCK",
+            "  leftovers S OLD (behind its end, and ignored)",
+        ],
+    );
+    let word = |number: u32| run(&image, &format!("page IMAGE 2 {number} --json")).json()["words"][0]["is"].clone();
+    let name = "name of user 0 DOCK, words 1-8 of his entry";
+    assert_eq!(
+        word(1),
+        json!([{ "what": name, "says": "DOCK", "leftovers": "S OLD", "first": 1, "words": 8 }])
+    );
+    assert_eq!(word(14)[0]["leftovers"], Value::Null);
 }
 
 #[test]

@@ -3,9 +3,8 @@
 //! the later entry's name.
 
 use super::wrong;
-use crate::entry::{entry_words, is_used, name_words, object, type_words, user, EntryPlace, ENTRIES, ENTRIES_TO_A_PAGE, NAME, TYPE};
+use crate::entry::{entry_words, is_used, object, stored_name, stored_type, user, EntryPlace, ENTRIES, ENTRIES_TO_A_PAGE, NAME, TYPE};
 use crate::image::pair;
-use crate::name::{are_name_words, are_type_words, sort_key};
 use crate::pointer::SLOTS;
 use crate::reply::Place;
 use crate::volume::{object_page, user_entry, user_page};
@@ -54,11 +53,11 @@ fn used_on(image: &[u16], position: u32, page: u32) -> impl Iterator<Item = Entr
 pub(super) fn rule_4(image: &[u16]) -> Option<Place> {
     let mut names = HashSet::new();
     users(image).find_map(|entry| {
-        let name = name_words(entry.words);
-        let is_new = names.insert(sort_key(name));
+        let name = stored_name(entry.words);
+        let is_new = names.insert(name);
         let (given, used) = (pair(entry.words, user::GIVEN), pair(entry.words, user::USED));
         let own_index = u32::from(entry.words[user::OWN_INDEX]);
-        wrong(!are_name_words(name) || !is_new, entry.place(NAME))
+        wrong(!name.is_name() || !is_new, entry.place(NAME))
             .or_else(|| wrong(used > given, entry.place(user::USED)))
             .or_else(|| wrong(own_index != entry.number, entry.place(user::OWN_INDEX)))
     })
@@ -69,12 +68,12 @@ pub(super) fn rule_6(image: &[u16]) -> Option<Place> {
     let mut names = HashSet::new();
     objects(image).find_map(|entry| {
         let owner = entry.number / ENTRIES;
-        let (name, kind) = (name_words(entry.words), type_words(entry.words));
-        let is_new = names.insert((owner, sort_key(name), sort_key(kind)));
+        let (name, kind) = (stored_name(entry.words), stored_type(entry.words));
+        let is_new = names.insert((owner, name, kind));
         let word = |at: usize| u32::from(entry.words[at]);
         wrong(user_entry(image, owner).is_none(), entry.place(0))
-            .or_else(|| wrong(!are_name_words(name) || !is_new, entry.place(NAME)))
-            .or_else(|| wrong(!are_type_words(kind), entry.place(TYPE)))
+            .or_else(|| wrong(!name.is_name() || !is_new, entry.place(NAME)))
+            .or_else(|| wrong(!kind.is_type(), entry.place(TYPE)))
             .or_else(|| wrong(word(object::USER) != owner, entry.place(object::USER)))
             .or_else(|| wrong(word(object::OWN_NUMBER) != entry.number, entry.place(object::OWN_NUMBER)))
     })
