@@ -6,13 +6,13 @@ use native.Mathlib.Nat.{le-refl}
 use native.Mathlib.Omega.{arith}
 use lib.ListN.{length, length-append}
 use Rattle.sums.specs.Sum.{sum, is}
-use Rattle.sums.specs.Search.{pick, lowest-is}
+use Rattle.sums.specs.Search.{pick}
 use Rattle.book.specs.Words.{Words, Vol}
 use Rattle.book.specs.Pointers.{flags, volumeName}
 use Rattle.book.specs.Bits.{reserved}
 use Rattle.book.specs.Entries.{Table, given, usedPages, pageCount, filePointer, unreserved}
-use Rattle.book.specs.Names.{byteAt, ends, stored}
-use Rattle.laws.specs.File.Stored.{stored-length}
+use Rattle.book.specs.Names.{stored}
+use Rattle.laws.specs.File.Stored.{end-is, stored-length}
 use Rattle.book.specs.Listing.{Bytes, joined, digits, field, volume, pagesAre, reservedAre, unreservedAre, userIs, givenAre, usedAre, fileIs, refusedIs, ruleIs, space, colon, newline}
 use Rattle.book.specs.Listing.{subindex, contiguous, kindOf, headLine, userLine, fileTitle, fileLine, refusedLine}
 
@@ -55,7 +55,7 @@ unfolding field
 field-length label n = both (all-of label) (digits-length 10 n)
 
 name-length : (n : ℕ) (w : Words) (k : ℕ) → AtMost n (stored n w k)
-name-length n w k = record { most = omega (arith, stored-length n w k, lowest-is (λ i. ends (byteAt w k i)) n .most) }
+name-length n w k = record { most = omega (arith, stored-length n w k, end-is n w k .most) }
 
 kind-length : (x n : ℕ) → AtMost 11 (kindOf x n)
 unfolding kindOf

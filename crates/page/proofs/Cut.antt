@@ -10,11 +10,11 @@ use native.Mathlib.Omega.{arith}
 use lib.ListN.{getD, List·getD-eq-default}
 use lib.Seq.{ext-getD}
 use Rattle.sums.specs.Sum.{is-same}
-use Rattle.sums.specs.Search.{pick-yes, pick-no, Lowest, lowest-is}
+use Rattle.sums.specs.Search.{pick-yes, pick-no}
 use Rattle.book.specs.Words.{Words}
 use Rattle.book.specs.Names.{byteAt, ends, endOf, wordsOf, stored}
 use Rattle.book.specs.Decides.{Decides}
-use Rattle.laws.specs.File.Stored.{stored-length, stored-at}
+use Rattle.laws.specs.File.Stored.{end-is, stored-length, stored-at}
 use Rattle.page.specs.Cut.{cutWord, Alike}
 use Rattle.page.proofs.Deciding.{never}
 use Rattle.page.proofs.Stored.{byte-high, byte-low, word-more}
@@ -60,15 +60,12 @@ module _ (n : ℕ) (even : n % 2 ≡ 0) (w : Words) (k : ℕ) where
   abbrev L : ℕ
   L = endOf n w k
 
-  E : Lowest (λ i. ends (byteAt w k i)) n
-  E = lowest-is (λ i. ends (byteAt w k i)) n
-
   past : (i : ℕ) → L ≤ i → getD s i 0 ≡ 0
   past i h = List·getD-eq-default s 0 (omega (arith, stored-length n w k))
 
   -- its bytes are none of them zero
   pub byte-pos : (i : ℕ) → i < L → 0 < getD s i 0
-  byte-pos i h = omega (arith, stored-at n w k i h, ends-pos (byteAt w k i) (E .passed i h))
+  byte-pos i h = omega (arith, stored-at n w k i h, ends-pos (byteAt w k i) (end-is n w k .passed i h))
 
   pub byte-small : (i : ℕ) → getD s i 0 < 256
   unfolding byteAt
@@ -90,15 +87,15 @@ module _ (n : ℕ) (even : n % 2 ≡ 0) (w : Words) (k : ℕ) where
     unfolding cutWord wordsOf
     cut-is = elim (decLt (2 * i) L) [
       | no h ↦
-          let p : 0 < ends (byteAt w k (2 * i)) = subst-end (omega arith) (E .there (omega arith)) in
+          let p : 0 < ends (byteAt w k (2 * i)) = subst-end (omega arith) (end-is n w k .there (omega arith)) in
           pick-yes (ends (w (k + i) / 256)) 0 _ (omega (arith, high-end _ refl)) ∙ omega (arith, past (2 * i) (omega arith), past (2 * i + 1) (omega arith))
-      | yes h ↦ pick-no (ends (w (k + i) / 256)) 0 _ (high-end 0 (E .passed (2 * i) h)) ∙ elim (decLt (2 * i + 1) L) [
+      | yes h ↦ pick-no (ends (w (k + i) / 256)) 0 _ (high-end 0 (end-is n w k .passed (2 * i) h)) ∙ elim (decLt (2 * i + 1) L) [
         | no g ↦
-            let p : 0 < ends (byteAt w k (2 * i + 1)) = subst-end (omega arith) (E .there (omega arith)) in
+            let p : 0 < ends (byteAt w k (2 * i + 1)) = subst-end (omega arith) (end-is n w k .there (omega arith)) in
             pick-yes (ends (w (k + i) % 256)) _ _ (omega (arith, low-end _ refl))
             ∙ omega (arith, stored-at n w k (2 * i) h, byte-high w k i, past (2 * i + 1) (omega arith))
         | yes g ↦
-            pick-no (ends (w (k + i) % 256)) _ _ (low-end 0 (E .passed (2 * i + 1) g))
+            pick-no (ends (w (k + i) % 256)) _ _ (low-end 0 (end-is n w k .passed (2 * i + 1) g))
             ∙ omega (arith, stored-at n w k (2 * i) h, byte-high w k i, stored-at n w k (2 * i + 1) g, byte-low w k i)
       ]
     ]
@@ -154,7 +151,7 @@ module _ (n : ℕ) (even : n % 2 ≡ 0) (w : Words) (k : ℕ) (x : Words) (j : �
     -- all words passed
     pub alike-all : n ≤ 2 * i → stored n w k ≡ stored n x j
     alike-all h =
-        let p = lowest-is (λ b. ends (byteAt w k b)) n .most in let q = lowest-is (λ b. ends (byteAt x j b)) n .most in
+        let p = end-is n w k .most in let q = end-is n x j .most in
         one (omega (arith, a .first, a .second, p, q)) (λ b l. a .same b (omega (arith, a .first, p)))
 
     module _ (e : wordsOf (stored n w k) i ≡ wordsOf (stored n x j) i) where

@@ -6,11 +6,10 @@ use native.Mathlib.Nat.{div-one}
 use native.Mathlib.Decide.{decLt}
 use native.Mathlib.Omega.{arith}
 use borrow.Author.Count.{below-more}
-use Rattle.sums.specs.Search.{Lowest, lowest-is}
 use Rattle.book.specs.Words.{Words}
 use Rattle.book.specs.Names.{Letter, Text, byteAt, ends, endOf, stored}
 use Rattle.book.specs.Decides.{Decides}
-use Rattle.laws.specs.File.Stored.{letter-not, end-at, stored-length, stored-at}
+use Rattle.laws.specs.File.Stored.{letter-not, end-at, end-is, stored-length, stored-at}
 use Rattle.page.specs.Parts.{Letters}
 
 -- ---- the two bytes of a word
@@ -43,18 +42,15 @@ module _ (m n : ℕ) (w : Words) (k l : ℕ) (s : Letters n w k l) where
   legal-end : Text m n (stored n w k) → endOf n w k ≡ l
   unfolding Text
   legal-end T = elim (decLt e l) [
-    | yes h ↦ absurd (let r : ⊥ = omega (arith, E .there (omega (arith, s .most)), letter-not (byteAt w k e) (s .before e h)) in r)
+    | yes h ↦ absurd (let r : ⊥ = omega (arith, end-is n w k .there (omega (arith, s .most)), letter-not (byteAt w k e) (s .before e h)) in r)
     | no h ↦ elim (decLt l e) [
-      | yes g ↦ absurd (s .stops (omega (arith, E .most)) (subst Letter (stored-at n w k l g) (T .2 l (omega (arith, stored-length n w k)))))
+      | yes g ↦ absurd (s .stops (omega (arith, end-is n w k .most)) (subst Letter (stored-at n w k l g) (T .2 l (omega (arith, stored-length n w k)))))
       | no g ↦ omega arith
     ]
   ]
     where
       e : ℕ
       e = endOf n w k
-
-      E : Lowest (λ i. ends (byteAt w k i)) n
-      E = lowest-is (λ i. ends (byteAt w k i)) n
 
   pub legal-few : l < m → Text m n (stored n w k) → ⊥
   unfolding Text
@@ -74,4 +70,4 @@ module _ (m n : ℕ) (w : Words) (k l : ℕ) (s : Letters n w k l) where
   -- a test of the byte behind the letters decides
   pub legal-by : (b : Bool) → l < n → m ≤ l → Decides b (0 < ends (byteAt w k l)) → Decides b (Text m n (stored n w k))
   legal-by true g h d = legal-here (end-at n w k l (s .most) (λ i j. letter-not (byteAt w k i) (s .before i j)) (λ j. d)) h
-  legal-by false g h d = λ T. d (subst (λ (i : ℕ). 0 < ends (byteAt w k i)) (legal-end T) (lowest-is (λ i. ends (byteAt w k i)) n .there (omega (arith, legal-end T))))
+  legal-by false g h d = λ T. d (subst (λ (i : ℕ). 0 < ends (byteAt w k i)) (legal-end T) (end-is n w k .there (omega (arith, legal-end T))))

@@ -10,7 +10,7 @@ use native.Mathlib.Omega.{arith}
 use lib.ListN.{length, getD, length-append, List·getD-append}
 use lib.Seq.{ext-getD, getD-at}
 use Rattle.sums.specs.Sum.{is-other}
-use Rattle.sums.specs.Search.{lowest-at, lowest-none, lowest-is}
+use Rattle.sums.specs.Search.{Lowest, lowest-at, lowest-none, lowest-is}
 use Rattle.book.specs.Words.{Words}
 use Rattle.book.specs.Names.{Letter, Text, byteAt, bytes, ends, endOf, stored}
 
@@ -64,6 +64,10 @@ module _ (n : ℕ) (w : Words) (k : ℕ) where
     | no m ↦ let e : n ≡ l = omega arith in lowest-none (λ i. ends (byteAt w k i)) n (λ i j. none i (omega arith)) ∙ e
   ]
 
+  -- what is there, and what was passed
+  pub end-is : Lowest (λ i. ends (byteAt w k i)) n
+  end-is = lowest-is (λ i. ends (byteAt w k i)) n
+
   -- as long as that
   pub stored-length : length (stored n w k) ≡ endOf n w k
   unfolding stored
@@ -94,7 +98,7 @@ module _ (n : ℕ) (w : Words) (k : ℕ) where
 pub stored-front : (n : ℕ) (w x : Words) (k j : ℕ) → ((i : ℕ) → i ≤ endOf n w k → i < n → byteAt w k i ≡ byteAt x j i) → stored n w k ≡ stored n x j
 unfolding stored
 stored-front n w x k j e =
-    let l : ℕ = endOf n w k in let L = lowest-is (λ i. ends (byteAt w k i)) n in
+    let l : ℕ = endOf n w k in let L = end-is n w k in
     let q : endOf n x j ≡ l = end-at n x j l (L .most) (λ i h. sym (ap ends (e i (omega arith) (omega (arith, L .most)))) ∙ L .passed i h)
     (λ h. subst (λ (b : ℕ). 0 < ends b) (e l (omega arith) h) (L .there h)) in
     bytes-same w x k j l (λ i h. e i (omega arith) (omega (arith, L .most))) ∙ ap (bytes x j) (sym q)

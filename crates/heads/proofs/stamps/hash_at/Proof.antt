@@ -5,10 +5,10 @@ use native.Mathlib.Nat.{eq-zero-or-pos}
 use native.Mathlib.Omega.{arith}
 use lib.ListN.{length}
 use borrow.Author.Needs.{needs}
-use Rattle.sums.specs.Search.{pick, pick-yes, pick-no, lowest-is}
+use Rattle.sums.specs.Search.{pick, pick-yes, pick-no}
 use Rattle.book.specs.Words.{Words, vol}
-use Rattle.book.specs.Names.{byteAt, ends, endOf, wordsOf, stored}
-use Rattle.laws.specs.File.Stored.{stored-length}
+use Rattle.book.specs.Names.{endOf, wordsOf, stored}
+use Rattle.laws.specs.File.Stored.{end-is, stored-length}
 use Rattle.page.specs.Cut.{cutWord}
 use Rattle.page.proofs.Deciding.{told, untold}
 use Rattle.page.proofs.Cut.{cut-is, low-ended, low-goes, word-ended, word-goes}
@@ -70,7 +70,7 @@ loop-again c =
 returns-2 : tie.Need-returns-2 Inv-loop μ-loop
 returns-2 c =
     let l = c .before .loop in let s = c .before .before .before in let a = s .args in let w = vol (a .img .now) (a .p) in
-    let e : (length (stored (a .n) w (a .k)) + 1) / 2 ≡ l .i = omega (arith, stored-length (a .n) w (a .k), l .inv .1, lowest-is (λ i. ends (byteAt w (a .k) i)) (a .n) .most) in
+    let e : (length (stored (a .n) w (a .k)) + 1) / 2 ≡ l .i = omega (arith, stored-length (a .n) w (a .k), l .inv .1, end-is (a .n) w (a .k) .most) in
     (l .inv .2 ∙ hash-all (a .h) (stored (a .n) w (a .k)) (l .i) e, l .inv .3)
 
 pub hash-at-spec : {M : Type 1} → statement M

@@ -5,10 +5,9 @@ use Prim.Native.Nat.{ℕ, _+_, _-_, _≤_}
 use native.Mathlib.Nat.{add-zero}
 use native.Mathlib.Omega.{arith}
 use borrow.Author.Needs.{needs}
-use Rattle.sums.specs.Search.{lowest-is}
 use Rattle.book.specs.Words.{Words, vol}
-use Rattle.book.specs.Names.{byteAt, bytes, ends, endOf}
-use Rattle.laws.specs.File.Stored.{bytes-none, bytes-more, stored-to}
+use Rattle.book.specs.Names.{bytes, endOf}
+use Rattle.laws.specs.File.Stored.{end-is, bytes-none, bytes-more, stored-to}
 use Rattle.listing.specs.Wrote.{Wrote}
 use Rattle.listing.proofs.Writing.{wrote-none, wrote-as, wrote-then, wrote-byte, wrote-size}
 use Rattle.listing.proofs.name.put_name.Statement.{statement}
@@ -27,7 +26,7 @@ loop-holds c =
 
 -- the name ends within its field
 within : (n : ℕ) (w : Words) (k l : ℕ) → l ≡ endOf n w k → l ≤ n
-within n w k l e = omega (arith, e, lowest-is (λ i. ends (byteAt w k i)) n .most)
+within n w k l e = omega (arith, e, end-is n w k .most)
 
 add-put : tie.Need-add-put Inv-loop μ-loop
 add-put c =

@@ -7,10 +7,9 @@ use lib.ListN.{length, getD}
 use lib.Seq.{ext-getD}
 use borrow.Author.Count.{below-none, below-more}
 use borrow.Author.Needs.{needs}
-use Rattle.sums.specs.Search.{lowest-is}
 use Rattle.book.specs.Words.{Words, vol}
-use Rattle.book.specs.Names.{byteAt, ends, endOf, stored}
-use Rattle.laws.specs.File.Stored.{stored-length, stored-at}
+use Rattle.book.specs.Names.{byteAt, endOf, stored}
+use Rattle.laws.specs.File.Stored.{end-is, stored-length, stored-at}
 use Rattle.page.proofs.names.named_at.Statement.{statement}
 use Rattle.page.proofs.names.named_at.Tie as tie
 
@@ -43,7 +42,7 @@ loop-holds c = (omega arith, below-none _)
 byte-at-requires : tie.Need-byte-at-requires Inv-loop μ-loop
 byte-at-requires c κs =
     let d = c .before .before .before .end-at in let a = c .before .before .before .before .before .before .args in
-    omega (arith, d .ensures, lowest-is (λ i. ends (byteAt (vol (a .img .now) (a .p)) (a .k) i)) (a .n) .most)
+    omega (arith, d .ensures, end-is (a .n) (vol (a .img .now) (a .p)) (a .k) .most)
 
 shared-slice-read-if2 : tie.Need-shared-slice-read-if2 Inv-loop μ-loop
 shared-slice-read-if2 c = omega arith

@@ -7,11 +7,10 @@ use native.Mathlib.Omega.{arith}
 use lib.Dec.{eqb}
 use lib.ListN.{length}
 use borrow.Author.Needs.{needs}
-use Rattle.sums.specs.Search.{lowest-is}
 use Rattle.book.specs.Words.{Words, vol}
-use Rattle.book.specs.Names.{byteAt, ends, endOf, wordsOf, stored}
+use Rattle.book.specs.Names.{endOf, wordsOf, stored}
 use Rattle.book.specs.Decides.{Decides}
-use Rattle.laws.specs.File.Stored.{stored-length}
+use Rattle.laws.specs.File.Stored.{end-is, stored-length}
 use Rattle.page.specs.Cut.{Alike, cutWord}
 use Rattle.page.proofs.Cut.{cut-is, word-whole, low-ended, low-goes, alike-none, alike-more, alike-end, alike-all}
 use Rattle.page.proofs.Deciding.{decides-iff, decides-eq}
@@ -30,7 +29,7 @@ loop-holds c = let a = c .before .args in (omega arith, alike-none (a .n) (c .be
 
 module _ (n : ℕ) (even : n % 2 ≡ 0) (w : Words) (j : ℕ) (x : Words) (k l : ℕ) (le : l ≡ endOf n x k) where
   within : l ≤ n
-  within = omega (arith, le, lowest-is (λ i. ends (byteAt x k i)) n .most)
+  within = omega (arith, le, end-is n x k .most)
 
   module _ (i : ℕ) (s : Alike n w j x k i) where
     all : i ≤ l / 2 → l / 2 ≤ i → n ≤ l → stored n w j ≡ stored n x k
