@@ -1,4 +1,4 @@
--- The eighteen calls: for each number that it can be refused with, what that number asks for. Assumes nothing.
+-- The twenty calls: for each number that it can be refused with, what that number asks for. Assumes nothing.
 use mathlib.Core.Path.{_≡_}
 use mathlib.Core.List.{List, []}
 use Prim.Native.Nat.{ℕ, _-_, _*_, _≤_, _<_}
@@ -8,7 +8,7 @@ use Rattle.book.specs.Pointers.{flags}
 use Rattle.book.specs.Trees.{pageAt}
 use Rattle.book.specs.Bits.{lowestFree, highestRun}
 use Rattle.book.specs.Entries.{user, object, used, spare, unreserved, fileEntry, pageCount, filePointer, newUser, newFile}
-use Rattle.book.specs.Names.{NameText, TypeText, Named, Typed}
+use Rattle.book.specs.Names.{NameText, TypeText, apostrophe, Named, Typed}
 use Rattle.book.specs.Files.{fileAt, need, isRun}
 use Rattle.book.specs.Holders.{visits, Told}
 use Rattle.book.specs.Rows.{Rows, end, row}
@@ -20,6 +20,7 @@ use Rattle.book.specs.Shrink.{shrink}
 use Rattle.book.specs.Create.{userNeed, fileNeed, filePlace, createUser, createIndexed, createContiguous}
 use Rattle.book.specs.Delete.{deleteFile, deleteUser}
 use Rattle.book.specs.Format.{format, middle}
+use Rattle.book.specs.Convert.{AllFilled, convert}
 use Rattle.book.specs.declared.Holder.{Holder}
 use Rattle.book.specs.declared.Holder.the-variants.{Free}
 
@@ -166,3 +167,13 @@ writeCall img u f n d =
 
 unfoldable pub openCall : List ℕ → ℕ → ℕ → Call ℕ
 openCall img u f = call img (IndexArg u × IndexArg f) (row 4 (HasFile (vol img) u f) end) 0 (openStep (vol img) (fileEntry u f))
+
+-- from one fill to the other: 12 asks that every short name and type has exactly the fill that it starts from
+unfoldable pub convertCall : ℕ → ℕ → List ℕ → Call ℕ
+convertCall from to img = call img (Unit {0}) (row 12 (AllFilled from (vol img)) end) 0 (convert to (vol img))
+
+abbrev pub toApostropheCall : List ℕ → Call ℕ
+toApostropheCall = convertCall 0 apostrophe
+
+abbrev pub toZerosCall : List ℕ → Call ℕ
+toZerosCall = convertCall apostrophe 0

@@ -12,7 +12,7 @@ use Rattle.book.specs.Image.{pages, Whole, Ready}
 use Rattle.book.specs.declared.Verdict.{Verdict}
 use Rattle.book.specs.declared.Verdict.the-variants.{Sound as Right, Broken}
 use Rattle.book.specs.declared.Refusal.{Refusal}
-use Rattle.book.specs.declared.Refusal.the-variants.{Size, Argument, Unsound, Missing, Taken, Kind, HasFiles, Full, Allowance, Unreserved, NoRun}
+use Rattle.book.specs.declared.Refusal.the-variants.{Size, Argument, Unsound, Missing, Taken, Kind, HasFiles, Full, Allowance, Unreserved, NoRun, Fill}
 use Rattle.book.specs.declared.Gate.{Gate}
 use Rattle.book.specs.declared.Gate.the-variants.{Shut, Open}
 
@@ -34,6 +34,7 @@ Shuts img args Full = ⊥
 Shuts img args Allowance = ⊥
 Shuts img args Unreserved = ⊥
 Shuts img args NoRun = ⊥
+Shuts img args Fill = ⊥
 
 -- open: the arguments are right, as `ok` tells, and the image is whole and sound
 abbrev pub Gated : List ℕ → Bool → Gate → Type 0

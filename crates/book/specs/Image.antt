@@ -2,7 +2,7 @@
 use mathlib.Core.Path.{_≡_}
 use mathlib.Core.List.{List}
 use Prim.Native.Nat.{ℕ, _+_, _/_, _%_, _≤_, _<_}
-use lib.ListN.{length}
+use lib.ListN.{length, getD}
 use Rattle.book.specs.Words.{vol}
 use Rattle.book.specs.Bits.{bitPages}
 use Rattle.book.specs.Rules.{Sound}
@@ -13,6 +13,10 @@ pages img = length img / 1024
 
 abbrev pub mostPages : ℕ
 mostPages = 16384
+
+-- an image is of 16-bit words
+abbrev pub Sixteen : List ℕ → Type 0
+Sixteen img = (i : ℕ) → getD img i 0 < 65536
 
 -- whole pages, 8 to 16,384 of them
 pub record Whole (img : List ℕ) : Type 0 where

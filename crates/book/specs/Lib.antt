@@ -22,6 +22,7 @@ pub mod Shrink
 pub mod Create
 pub mod Delete
 pub mod Format
+pub mod Convert
 pub mod Calls
 pub mod Yard
 pub mod Orders

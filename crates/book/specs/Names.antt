@@ -33,9 +33,13 @@ wordsOf s i = getD s (2 * i) 0 * 256 + getD s (2 * i + 1) 0
 abbrev pub apostrophe : ℕ
 apostrophe = 39
 
--- the name, an apostrophe, zeros. A field of n bytes takes the first n of these: a name of n bytes leaves no room for the apostrophe
-unfoldable pub packed : List ℕ → Words
-packed s = wordsOf (s ++ (apostrophe ∷ []))
+-- the name, the byte c, zeros. A field of n bytes takes the first n of these: a name of n bytes leaves no room for the byte behind it
+unfoldable pub packedBy : ℕ → List ℕ → Words
+packedBy c s = wordsOf (s ++ (c ∷ []))
+
+-- as names are written: with an apostrophe behind them
+abbrev pub packed : List ℕ → Words
+packed s = packedBy apostrophe s
 
 -- ---- as read
 

@@ -27,13 +27,16 @@ use Rattle.book.specs.Calls.{
   deleteFileCall,
   writeCall,
   openCall,
+  convertCall,
+  toApostropheCall,
+  toZerosCall,
 }
 use Rattle.book.specs.Yard.{Row, example, Right}
 
 abbrev order : Rows → List ℕ → Row
 order t paper = example (numbersOf t) paper
 
--- on any image, with any arguments; check has no argument, and its row 2 always holds
+-- on any image, with any arguments; check and the conversions have no argument, and their row 2 always holds
 abbrev pub tables : (img name type d : List ℕ) (u f n b p created : ℕ) (P : ℕ) (v : Vol) → List Row
 tables img name type d u f n b p created P v =
     order (checkCall img .table) (1 ∷ 2 ∷ 3 ∷ [])
@@ -55,10 +58,12 @@ tables img name type d u f n b p created P v =
     ∷ order (deleteFileCall img u f .table) (1 ∷ 2 ∷ 3 ∷ 4 ∷ [])
     ∷ order (writeCall img u f n d .table) (1 ∷ 2 ∷ 3 ∷ 4 ∷ [])
     ∷ order (openCall img u f .table) (1 ∷ 2 ∷ 3 ∷ 4 ∷ [])
+    ∷ order (toApostropheCall img .table) (1 ∷ 2 ∷ 3 ∷ 12 ∷ [])
+    ∷ order (toZerosCall img .table) (1 ∷ 2 ∷ 3 ∷ 12 ∷ [])
     ∷ order (rules P v) (1 ∷ 2 ∷ 3 ∷ 4 ∷ 5 ∷ 6 ∷ 7 ∷ 8 ∷ 9 ∷ 10 ∷ [])
     ∷ []
 
 pub orders : (img name type d : List ℕ) (u f n b p created : ℕ) (P : ℕ) (v : Vol) → Right (tables img name type d u f n b p created P v)
-unfolding Right numbersOf rules call asking judged positionRows checkCall findUserCall findFileCall addressCall readCall whoCall formatCall createUserCall deleteUserCall giveCall takeCall createIndexedCall createContiguousCall growCall shrinkCall deleteFileCall writeCall openCall
+unfolding Right numbersOf rules call asking judged positionRows checkCall findUserCall findFileCall addressCall readCall whoCall formatCall createUserCall deleteUserCall giveCall takeCall createIndexedCall createContiguousCall growCall shrinkCall deleteFileCall writeCall openCall convertCall
 orders img name type d u f n b p created P v =
-    (refl, (refl, (refl, (refl, (refl, (refl, (refl, (refl, (refl, (refl, (refl, (refl, (refl, (refl, (refl, (refl, (refl, (refl, (refl, (refl, tt))))))))))))))))))))
+    (refl, (refl, (refl, (refl, (refl, (refl, (refl, (refl, (refl, (refl, (refl, (refl, (refl, (refl, (refl, (refl, (refl, (refl, (refl, (refl, (refl, (refl, tt))))))))))))))))))))))

@@ -16,7 +16,7 @@ use Rattle.book.specs.Coincide.{broken-unsound}
 use Rattle.book.specs.Gate.{Shuts, Gated}
 use Rattle.book.specs.Enter.{Fit, Enters, Entered}
 use Rattle.book.specs.declared.Refusal.{Refusal}
-use Rattle.book.specs.declared.Refusal.the-variants.{Size, Argument, Unsound, Missing, Taken, Kind, HasFiles, Full, Allowance, Unreserved, NoRun}
+use Rattle.book.specs.declared.Refusal.the-variants.{Size, Argument, Unsound, Missing, Taken, Kind, HasFiles, Full, Allowance, Unreserved, NoRun, Fill}
 use Rattle.book.specs.declared.Gate.{Gate}
 use Rattle.book.specs.declared.Gate.the-variants.{Shut, Open}
 
@@ -33,6 +33,7 @@ number-pos Full = omega arith
 number-pos Allowance = omega arith
 number-pos Unreserved = omega arith
 number-pos NoRun = omega arith
+number-pos Fill = omega arith
 
 -- a refusal of a call's own: any but 1, 2 and 3
 abbrev pub Own : Refusal → Type 0
@@ -47,6 +48,7 @@ Own Full = Unit {0}
 Own Allowance = Unit {0}
 Own Unreserved = Unit {0}
 Own NoRun = Unit {0}
+Own Fill = Unit {0}
 
 -- nothing broken is told with it, for its number is not 3
 own-plain : (w : Refusal) → Own w → (brokenOf w ≡ unbroken) × (numberOf w ≡ 3 → ⊥)
@@ -58,6 +60,7 @@ own-plain Full h = (refl, λ e. omega (arith, e))
 own-plain Allowance h = (refl, λ e. omega (arith, e))
 own-plain Unreserved h = (refl, λ e. omega (arith, e))
 own-plain NoRun h = (refl, λ e. omega (arith, e))
+own-plain Fill h = (refl, λ e. omega (arith, e))
 
 module _ {A : Type 0} (img : List ℕ) (args : Type 0) (rest : Rows) (none : A) (gives : A → Type 0) (after : Vol) where
   abbrev C : Call A
@@ -86,6 +89,7 @@ module _ {A : Type 0} (img : List ℕ) (args : Type 0) (rest : Rows) (none : A) 
   shuts Allowance h = absurd h
   shuts Unreserved h = absurd h
   shuts NoRun h = absurd h
+  shuts Fill h = absurd h
 
   -- the gate is shut: that is the call's outcome
   pub shut : {g : Gate} {w : Refusal} → Entered img args g → g ≡ Shut w → Outcome C img (refusedWith none w) img

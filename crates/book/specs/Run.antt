@@ -12,7 +12,7 @@ use Rattle.book.specs.declared.Place.{Place}
 use Rattle.book.specs.declared.Break.{Break}
 use Rattle.book.specs.Outcome.{Call, call, Outcome}
 use Rattle.book.specs.Calls.{checkCall, findUserCall, findFileCall, addressCall, formatCall, formatDefaultCall, createUserCall, deleteUserCall}
-use Rattle.book.specs.Calls.{giveCall, takeCall, createIndexedCall, createContiguousCall, growCall, shrinkCall, deleteFileCall, writeCall, openCall}
+use Rattle.book.specs.Calls.{giveCall, takeCall, createIndexedCall, createContiguousCall, growCall, shrinkCall, deleteFileCall, writeCall, openCall, toApostropheCall, toZerosCall}
 
 -- a step is ten numbers: 0 the call; 1 the user; 2 the file; 3 the page count, the position or a format's bit page; 4 the time of creation;
 -- 5 and 6 where the name lies in the text, and its length; 7 and 8 the same of the type; 9 where a page's data lies in the words
@@ -43,7 +43,7 @@ namesCall img s text C = nameCall img s text (λ name. partCall img (getD s 7 0)
 unfoldable pub dataCall : List ℕ → List ℕ → List ℕ → (List ℕ → Call ℕ) → Call ℕ
 dataCall img s words C = partCall img (getD s 9 0) 1024 words C
 
--- the call of a number, in the order of document 01's list of work, with user u, file f, count n and time of creation t;
+-- the call of a number, in the order of document 01's list of work and then of document 02, with user u, file f, count n and time of creation t;
 -- 6 and 16, whose answers are no single value, and any other number are wrong arguments
 unfoldable pub numbered : ℕ → (u f n t : ℕ) → List ℕ → List ℕ → List ℕ → List ℕ → Call ℕ
 numbered c u f n t img s text words =
@@ -64,7 +64,9 @@ numbered c u f n t img s text words =
     (pickCall (eqb c 17) (dataCall img s words (writeCall img u f n))
     (pickCall (eqb c 18) (openCall img u f)
     (pickCall (eqb c 19) (nameCall img s text (formatDefaultCall img))
-    (wrongCall img)))))))))))))))))
+    (pickCall (eqb c 20) (toApostropheCall img)
+    (pickCall (eqb c 21) (toZerosCall img)
+    (wrongCall img)))))))))))))))))))
 
 unfoldable pub stepCall : List ℕ → List ℕ → List ℕ → List ℕ → Call ℕ
 stepCall img s text words = numbered (getD s 0 0) (getD s 1 0) (getD s 2 0) (getD s 3 0) (getD s 4 0) img s text words

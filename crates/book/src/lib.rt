@@ -47,7 +47,7 @@ pub enum Verdict {
     Broken { rule: u32 },
 }
 
-// Why a call was refused, in the order of the numbers 1 to 11.
+// Why a call was refused, in the order of the numbers 1 to 12.
 pub enum Refusal {
     Size,
     Argument,
@@ -60,6 +60,7 @@ pub enum Refusal {
     Allowance,
     Unreserved,
     NoRun,
+    Fill,
 }
 
 // The answer of every call but who-holds and read.

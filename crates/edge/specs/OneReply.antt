@@ -7,12 +7,13 @@ use Rattle.book.specs.Answers.{Numbers}
 use Rattle.book.specs.Outcome.{Call, Single}
 use Rattle.book.specs.Coincide.{one-outcome}
 use Rattle.book.specs.Calls.{checkCall, findUserCall, findFileCall, addressCall, whoCall, formatCall, formatDefaultCall, createUserCall, deleteUserCall, giveCall, takeCall}
-use Rattle.book.specs.Calls.{createIndexedCall, createContiguousCall, growCall, shrinkCall, deleteFileCall, writeCall, openCall}
+use Rattle.book.specs.Calls.{createIndexedCall, createContiguousCall, growCall, shrinkCall, deleteFileCall, writeCall, openCall, toApostropheCall, toZerosCall}
 use Rattle.book.specs.Format.{middle}
 use Rattle.book.specs.Image.{pages}
+use Rattle.book.specs.Names.{apostrophe}
 use Rattle.book.specs.declared.Holder.{Holder}
 use Rattle.book.specs.declared.Place.{Place}
-use Rattle.laws.specs.Call.Singles.{single-check, single-address, single-create-user, single-delete-user, single-give, single-take, single-create-indexed, single-create-contiguous, single-grow, single-shrink, single-delete-file, single-write, single-open, single-find-user, single-find-file}
+use Rattle.laws.specs.Call.Singles.{single-check, single-convert, single-address, single-create-user, single-delete-user, single-give, single-take, single-create-indexed, single-create-contiguous, single-grow, single-shrink, single-delete-file, single-write, single-open, single-find-user, single-find-file}
 use Rattle.laws.specs.Count.Who.{single-who}
 use Rattle.laws.specs.Format.Call.{single-format}
 use Rattle.sound.specs.declared.numbers.HolderNumbers.{HolderNumbers}
@@ -106,6 +107,12 @@ module _ (img : List ℕ) where
 
   pub one-create-user : (name : List ℕ) → OneReply img (createUserCall img name)
   one-create-user name = one-reply _ (single-create-user img name) img
+
+  pub one-to-apostrophe : OneReply img (toApostropheCall img)
+  one-to-apostrophe = one-reply _ (single-convert img 0 apostrophe) img
+
+  pub one-to-zeros : OneReply img (toZerosCall img)
+  one-to-zeros = one-reply _ (single-convert img apostrophe 0) img
 
   pub one-who : (page : ℕ) (r s : HolderReply) → Held (whoCall img page) img r → Held (whoCall img page) img s → r ≡ s
   one-who page = one-held _ (single-who img page) img

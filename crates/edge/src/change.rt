@@ -3,7 +3,7 @@ use crate::spell::Reply;
 use crate::spell::reply_of;
 ghost use Rattle.edge.specs.Replied.{Replied};
 ghost use Rattle.book.specs.Calls.{formatCall, formatDefaultCall, createUserCall, deleteUserCall, giveCall, takeCall, writeCall, openCall};
-ghost use Rattle.book.specs.Calls.{createIndexedCall, createContiguousCall, growCall, shrinkCall, deleteFileCall};
+ghost use Rattle.book.specs.Calls.{createIndexedCall, createContiguousCall, growCall, shrinkCall, deleteFileCall, toApostropheCall, toZerosCall};
 
 // Makes a new volume with its bit page at `at`.
 #[no_mangle]
@@ -126,4 +126,20 @@ pub extern "C" fn nord_note_open(img: &mut [u16], user: usize, file: usize) -> R
     ensures { λ r. ⌜ Replied (openCall (now (img .entry)) user file) (now (img .entry)) r (now (img .exit)) ⌝ }
 {
     reply_of(nord::change::note_open(img, false, user, file))
+}
+
+// Converts names and types from zeros behind a short one to an apostrophe and then zeros.
+#[no_mangle]
+pub extern "C" fn nord_convert_to_apostrophe(img: &mut [u16]) -> Reply
+    ensures { λ r. ⌜ Replied (toApostropheCall (now (img .entry))) (now (img .entry)) r (now (img .exit)) ⌝ }
+{
+    reply_of(convert::to_apostrophe(img, false))
+}
+
+// And back to zeros.
+#[no_mangle]
+pub extern "C" fn nord_convert_to_zeros(img: &mut [u16]) -> Reply
+    ensures { λ r. ⌜ Replied (toZerosCall (now (img .entry))) (now (img .entry)) r (now (img .exit)) ⌝ }
+{
+    reply_of(convert::to_zeros(img, false))
 }

@@ -21,7 +21,7 @@ use Rattle.laws.specs.Bits.Claim.{bitPage-is, bitPage-rest}
 use Rattle.laws.specs.Count.Good.{Good, good}
 use Rattle.laws.specs.Count.Reach.{below-shape}
 use Rattle.laws.specs.Frame.Edit.{obj-page, user-page}
-use Rattle.laws.specs.Frame.Renewed.{Master, rule1}
+use Rattle.laws.specs.Frame.Renewed.{master-words, rule1}
 use Rattle.laws.specs.Frame.Rest.{rest, file-le}
 use Rattle.laws.specs.Frame.Roots.{blocksR-add, blocksR-frame, blocksR-le, weighR-frame}
 use Rattle.laws.specs.Tree.Pointer.{page-ext}
@@ -122,10 +122,9 @@ module _ {img : List ℕ} {u f : ℕ} {h : Head} (a : FileHead img u f h) where
       same = ap (λ (n : ℕ). n / 1024) len
 
       pub erased-freeing : Freeing img′ (h .bits)
-      unfolding Master
       erased-freeing = record {
         whole = record { even = omega (arith, a .ready .whole .even); least = omega (arith, a .ready .whole .least); most = omega (arith, a .ready .whole .most) };
-        rule = subst₂ (λ (N : ℕ) (x : Vol). Rule1 N x) (sym same) (sym i) (rule1 P v w (λ k m l. master k) (a .ready .sound .r1));
+        rule = subst₂ (λ (N : ℕ) (x : Vol). Rule1 N x) (sym same) (sym i) (rule1 P v w (master-words v w (λ k m l. master k)) (a .ready .sound .r1));
         at = ap (λ (x : Vol). page (x 0) bitPointer) i ∙ page-ext (w 0) (v 0) bitPointer (master _) (master _) ∙ a .head .bitsAt .at;
       }
 

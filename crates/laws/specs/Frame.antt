@@ -1,6 +1,7 @@
 -- What a change of words leaves alone: trees, entries, rules.
 pub mod Beside
 pub mod Edit
+pub mod EntryFile
 pub mod Fields
 pub mod Places
 pub mod Quiet

@@ -8,6 +8,7 @@ pub mod Shrink
 pub mod Create
 pub mod Delete
 pub mod User
+pub mod Convert
 pub mod Call
 pub mod Format
 pub mod Place

@@ -6,7 +6,7 @@ use Rattle.book.specs.Words.{Vol}
 use Rattle.book.specs.Entries.{newFile}
 use Rattle.book.specs.Calls.{HasUser, IsFile}
 use Rattle.book.specs.declared.Refusal.{Refusal}
-use Rattle.book.specs.declared.Refusal.the-variants.{Size, Argument, Unsound, Missing, Taken, Kind, HasFiles, Full, Allowance, Unreserved, NoRun}
+use Rattle.book.specs.declared.Refusal.the-variants.{Size, Argument, Unsound, Missing, Taken, Kind, HasFiles, Full, Allowance, Unreserved, NoRun, Fill}
 use Rattle.book.specs.declared.Answer.{Answer}
 use Rattle.book.specs.declared.Answer.the-variants.{Done, Refused}
 
@@ -22,6 +22,7 @@ Stale v u name type Full = HasUser v u × ((f : ℕ) → IsFile v u name type f 
 Stale v u name type Allowance = ⊥
 Stale v u name type Unreserved = ⊥
 Stale v u name type NoRun = ⊥
+Stale v u name type Fill = ⊥
 
 pub record New (v : Vol) (u : ℕ) (name type : List ℕ) (f : ℕ) : Type 0 where
   pub owner : HasUser v u

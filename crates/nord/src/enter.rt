@@ -34,6 +34,14 @@ fn admit(img: &[u16], known: bool, ok: bool) -> Gate
     Gate::Open { visits: 0 }
 }
 
+// No argument.
+pub fn enter(img: &[u16], known: bool) -> Gate
+    requires { ⌜ Known known (now img) ⌝ }
+    ensures { λ r. ⌜ Entered (now (img .entry)) (Unit {0}) r ⌝ }
+{
+    admit(img, known, true)
+}
+
 // A user index.
 pub(crate) fn enter_user(img: &[u16], known: bool, user: usize) -> Gate
     requires { ⌜ Known known (now img) ⌝ }

@@ -15,18 +15,21 @@ use Rattle.book.specs.Image.{pages, Whole, Ready}
 use Rattle.book.specs.Outcome.{Call, call, asking, judged, Outcome, DoneAs, Single}
 use Rattle.book.specs.Coincide.{single-call}
 use Rattle.book.specs.Calls.{checkCall, findUserCall, findFileCall, addressCall, formatCall, createUserCall, deleteUserCall, positionRows}
-use Rattle.book.specs.Calls.{giveCall, takeCall, createIndexedCall, createContiguousCall, growCall, shrinkCall, deleteFileCall, writeCall, openCall}
+use Rattle.book.specs.Calls.{giveCall, takeCall, createIndexedCall, createContiguousCall, growCall, shrinkCall, deleteFileCall, writeCall, openCall, convertCall}
 use Rattle.book.specs.Format.{middle}
+use Rattle.book.specs.Names.{apostrophe, ends}
 use Rattle.book.specs.Run.{wrongCall, pickCall, partCall, nameCall, namesCall, dataCall, numbered, stepCall}
 use Rattle.laws.specs.Call.Done.{done}
 use Rattle.laws.specs.Call.After.{kept-call}
 use Rattle.laws.specs.Call.Open.{kept-open}
 use Rattle.laws.specs.Call.Singles.{single-find-user, single-find-file}
 use Rattle.laws.specs.Call.Write.{kept-write}
+use Rattle.laws.specs.Convert.Call.{kept-convert}
 use Rattle.laws.specs.Create.FileCall.{kept-create-indexed, kept-create-contiguous}
 use Rattle.laws.specs.Create.UserCall.{kept-create-user}
 use Rattle.laws.specs.Delete.FileCall.{kept-delete-file}
 use Rattle.laws.specs.Delete.User.{kept-delete-user}
+use Rattle.laws.specs.File.Stored.{ends-zero, ends-apostrophe}
 use Rattle.laws.specs.Format.Call.{single-format, format-new}
 use Rattle.laws.specs.Grow.Call.{kept-grow}
 use Rattle.laws.specs.Shrink.Call.{kept-shrink}
@@ -154,6 +157,10 @@ module _ (img : List ℕ) where
       unfolding addressCall call positionRows Counted
       fair-address n = quiet img _ _ _ _ (omega arith, tt) (single-call img _ _ _ _)
 
+  fair-convert : (from to : ℕ) → 0 < ends to → Fair img (convertCall from to img)
+  unfolding convertCall call Counted
+  fair-convert from to mark = fair img _ _ _ _ _ (omega arith, tt) (single-call img _ _ _ _) (kept-convert from to mark img)
+
   -- a call with a part of a list
   fair-part : (a n : ℕ) (l : List ℕ) (C : List ℕ → Call ℕ) → ((d : List ℕ) → Fair img (C d)) → Fair img (partCall img a n l C)
   unfolding partCall
@@ -191,7 +198,9 @@ module _ (img : List ℕ) where
       (fair-pick img (eqb c 15) _ _ (fair-delete-file u f)
       (fair-pick img (eqb c 17) _ _ (fair-data s words _ (fair-write u f n))
       (fair-pick img (eqb c 18) _ _ (fair-open u f)
-      (fair-pick img (eqb c 19) _ _ (fair-name s text _ (λ name. fair-format name (middle (pages img)))) fair-wrong))))))))))))))))
+      (fair-pick img (eqb c 19) _ _ (fair-name s text _ (λ name. fair-format name (middle (pages img))))
+      (fair-pick img (eqb c 20) _ _ (fair-convert 0 apostrophe ends-apostrophe)
+      (fair-pick img (eqb c 21) _ _ (fair-convert apostrophe 0 ends-zero) fair-wrong))))))))))))))))))
 
 -- so any step's call has it
 pub fair-step : (img s text words : List ℕ) → Fair img (stepCall img s text words)

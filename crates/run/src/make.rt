@@ -28,7 +28,8 @@ ghost use Rattle.book.specs.Calls.{formatCall, formatDefaultCall, findUserCall,
 ghost use Rattle.book.specs.Enter.{Known};
 ghost use Rattle.book.specs.Run.{nameCall, namesCall, dataCall, stepCall};
 
-// The numbers of the calls: their places in document 01's list of work. 6, who holds a page, and 16, read a page, are no steps.
+// The numbers of the calls: their places in document 01's list of work, then those of document 02. 6, who holds a page, and 16, read a page, are
+// no steps.
 const FORMAT: usize = 1;
 
 const CHECK: usize = 2;
@@ -62,6 +63,10 @@ const WRITE_PAGE: usize = 17;
 const NOTE_OPEN: usize = 18;
 
 const FORMAT_DEFAULT: usize = 19;
+
+const CONVERT_TO_APOSTROPHE: usize = 20;
+
+const CONVERT_TO_ZEROS: usize = 21;
 
 // Format by the name that the step tells. Here and below a part that does not lie in its list is a wrong argument.
 fn make_format(img: &mut [u16], known: bool, at: usize, step: &[u32], text: &[u8]) -> Answer
@@ -243,6 +248,8 @@ pub(crate) fn make(img: &mut [u16], known: bool, step: &[u32], text: &[u8], word
         WRITE_PAGE => make_write_page(img, known, user, file, n, step, words),
         NOTE_OPEN => change::note_open(img, known, user, file),
         FORMAT_DEFAULT => make_format_default(img, known, step, text),
+        CONVERT_TO_APOSTROPHE => convert::to_apostrophe(img, known),
+        CONVERT_TO_ZEROS => convert::to_zeros(img, known),
         _ => wrong(img, known),
     }
 }

@@ -25,6 +25,7 @@ pub fn number_of(why: Refusal) -> u32
         Refusal::Allowance => 9,
         Refusal::Unreserved => 10,
         Refusal::NoRun => 11,
+        Refusal::Fill => 12,
     }
 }
 
@@ -56,6 +57,7 @@ pub fn broken_of(why: Refusal) -> Break
         Refusal::Allowance => nothing_broken(),
         Refusal::Unreserved => nothing_broken(),
         Refusal::NoRun => nothing_broken(),
+        Refusal::Fill => nothing_broken(),
     }
 }
 

@@ -8,6 +8,8 @@ use edge::ask::nord_check;
 use edge::ask::nord_find_file;
 use edge::ask::nord_find_user;
 use edge::ask::nord_who_holds;
+use edge::change::nord_convert_to_apostrophe;
+use edge::change::nord_convert_to_zeros;
 use edge::change::nord_create_contiguous;
 use edge::change::nord_create_indexed;
 use edge::change::nord_create_user;
@@ -36,6 +38,8 @@ pub fn numbers(img: &mut [u16]) {
     allowance(img);
     room(img);
     run(img);
+    fills(img);
+    back(img);
     filled(img);
 }
 
@@ -125,6 +129,27 @@ fn run(img: &mut [u16]) {
     case(
         b"6: grow of a contiguous file",
         refused(nord_grow(img, 0, 2), 6),
+    );
+}
+
+// 12, and from apostrophes to zeros.
+fn fills(img: &mut [u16]) {
+    case(
+        b"12: names end in an apostrophe",
+        refused(nord_convert_to_apostrophe(img), 12),
+    );
+    case(b"to zeros", done(nord_convert_to_zeros(img), 0));
+}
+
+// And back.
+fn back(img: &mut [u16]) {
+    case(
+        b"12: names end in zeros",
+        refused(nord_convert_to_zeros(img), 12),
+    );
+    case(
+        b"back to apostrophes",
+        done(nord_convert_to_apostrophe(img), 0),
     );
 }
 

@@ -14,7 +14,7 @@ use Rattle.book.specs.Written.{word-pos, put-here, put-page, put-word}
 use Rattle.laws.specs.Bits.Claim.{bitPage-is}
 use Rattle.laws.specs.Bits.Mark.{mark-page, mark-master, mark-bit, mark-other}
 use Rattle.laws.specs.Count.Good.{bit-le}
-use Rattle.laws.specs.Frame.Renewed.{Master, rule1}
+use Rattle.laws.specs.Frame.Renewed.{master-words, rule1}
 use Rattle.laws.specs.Tree.Pointer.{page-ext}
 use Rattle.laws.specs.Tree.Slot.{hit-same, hit-other}
 
@@ -137,8 +137,7 @@ module _ (P : ℕ) (v : Vol) (r : Rule1 P v) where
       ∙ mark-is p _ h ∙ set-own v (B v p) (bitWord p) (bitPlace p)
 
   pub mark-rule : (p x : ℕ) → p < P → x < 2 → Rule1 P (mark P v p x)
-  unfolding Master
-  mark-rule p x h hx = rule1 P v (mark P v p x) (λ k a b. mark-master P v r p x h hx k) r
+  mark-rule p x h hx = rule1 P v (mark P v p x) (master-words v (mark P v p x) (λ k a b. mark-master P v r p x h hx k)) r
 
 module _ (P : ℕ) (v : Vol) (r : Rule1 P v) where
   abbrev b : ℕ

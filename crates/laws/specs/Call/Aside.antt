@@ -1,8 +1,8 @@
--- A call on another user leaves a user's entry, his files' entries and the addresses of their pages: so it cannot bring about a want of space. Assumes nothing.
+-- A call on another user leaves a user's entry, his files' entries and the addresses of their pages, and a conversion all of it but names: so neither can bring about a want of space. Assumes nothing.
 use mathlib.Core.Path.{_≡_, refl, sym, ap, subst, _∙_}
-use mathlib.Core.Logic.{_≢_, _↔_}
+use mathlib.Core.Logic.{_≢_, _⊎_, _↔_, inl, inr}
 use mathlib.Core.List.{List, [], _∷_}
-use Prim.Native.Nat.{ℕ, _/_, _<_}
+use Prim.Native.Nat.{ℕ, _/_, _≤_, _<_}
 use native.Mathlib.Decide.{decLt}
 use native.Mathlib.Omega.{arith}
 use Rattle.book.specs.Words.{Vol, vol}
@@ -10,6 +10,7 @@ use Rattle.book.specs.Trees.{pageAt}
 use Rattle.book.specs.Entries.{user, object, used, given, usedPages, spare, pageCount, fileEntry, newUser, newFile}
 use Rattle.book.specs.Files.{fileAt, need}
 use Rattle.book.specs.Image.{pages, Whole, IndexArg}
+use Rattle.book.specs.Names.{apostrophe}
 use Rattle.book.specs.Pointers.{flags, flagsAbove}
 use Rattle.book.specs.Rules.{Sound}
 use Rattle.book.specs.Answers.{Numbers}
@@ -20,12 +21,15 @@ use Rattle.laws.specs.Call.After.{after-call}
 use Rattle.laws.specs.Call.Open.{users-open, objects-open, addresses-open}
 use Rattle.laws.specs.Call.Passes.{whole-all}
 use Rattle.laws.specs.Call.Write.{users-write, objects-write, addresses-write}
+use Rattle.laws.specs.Convert.Call.{BesideNames, beside-convert}
+use Rattle.laws.specs.Convert.Pass.{SameAddresses}
 use Rattle.laws.specs.Create.Created.{BesideNew}
 use Rattle.laws.specs.Create.FileCall.{beside-create-indexed, beside-create-contiguous}
 use Rattle.laws.specs.Create.User.{new-unused}
 use Rattle.laws.specs.Create.UserCall.{users-create-user, objects-create-user, addresses-create-user}
 use Rattle.laws.specs.Delete.FileCall.{beside-delete-file}
 use Rattle.laws.specs.Delete.User.{users-delete-user, objects-delete-user, addresses-delete-user}
+use Rattle.laws.specs.File.Stored.{ends-zero, ends-apostrophe}
 use Rattle.laws.specs.Frame.Beside.{Beside}
 use Rattle.laws.specs.Grow.Call.{beside-grow}
 use Rattle.laws.specs.Grow.Space.{space-refused}
@@ -49,6 +53,8 @@ use Rattle.laws.specs.Call.Sequence.{
   deletesFile,
   writes,
   opens,
+  convertsToApostrophe,
+  convertsToZeros,
   Calling,
   Calls,
   asks-left,
@@ -64,7 +70,7 @@ pub record Untouched (u : ℕ) (v v′ : Vol) : Type 0 where
 same : (u : ℕ) (v : Vol) → Untouched u v v
 same u v = record { own = λ k h. refl; files = λ f i k h. refl; addresses = λ f i m. refl }
 
--- the call is on another user, or only asks; a format is on all, and a create user on one that is not there yet
+-- the call is on another user, or only asks; a format and a conversion are on all, and a create user on one that is not there yet
 unfoldable pub Aside : ℕ → Step → Type 0
 Aside u (asks q) = Unit {0}
 Aside u (formats name b) = ⊥
@@ -80,6 +86,8 @@ Aside u (shrinks x g) = u ≢ x
 Aside u (deletesFile x g) = u ≢ x
 Aside u (writes x g n d) = u ≢ x
 Aside u (opens x g) = u ≢ x
+Aside u convertsToApostrophe = ⊥
+Aside u convertsToZeros = ⊥
 
 -- all calls of a list are
 unfoldable pub AllAside : ℕ → List Step → Type 0
@@ -172,6 +180,8 @@ module _ (u : ℕ) (hu : u < 256) where
     }
     | no h ↦ after-call img _ _ 0 _ _ r img′ o (Untouched u (vol img)) (same u (vol img)) (λ W b S c. absurd (let z : ⊥ = omega (arith, b .1) in z))
   ]
+  aside convertsToApostrophe img img′ c q a = absurd a
+  aside convertsToZeros img img′ c q a = absurd a
 
   then : (a b c : Vol) → Untouched u a b → Untouched u b c → Untouched u a c
   then a b c s t = record {
@@ -188,38 +198,93 @@ module _ (u : ℕ) (hu : u < 256) where
       let t : Untouched u (vol img) (vol next) = aside s img next c q (a .0) in
       then (vol img) (vol next) (vol img′) t (aside-all l next img′ cs (subst (λ (x : ℕ). 0 < x) (sym (used-ext _ _ (t .own 0 (omega arith)))) q) (a .1))
 
+-- ---- names aside
+
+-- the words of user u's entry and of his files' entries but for names and types, and their pages, are as they were
+pub record Unmoved (u : ℕ) (v v′ : Vol) : Type 0 where
+  pub own : (k : ℕ) → (k < 1) ⊎ (9 ≤ k) → k < 32 → user v′ u k ≡ user v u k
+  pub files : (f : ℕ) → f < 256 → (k : ℕ) → (k < 1) ⊎ (11 ≤ k) → k < 32 → object v′ (fileEntry u f) k ≡ object v (fileEntry u f) k
+  pub addresses : (f : ℕ) → f < 256 → (m : ℕ) → pageAt v′ (fileAt v′ (fileEntry u f)) m ≡ pageAt v (fileAt v (fileEntry u f)) m
+
+-- the call is on another user, or it converts
+pub data Mild (u : ℕ) : Step → Type 0 where
+  others : {s : Step} → Aside u s → Mild u s
+  toApostrophe : Mild u convertsToApostrophe
+  toZeros : Mild u convertsToZeros
+
+unfoldable pub AllMild : ℕ → List Step → Type 0
+AllMild u [] = Unit {0}
+AllMild u (s ∷ l) = Mild u s × AllMild u l
+
+-- so are calls on others alone
+pub aside-mild : (u : ℕ) (l : List Step) → AllAside u l → AllMild u l
+unfolding AllAside AllMild
+aside-mild u [] a = tt
+aside-mild u (s ∷ l) a = (others (a .0), aside-mild u l (a .1))
+
+module _ (u : ℕ) (hu : u < 256) where
+  besides : (v v′ : Vol) → BesideNames v v′ → Unmoved u v v′
+  unfolding SameAddresses
+  besides v v′ b = record {
+    own = λ k a h. b .users u hu k h a;
+    files = λ f i k a h. b .objects (fileEntry u f) (omega arith) k h a;
+    addresses = λ f i m. b .addresses (fileEntry u f) (omega arith) m;
+  }
+
+  mild : (s : Step) (img img′ : List ℕ) → Calling s img img′ → 0 < used (user (vol img) u) → Mild u s → Unmoved u (vol img) (vol img′)
+  mild s img img′ c q (others a) = let t = aside u hu s img img′ c q a in
+      record { own = λ k o h. t .own k h; files = λ f i k o h. t .files f i k h; addresses = λ f i m. t .addresses f i m }
+  mild convertsToApostrophe img img′ (r, o) q toApostrophe = besides (vol img) (vol img′) (beside-convert 0 apostrophe ends-apostrophe img r img′ o)
+  mild convertsToZeros img img′ (r, o) q toZeros = besides (vol img) (vol img′) (beside-convert apostrophe 0 ends-zero img r img′ o)
+
+  -- and so for any sequence of them
+  pub mild-all : (l : List Step) (img img′ : List ℕ) → Calls l img img′ → 0 < used (user (vol img) u) → AllMild u l → Unmoved u (vol img) (vol img′)
+  unfolding Calls AllMild
+  mild-all [] img img′ e q a = subst (λ (i : List ℕ). Unmoved u (vol img) (vol i)) (sym e) (record { own = λ k o h. refl; files = λ f i k o h. refl; addresses = λ f i m. refl })
+  mild-all (s ∷ l) img img′ (next, c, cs) q a =
+      let t : Unmoved u (vol img) (vol next) = mild s img next c q (a .0) in
+      let w = mild-all l next img′ cs (subst (λ (x : ℕ). 0 < x) (sym (used-ext _ _ (t .own 0 (inl (omega arith)) (omega arith)))) q) (a .1) in
+      record {
+        own = λ k o h. w .own k o h ∙ t .own k o h;
+        files = λ f i k o h. w .files f i k o h ∙ t .files f i k o h;
+        addresses = λ f i m. w .addresses f i m ∙ t .addresses f i m;
+      }
+
 -- ---- so what growing a file of his asks for, and what he has left, stay
 
-module _ (u : ℕ) (v v′ : Vol) (t : Untouched u v v′) where
+module _ (u : ℕ) (v v′ : Vol) (t : Unmoved u v v′) where
+  own : (k : ℕ) → 9 ≤ k → k < 32 → user v′ u k ≡ user v u k
+  own k h l = t .own k (inr h) l
+
   spare-stays : spare v′ u ≡ spare v u
   unfolding spare given usedPages
   spare-stays =
-      let g = two-ext (user v′ u) (user v u) 14 (t .own 14 (omega arith)) (t .own 15 (omega arith)) in
-      let s = two-ext (user v′ u) (user v u) 16 (t .own 16 (omega arith)) (t .own 17 (omega arith)) in
+      let g = two-ext (user v′ u) (user v u) 14 (own 14 (omega arith) (omega arith)) (own 15 (omega arith) (omega arith)) in
+      let s = two-ext (user v′ u) (user v u) 16 (own 16 (omega arith) (omega arith)) (own 17 (omega arith) (omega arith)) in
       omega (arith, g, s)
 
   module _ (f : ℕ) (hf : f < 256) where
     pages-stay : pageCount (object v′ (fileEntry u f)) ≡ pageCount (object v (fileEntry u f))
-    pages-stay = two-ext (object v′ (fileEntry u f)) (object v (fileEntry u f)) 26 (t .files f hf 26 (omega arith)) (t .files f hf 27 (omega arith))
+    pages-stay = two-ext (object v′ (fileEntry u f)) (object v (fileEntry u f)) 26 (t .files f hf 26 (inr (omega arith)) (omega arith)) (t .files f hf 27 (inr (omega arith)) (omega arith))
 
     file-stays : HasFile v u f → HasFile v′ u f
     file-stays h = (
-      subst (λ (x : ℕ). 0 < x) (sym (used-ext _ _ (t .own 0 (omega arith)))) (h .0),
-      subst (λ (x : ℕ). 0 < x) (sym (used-ext _ _ (t .files f hf 0 (omega arith)))) (h .1),
+      subst (λ (x : ℕ). 0 < x) (sym (used-ext _ _ (t .own 0 (inl (omega arith)) (omega arith)))) (h .0),
+      subst (λ (x : ℕ). 0 < x) (sym (used-ext _ _ (t .files f hf 0 (inl (omega arith)) (omega arith)))) (h .1),
     )
 
     kind-stays : Grows v (fileEntry u f) → Grows v′ (fileEntry u f)
     unfolding flags
-    kind-stays k r = k (sym (ap (λ (x : ℕ). x / flagsAbove) (t .files f hf 30 (omega arith))) ∙ r .0, omega (arith, r .1, pages-stay))
+    kind-stays k r = k (sym (ap (λ (x : ℕ). x / flagsAbove) (t .files f hf 30 (inr (omega arith)) (omega arith))) ∙ r .0, omega (arith, r .1, pages-stay))
 
-pub space-others : (u : ℕ) → u < 256 → (l : List Step) (img img′ : List ℕ) → Calls l img img′ → 0 < used (user (vol img) u) → AllAside u l
+pub space-others : (u : ℕ) → u < 256 → (l : List Step) (img img′ : List ℕ) → Calls l img img′ → 0 < used (user (vol img) u) → AllMild u l
     → (spare (vol img′) u ≡ spare (vol img) u) × ((f : ℕ) → f < 256 → pageCount (object (vol img′) (fileEntry u f)) ≡ pageCount (object (vol img) (fileEntry u f)))
 space-others u hu l img img′ cs q a =
-    let t : Untouched u (vol img) (vol img′) = aside-all u hu l img img′ cs q a in (spare-stays u _ _ t, pages-stay u _ _ t)
+    let t : Unmoved u (vol img) (vol img′) = mild-all u hu l img img′ cs q a in (spare-stays u _ _ t, pages-stay u _ _ t)
 
--- growing an existing indexed file is refused for space after any calls on others exactly if it is before them
+-- growing an existing indexed file is refused for space after any calls on others, and conversions, exactly if it is before them
 module _ (u f : ℕ) (A : IndexArg u × IndexArg f) (img img′ : List ℕ) (W : Whole img) (S : Sound (pages img) (vol img)) (H : HasFile (vol img) u f) (K : Grows (vol img) (fileEntry u f))
-    (l : List Step) (cs : Calls l img img′) (a : AllAside u l) where
+    (l : List Step) (cs : Calls l img img′) (a : AllMild u l) where
   pub space-stays : (r s : Numbers ℕ) (i j : List ℕ) → Outcome (growCall img u f) img r i → Outcome (growCall img′ u f) img′ s j → (r .number ≡ 9) ↔ (s .number ≡ 9)
   space-stays r s i j o p = (
     (λ q. later .1 (omega (arith, now .0 q, spare-same, need-same))),
@@ -229,8 +294,8 @@ module _ (u f : ℕ) (A : IndexArg u × IndexArg f) (img img′ : List ℕ) (W :
       hf : f < 256
       hf = omega (arith, A .1)
 
-      t : Untouched u (vol img) (vol img′)
-      t = aside-all u (omega (arith, A .0)) l img img′ cs (H .0) a
+      t : Unmoved u (vol img) (vol img′)
+      t = mild-all u (omega (arith, A .0)) l img img′ cs (H .0) a
 
       spare-same : spare (vol img′) u ≡ spare (vol img) u
       spare-same = spare-stays u (vol img) (vol img′) t

@@ -1,11 +1,10 @@
 -- Note an open: the image stays sound, and word 19 of the file's entry alone differs. Assumes nothing.
-use mathlib.Core.Path.{_≡_, refl, sym, ap, _∙_, subst}
-use mathlib.Core.Logic.{_≢_, _⊎_, inl, inr}
+use mathlib.Core.Path.{_≡_, refl, sym, ap, _∙_, subst, fun-ext}
+use mathlib.Core.Logic.{_≢_}
 use mathlib.Core.List.{List}
-use Prim.Native.Nat.{ℕ, _+_, _*_, _/_, _%_, _≤_, _<_}
+use Prim.Native.Nat.{ℕ, _+_, _/_, _<_}
 use native.Mathlib.Decide.{ℕ-discrete}
 use native.Mathlib.Omega.{arith}
-use Rattle.sums.specs.Sum.{is}
 use Rattle.book.specs.Answers.{Numbers}
 use Rattle.book.specs.Calls.{openCall}
 use Rattle.book.specs.Entries.{Table, entry, userFile, objectFile, user, object, used, objectPage, entryWord, fileEntry}
@@ -13,22 +12,19 @@ use Rattle.book.specs.Files.{fileAt}
 use Rattle.book.specs.Holders.{hit}
 use Rattle.book.specs.Image.{pages}
 use Rattle.book.specs.Outcome.{Outcome}
+use Rattle.book.specs.Pointers.{volumeName}
 use Rattle.book.specs.Rows.{Clear}
 use Rattle.book.specs.Rules.{Sound}
 use Rattle.book.specs.Steps.{openStep}
-use Rattle.book.specs.Trees.{Root, weighR, pageAt}
-use Rattle.book.specs.Words.{Vol, vol, word}
-use Rattle.book.specs.Written.{word-ext}
+use Rattle.book.specs.Trees.{Root, pageAt}
+use Rattle.book.specs.Words.{Vol, vol}
+use Rattle.book.specs.Written.{word-pos}
 use Rattle.laws.specs.Call.After.{Stepped, Called, called}
-use Rattle.laws.specs.Count.Good.{Good, good, most, bit-le, sound-within}
-use Rattle.laws.specs.Frame.Edit.{obj-page, position, entry-other}
-use Rattle.laws.specs.Frame.Fields.{Outside}
-use Rattle.laws.specs.Frame.Places.{Places, FieldOf, OnlyAt, only-put}
-use Rattle.laws.specs.Frame.Quiet.{Quiet, Stays, quiet-address, quiet-sound}
-use Rattle.laws.specs.Frame.Rest.{rest, all-rest}
-use Rattle.laws.specs.Frame.Roots.{used-page, Roots, objs-root, pageAt-frame, blocksR-le}
-use Rattle.laws.specs.Frame.Still.{agree-at, users-still, blocks-nobody}
-use Rattle.laws.specs.Tree.Slot.{Agree, hit-zero, hit-other}
+use Rattle.laws.specs.File.Stored.{stored-words}
+use Rattle.laws.specs.Frame.EntryFile.{EntryFile, object-entries, entry-agrees, master-same, roots-same, entry-own, entries-else, other-entries}
+use Rattle.laws.specs.Frame.Places.{Places, EntryOf, FieldOf, OnlyAt, only-put, only-wider}
+use Rattle.laws.specs.Frame.Quiet.{Stays, user-stays, object-stays, quiet-address, quiet-sound}
+use Rattle.laws.specs.Frame.Roots.{used-page, Roots, users-root, objs-root}
 
 -- word 19 of object entry e
 abbrev pub OpensWord : Vol → ℕ → Places
@@ -48,8 +44,8 @@ module _ (P : ℕ) (v : Vol) (S : Sound P v) (pos : 0 < P) (e : ℕ) (ue : 0 < u
   abbrev O : ℕ
   O = pageAt v (objectFile v) (e / 32)
 
-  G : Good P v (λ p. 0)
-  G = good P v S
+  F : EntryFile P v (objectFile v) (userFile v)
+  F = object-entries P v S pos
 
   isO : 0 < O
   unfolding object
@@ -59,63 +55,38 @@ module _ (P : ℕ) (v : Vol) (S : Sound P v) (pos : 0 < P) (e : ℕ) (ue : 0 < u
   unfolding objectPage
   else p k h = only p k (λ a. let r : ⊥ = h (a .0) (omega (arith, a .1, a .2)) in r)
 
-  agree : Agree (hit O) v v′
+  within : OnlyAt (EntryOf O e) v v′
   unfolding objectPage
-  agree = agree-at v v′ (OpensWord v e) O isO (λ p k i a. a .0) only
-
-  master : (k : ℕ) → v′ 0 k ≡ v 0 k
-  master k = else 0 k (λ i. absurd (let o = isO in let r : ⊥ = omega arith in r))
+  within = only-wider (OpensWord v e) (EntryOf O e) v v′ (λ p k a. (a .0, omega (arith, a .1), omega (arith, a .2))) only
 
   roots : Roots v v′
-  unfolding Roots
-  roots k i j = master k
-
-  quiet : Quiet P v (hit O)
-  quiet = let b = obj-page P v (λ p. 0) G pos (e / 32) in record {
-    none = hit-zero O;
-    bits = b .0;
-    users = omega (arith, b .1, blocksR-le v (userFile v) (hit O));
-    objects = b .2;
-    files = blocks-nobody v (hit O) (b .3);
-  }
-
-  once : (q : ℕ) → q < P → weighR v (objectFile v) (hit q) ≤ 1
-  unfolding rest
-  once q h = omega (arith, G .held q h, bit-le P v q, all-rest P v (hit q))
-
-  near : (j : ℕ) → Outside e j → word v′ O j ≡ word v O j
-  unfolding Outside
-  near j h = word-ext v v′ O j (λ p. else O j (λ i m. out h (omega arith)))
-    where
-      out : (j < 32 * (e % 32)) ⊎ (32 * (e % 32) + 32 ≤ j) → j ≡ entryWord e + 19 → ⊥
-      out (inl a) m = omega arith
-      out (inr a) m = omega arith
+  roots = roots-same F e isO v′ within
 
   objects : (x k : ℕ) → k < 32 → (x ≡ e → k ≢ 19) → object v′ x k ≡ object v x k
   unfolding object entry
-  objects x k h n = elim (ℕ-discrete x e) [
-    | no d ↦ ap (λ (r : Root). entry v′ r x k) (objs-root v v′ roots)
-        ∙ entry-other v v′ (hit O) agree (objectFile v) (quiet .objects) e
-        (λ i p q. position P v (λ p. 0) G pos (objectFile v) (sound-within P v (most P v S) .objs) once (e / 32) i p q)
-        (λ i q. hit-other O _ q) near x d k h
-    | yes i ↦ subst (λ (y : ℕ). object v′ y k ≡ object v y k) (sym i)
-        (ap (λ (r : Root). entry v′ r e k) (objs-root v v′ roots)
-        ∙ ap (λ (p : ℕ). word v′ p (entryWord e + k)) (pageAt-frame v v′ (hit O) agree (objectFile v) (quiet .objects) (e / 32))
-        ∙ word-ext v v′ O (entryWord e + k) (λ p. else O (entryWord e + k) (λ j m. n i (omega arith))))
+  objects x k h n = ap (λ (r : Root). entry v′ r x k) (objs-root v v′ roots) ∙ elim (ℕ-discrete x e) [
+    | no d ↦ entries-else F e isO v′ within x d k h
+    | yes i ↦ subst (λ (y : ℕ). entry v′ (objectFile v) y k ≡ object v y k) (sym i)
+        (entry-own F e isO v′ within k ∙ else O (entryWord e + k) (λ j m. n i (omega arith)) ∙ sym (word-pos v O (entryWord e + k) isO))
   ]
+
+  users : user v′ ≡ user v
+  unfolding user
+  users = fun-ext (λ u. fun-ext (λ k. ap (λ (r : Root). entry v′ r u k) (users-root v v′ roots) ∙ other-entries F e isO v′ within u k))
 
   stays : Stays v v′ (hit O)
   stays = record {
-    pages = agree;
-    master = master;
-    users = users-still v v′ roots (hit O) (hit-zero O) agree (obj-page P v (λ p. 0) G pos (e / 32) .1);
-    objects = λ x k h n. objects x k h (λ i. n);
+    pages = entry-agrees F e isO v′ within;
+    name = stored-words 16 (v′ 0) (v 0) volumeName volumeName (λ i h. master-same F e isO v′ within (volumeName + i / 2));
+    master = λ k h. master-same F e isO v′ within k;
+    users = λ u. user-stays _ _ (λ k h. ap (λ (U : Table). U u k) users);
+    objects = λ x. object-stays _ _ (λ k h n. objects x k h (λ i. n));
   }
 
   opened-step : Stepped P (λ w. BesideOpens v w e) v′
   opened-step = record {
-    sound = quiet-sound P v v′ (hit O) quiet stays S;
-    leaves = record { users = stays .users; objects = objects; addresses = quiet-address P v v′ (hit O) quiet stays };
+    sound = quiet-sound P v v′ (hit O) (F .quiet (e / 32)) stays S;
+    leaves = record { users = users; objects = objects; addresses = quiet-address P v v′ (hit O) (F .quiet (e / 32)) stays };
   }
 
 module _ (img : List ℕ) (u f : ℕ) (r : Numbers ℕ) (img′ : List ℕ) (o : Outcome (openCall img u f) img r img′) where

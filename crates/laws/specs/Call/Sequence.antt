@@ -30,14 +30,19 @@ use Rattle.book.specs.Calls.{
   deleteFileCall,
   writeCall,
   openCall,
+  toApostropheCall,
+  toZerosCall,
 }
+use Rattle.book.specs.Names.{apostrophe}
 use Rattle.book.specs.declared.Holder.{Holder}
 use Rattle.laws.specs.Call.Open.{kept-open}
 use Rattle.laws.specs.Call.Write.{kept-write}
+use Rattle.laws.specs.Convert.Call.{kept-convert}
 use Rattle.laws.specs.Create.FileCall.{kept-create-indexed, kept-create-contiguous}
 use Rattle.laws.specs.Create.UserCall.{kept-create-user}
 use Rattle.laws.specs.Delete.FileCall.{kept-delete-file}
 use Rattle.laws.specs.Delete.User.{kept-delete-user}
+use Rattle.laws.specs.File.Stored.{ends-zero, ends-apostrophe}
 use Rattle.laws.specs.Format.Call.{kept-format}
 use Rattle.laws.specs.Grow.Call.{kept-grow}
 use Rattle.laws.specs.Shrink.Call.{kept-shrink}
@@ -52,7 +57,7 @@ pub data Question : Type 0 where
   whoHolds : (p : ℕ) → Question
   readPage : (u f n : ℕ) → Question
 
--- the eighteen calls, with their arguments; a format by default too
+-- the twenty calls, with their arguments; a format by default too
 pub data Step : Type 0 where
   asks : Question → Step
   formats : (name : List ℕ) (b : ℕ) → Step
@@ -68,6 +73,8 @@ pub data Step : Type 0 where
   deletesFile : (u f : ℕ) → Step
   writes : (u f n : ℕ) (d : List ℕ) → Step
   opens : (u f : ℕ) → Step
+  convertsToApostrophe : Step
+  convertsToZeros : Step
 
 -- the book's call on an image, after the type of its value
 abbrev pub asked : Question → List ℕ → (A : Type 0) × Call A
@@ -93,6 +100,8 @@ made (shrinks u f) img = (ℕ, shrinkCall img u f)
 made (deletesFile u f) img = (ℕ, deleteFileCall img u f)
 made (writes u f n d) img = (ℕ, writeCall img u f n d)
 made (opens u f) img = (ℕ, openCall img u f)
+made convertsToApostrophe img = (ℕ, toApostropheCall img)
+made convertsToZeros img = (ℕ, toZerosCall img)
 
 -- from an image to the image after one call, whatever it came back with
 abbrev pub Calling : Step → List ℕ → List ℕ → Type 0
@@ -139,6 +148,8 @@ kept-one (shrinks u f) img img′ (r, o) = kept-shrink img u f r img′ o
 kept-one (deletesFile u f) img img′ (r, o) = kept-delete-file img u f r img′ o
 kept-one (writes u f n d) img img′ (r, o) = kept-write img u f n d r img′ o
 kept-one (opens u f) img img′ (r, o) = kept-open img u f r img′ o
+kept-one convertsToApostrophe img img′ (r, o) = kept-convert 0 apostrophe ends-apostrophe img r img′ o
+kept-one convertsToZeros img img′ (r, o) = kept-convert apostrophe 0 ends-zero img r img′ o
 
 pub kept-all : (l : List Step) (img img′ : List ℕ) → Calls l img img′ → Sound (pages img) (vol img) → Sound (pages img′) (vol img′)
 unfolding Calls

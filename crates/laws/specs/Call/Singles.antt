@@ -1,9 +1,9 @@
--- Each of the eighteen calls gives one value, so that any two of its outcomes coincide (Coincide.one-outcome). Assumes nothing.
+-- Each of the twenty calls gives one value, so that any two of its outcomes coincide (Coincide.one-outcome). Assumes nothing.
 use mathlib.Core.Path.{sym, _∙_}
 use mathlib.Core.List.{List}
 use Prim.Native.Nat.{ℕ}
 use native.Mathlib.Omega.{arith}
-use Rattle.book.specs.Calls.{checkCall, addressCall, readCall, createUserCall, deleteUserCall, giveCall, takeCall, createIndexedCall, createContiguousCall, growCall, shrinkCall, deleteFileCall, writeCall, openCall, findUserCall, findFileCall}
+use Rattle.book.specs.Calls.{checkCall, addressCall, readCall, createUserCall, deleteUserCall, giveCall, takeCall, createIndexedCall, createContiguousCall, growCall, shrinkCall, deleteFileCall, writeCall, openCall, convertCall, findUserCall, findFileCall}
 use Rattle.book.specs.Coincide.{single-call}
 use Rattle.book.specs.Outcome.{Single, asking, judged}
 use Rattle.book.specs.Rows.{Clear}
@@ -19,6 +19,10 @@ module _ (img : List ℕ) where
   pub single-create-user : (name : List ℕ) → Single (createUserCall img name)
   unfolding createUserCall
   single-create-user name = single-call img _ _ _ _
+
+  pub single-convert : (from to : ℕ) → Single (convertCall from to img)
+  unfolding convertCall
+  single-convert from to = single-call img _ _ _ _
 
   module _ (u : ℕ) where
     pub single-delete-user : Single (deleteUserCall img u)

@@ -13,6 +13,7 @@ use Rattle.book.specs.Files.{fileAt}
 use Rattle.book.specs.Holders.{hit, all, mine}
 use Rattle.book.specs.Image.{pages}
 use Rattle.book.specs.Outcome.{Outcome}
+use Rattle.book.specs.Pointers.{volumeName}
 use Rattle.book.specs.Rows.{Clear}
 use Rattle.book.specs.Rules.{Sound}
 use Rattle.book.specs.Steps.{writeStep}
@@ -22,9 +23,10 @@ use Rattle.book.specs.Written.{putWords-page}
 use Rattle.laws.specs.Call.After.{Stepped, Called, called}
 use Rattle.laws.specs.Count.Good.{good, most, bit-le, sound-within}
 use Rattle.laws.specs.File.Kinds.{position-page}
+use Rattle.laws.specs.File.Stored.{stored-words}
 use Rattle.laws.specs.Frame.Edit.{file-le₂}
 use Rattle.laws.specs.Frame.Places.{Places, PageOf, OnlyAt}
-use Rattle.laws.specs.Frame.Quiet.{Quiet, Stays, quiet-address, quiet-sound}
+use Rattle.laws.specs.Frame.Quiet.{Quiet, Stays, user-stays, object-stays, quiet-address, quiet-sound}
 use Rattle.laws.specs.Frame.Rest.{rest, all-rest, file-le}
 use Rattle.laws.specs.Frame.Roots.{Roots, pageAt-le, pageAt-below, blocksR-le}
 use Rattle.laws.specs.Frame.Still.{agree-at, users-still, objects-still}
@@ -68,10 +70,10 @@ module _ (P : ℕ) (v : Vol) (S : Sound P v) (pos : 0 < P) (a f : ℕ) (ha : a <
   file : weighR v (fileAt v e) (hit q) ≤ sum 256 (λ u. mine v u (hit q))
   file = file-le v (hit q) a f ha hf
 
-  no-users : weighR v (userFile v) (hit q) ≡ 0
+  pub no-users : weighR v (userFile v) (hit q) ≡ 0
   no-users = omega (arith, least, most-one, file)
 
-  no-objects : weighR v (objectFile v) (hit q) ≡ 0
+  pub no-objects : weighR v (objectFile v) (hit q) ≡ 0
   no-objects = omega (arith, least, most-one, file)
 
   no-blocks : (x : ℕ) → x < 65536 → blocksR v (fileAt v x) (hit q) ≡ 0
@@ -112,18 +114,22 @@ module _ (P : ℕ) (v : Vol) (S : Sound P v) (pos : 0 < P) (a f : ℕ) (ha : a <
     objects : object v′ ≡ object v
     objects = objects-still v v′ roots (hit q) (hit-zero q) agree no-objects
 
+    users : user v′ ≡ user v
+    users = users-still v v′ roots (hit q) (hit-zero q) agree no-users
+
     stays : Stays v v′ (hit q)
     stays = record {
       pages = agree;
-      master = master;
-      users = users-still v v′ roots (hit q) (hit-zero q) agree no-users;
-      objects = λ x k h m. ap (λ (O : Table). O x k) objects;
+      name = stored-words 16 (v′ 0) (v 0) volumeName volumeName (λ i h. master (volumeName + i / 2));
+      master = λ k h. master k;
+      users = λ u. user-stays _ _ (λ k h. ap (λ (U : Table). U u k) users);
+      objects = λ x. object-stays _ _ (λ k h m. ap (λ (O : Table). O x k) objects);
     }
 
     written-step : Stepped P (λ w. BesideData v w) v′
     written-step = record {
       sound = quiet-sound P v v′ (hit q) quiet stays S;
-      leaves = record { users = stays .users; objects = objects; addresses = quiet-address P v v′ (hit q) quiet stays };
+      leaves = record { users = users; objects = objects; addresses = quiet-address P v v′ (hit q) quiet stays };
     }
 
 module _ (img : List ℕ) (u f n : ℕ) (d : List ℕ) (r : Numbers ℕ) (img′ : List ℕ) (o : Outcome (writeCall img u f n d) img r img′) where

@@ -17,7 +17,7 @@ use Rattle.laws.specs.Count.Good.{Good, bit-le}
 use Rattle.laws.specs.Create.Settled.{Settled, linked, system-good}
 use Rattle.laws.specs.Create.Vacant.{Vacant}
 use Rattle.laws.specs.Frame.Places.{Places, WordsOf, UnreservedWords, OnlyAt, only-put2}
-use Rattle.laws.specs.Frame.Renewed.{Master, master-roots}
+use Rattle.laws.specs.Frame.Renewed.{Master}
 use Rattle.laws.specs.Frame.Rest.{rest, all-rest}
 use Rattle.laws.specs.Frame.Roots.{upto-in, upto-out, users-root, objs-root, blocksR-le}
 use Rattle.laws.specs.Tree.Slot.{slot-here, slot-other, setSlot-page, slot-bare, some-pos, slot-same}
@@ -126,5 +126,5 @@ module _ {P : ℕ} {v v′ : Vol} {hand : ℕ → ℕ} {X k d : ℕ} (join : Joi
 
   pub join-taking : (F : Places) → OnlyAt F v v′ → Taking P v v′ F 0 1
   join-taking F o = subst (λ (x : ℕ). Taking P v v′ F 0 x) (some-pos d (hand-pos (join .got))) (settled-taking (join .got .good) settled
-      (λ i h. ap (λ (r : Root). pageAt v′ r i) (users-root v v′ (master-roots P v v′ (join .master))) ∙ pageAt-there v v′ X k d link (userFile v) i h)
-      (λ i h. ap (λ (r : Root). pageAt v′ r i) (objs-root v v′ (master-roots P v v′ (join .master))) ∙ pageAt-there v v′ X k d link (objectFile v) i h) F o)
+      (λ i h. ap (λ (r : Root). pageAt v′ r i) (users-root v v′ (join .master .roots)) ∙ pageAt-there v v′ X k d link (userFile v) i h)
+      (λ i h. ap (λ (r : Root). pageAt v′ r i) (objs-root v v′ (join .master .roots)) ∙ pageAt-there v v′ X k d link (objectFile v) i h) F o)

@@ -21,7 +21,7 @@ use Rattle.laws.specs.Count.Good.{bit-le, sound}
 use Rattle.laws.specs.Create.Join.{only-pay, pay-page, pay-below, pay-less, SlotWords, Joining, join-bare, join-good, join-slot, join-taking}
 use Rattle.laws.specs.Create.Vacant.{Vacant}
 use Rattle.laws.specs.Frame.Places.{Places, UnreservedWords, Either, OnlyAt, only-then, only-put2}
-use Rattle.laws.specs.Frame.Renewed.{Master}
+use Rattle.laws.specs.Frame.Renewed.{Master, master-words}
 use Rattle.laws.specs.Frame.Rest.{rest, all-rest}
 use Rattle.laws.specs.Frame.Roots.{Roots, blocksR-le, blocksR-frame, users-root, objs-root}
 use Rattle.laws.specs.Tree.Pointer.{flags-ext, page-ext}
@@ -125,8 +125,7 @@ module _ {choose : Vol → ℕ} {P : ℕ} {v : Vol} (stock : Stock choose P v) {
   only = only-then (SlotWords X k) UnreservedWords v₁ (setSlot v₁ X k d) v′ (only-put2 v₁ X (2 * k) d) (only-pay (setSlot v₁ X k d) 1)
 
   M : Master v₁ v′
-  unfolding Master
-  M j a b = below j b
+  M = master-words v₁ v′ (λ j a b. below j b)
 
   join : Joining P v₁ v′ (λ p. 0 + hit d p) X k d
   join = record { got = claim-hand extend-free; vacant = claim-vacant extend-free X k N; bare = claim-zero extend-free; read = read; master = M; paid = paid }

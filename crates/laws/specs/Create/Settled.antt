@@ -20,7 +20,7 @@ use Rattle.laws.specs.Count.Good.{Good, bit-le}
 use Rattle.laws.specs.Count.Sums.{sum-tight}
 use Rattle.laws.specs.Create.Vacant.{Vacant}
 use Rattle.laws.specs.File.Named.{Legal-ext}
-use Rattle.laws.specs.Frame.Renewed.{Master, master-roots, flags-at, page-at, rule1, rule2, shape-same}
+use Rattle.laws.specs.Frame.Renewed.{Master, flags-at, page-at, rule1, rule2, shape-same}
 use Rattle.laws.specs.Frame.Rest.{rest, all-rest, file-le}
 use Rattle.laws.specs.Frame.Roots.{weighR-nobody, upto-in, upto-out, pageAt-le, pageAt-frame, weighR-frame, entry-frame, Roots, bits-root, users-root, objs-root, blocksR-le}
 use Rattle.laws.specs.Tree.Pointer.{root-1, root-2, zero-flags, flags-ext, page-ext, rootAt-ext}
@@ -181,7 +181,7 @@ module _ {P : ℕ} {v v′ : Vol} {hand : ℕ → ℕ} {X k d : ℕ} (got : InHa
       (omega arith, omega arith, omega arith, omega arith, omega arith)
 
   roots : Roots v v′
-  roots = master-roots P v v′ M
+  roots = M .roots
 
   same-users : user v′ ≡ user v
   unfolding user

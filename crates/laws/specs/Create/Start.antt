@@ -23,7 +23,7 @@ use Rattle.laws.specs.Create.Placed.{Placed}
 use Rattle.laws.specs.Create.Settled.{Settled, system-good}
 use Rattle.laws.specs.Create.Vacant.{Vacant}
 use Rattle.laws.specs.Frame.Places.{Places, WordsOf, UnreservedWords, Either, OnlyAt, only-then, only-wider, only-put2}
-use Rattle.laws.specs.Frame.Renewed.{Master}
+use Rattle.laws.specs.Frame.Renewed.{Master, master-words}
 use Rattle.laws.specs.Frame.Roots.{zero-none}
 use Rattle.laws.specs.Tree.Pointer.{root-1, pointer-flags, pointer-page, flags-ext, page-ext}
 use Rattle.laws.specs.Tree.Slot.{setSlot-page, hit-sym, slot-bare, two-ext, hit-same, some-pos, slot-same, put2-same}
@@ -195,8 +195,7 @@ module _ {choose : Vol → ℕ} {P : ℕ} {v : Vol} (stock : Stock choose P v) (
   below k h = pay-below (setSlot x i 0 u) 3 k h ∙ setSlot-page x i 0 u 0 k (omega (arith, (iOk .0))) ∙ sym (pay-below x 2 k h)
 
   M : Master w v′
-  unfolding Master
-  M k a b = below k b
+  M = master-words w v′ (λ k a b. below k b)
 
   paid′ : two (v′ 0) unreservedCount + 1 ≡ two (w 0) unreservedCount
   unfolding started unreserved

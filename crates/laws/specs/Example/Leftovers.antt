@@ -26,7 +26,7 @@ use Rattle.laws.specs.Format.Formatted.{Formatted, format-sound}
 unfoldable behind : List ℕ
 behind = 39 ∷ 79 ∷ 108 ∷ 100 ∷ []
 
-abbrev leftovers : List Cell
+abbrev pub leftovers : List Cell
 leftovers = cell 0 1010 10063 ∷ cell 0 1011 27748 ∷ yard
 
 behind-fits : Behind behind

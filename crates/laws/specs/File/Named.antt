@@ -1,9 +1,11 @@
--- Names and types of entries whose words stay. Assumes nothing.
+-- Names and types of entries whose words stay, and of a sound volume's used entries. Assumes nothing.
 use mathlib.Core.Path.{_≡_, sym, ap, _∙_, subst}
-use Prim.Native.Nat.{ℕ, _+_, _/_, _<_}
+use Prim.Native.Nat.{ℕ, _+_, _/_, _%_, _<_}
 use native.Mathlib.Omega.{arith}
-use Rattle.book.specs.Names.{Text, stored, SameName, SameFile}
-use Rattle.book.specs.Words.{Words}
+use Rattle.book.specs.Entries.{user, object, used, fileEntry}
+use Rattle.book.specs.Names.{Text, Reading, stored, NameOver, TypeOver, SameName, SameFile}
+use Rattle.book.specs.Rules.{Rule4Over, Rule6Over, SoundOver}
+use Rattle.book.specs.Words.{Words, Vol}
 use Rattle.laws.specs.File.Stored.{stored-words}
 
 pub Legal-ext : (w x : Words) (k m n : ℕ) → ((i : ℕ) → i < n → w (k + i / 2) ≡ x (k + i / 2)) → Text m n (stored n x k) → Text m n (stored n w k)
@@ -26,3 +28,17 @@ SameFile-ext w x w′ x′ a b s = (
 
 pub SameFile-sym : (w x : Words) → SameFile w x → SameFile x w
 SameFile-sym w x s = (sym (s .0), sym (s .1))
+
+-- ---- on a sound volume, in whichever way its names are read
+
+module _ {read : Reading} (P : ℕ) (v : Vol) (S : SoundOver read P v) where
+  pub user-legal : (u : ℕ) → u < 256 → 0 < used (user v u) → NameOver read (user v u) 1
+  unfolding Rule4Over
+  user-legal u h i = S .r4 .0 u h i .name
+
+  pub object-legal : (e : ℕ) → e < 65536 → 0 < used (object v e) → NameOver read (object v e) 1 × TypeOver read (object v e) 9
+  unfolding Rule6Over
+  object-legal e h i =
+      let n : fileEntry (e / 256) (e % 256) ≡ e = omega arith in
+      let o = S .r6 .0 (e / 256) (e % 256) (omega arith) (omega arith) (subst (λ (x : ℕ). 0 < used (object v x)) (sym n) i) in
+      subst (λ (x : ℕ). NameOver read (object v x) 1 × TypeOver read (object v x) 9) n (o .name, o .type)

@@ -9,10 +9,10 @@ use native.Mathlib.Decide.{ℕ-discrete, decLt}
 use native.Mathlib.Omega.{arith}
 use lib.ListN.{length, getD, length-append, List·getD-append}
 use lib.Seq.{ext-getD, getD-at}
-use Rattle.sums.specs.Sum.{is-other}
+use Rattle.sums.specs.Sum.{is-same, is-other}
 use Rattle.sums.specs.Search.{Lowest, lowest-at, lowest-none, lowest-is}
 use Rattle.book.specs.Words.{Words}
-use Rattle.book.specs.Names.{Letter, Text, byteAt, bytes, ends, endOf, stored}
+use Rattle.book.specs.Names.{Letter, Text, apostrophe, byteAt, bytes, ends, endOf, stored}
 
 -- ---- the first bytes of a field
 
@@ -48,6 +48,20 @@ bytes-same w x k j (suc l) e = ap₂ (λ (s : List ℕ) (b : ℕ). s ++ (b ∷ [
 pub ends-not : (b : ℕ) → (b ≡ 39 → ⊥) → (b ≡ 0 → ⊥) → ends b ≡ 0
 unfolding ends
 ends-not b p q = omega (arith, is-other b 39 p, is-other b 0 q)
+
+pub ends-zero : 0 < ends 0
+unfolding ends
+ends-zero = omega (arith, is-same 0)
+
+pub ends-apostrophe : 0 < ends apostrophe
+unfolding ends
+ends-apostrophe = omega (arith, is-same apostrophe)
+
+pub ends-byte : (b : ℕ) → 0 < ends b → b ≤ 39
+ends-byte b h = elim (decLt 39 b) [
+  | yes l ↦ absurd (let z : ⊥ = omega (arith, h, ends-not b (λ e. omega arith) (λ e. omega arith)) in z)
+  | no l ↦ omega arith
+]
 
 pub letter-not : (b : ℕ) → Letter b → ends b ≡ 0
 unfolding Letter

@@ -17,7 +17,7 @@ use Rattle.book.specs.Words.{Vol, two, word}
 use Rattle.laws.specs.Count.Good.{Good, bit-le, sound-within}
 use Rattle.laws.specs.Count.Reach.{Within}
 use Rattle.laws.specs.Frame.Fields.{Outside, outside}
-use Rattle.laws.specs.Frame.Renewed.{Master, Entries, UserNew, FileNew, rule1, rule2, rule3, rule4, rule5, rule6, rule7, used-same, spent-same, grant-same}
+use Rattle.laws.specs.Frame.Renewed.{Master, master-words, Entries, UserNew, FileNew, rule1, rule2, rule3, rule4, rule5, rule6, rule7, used-same, spent-same, grant-same}
 use Rattle.laws.specs.Frame.Rest.{rest, all-rest, file-le}
 use Rattle.laws.specs.Frame.Roots.{weighR-add, blocksR-add, pageAt-le, pageAt-le₂, pageAt-below, pageAt-frame, weighR-frame, Roots, bits-root, users-root, objs-root, blocksR-le, file-kept, mine-other, mine-change, all-change, weighR-nobody}
 use Rattle.laws.specs.Tree.Slot.{Agree, word-zero, two-ext, hit-zero, hit-same, hit-other, hit-nobody}
@@ -201,8 +201,7 @@ module _ {P : ℕ} {v : Vol} {hand : ℕ → ℕ} {a f : ℕ} (seat : Seat P v h
     roots k i j = E .master k j
 
     mast : Master v v′
-    unfolding Master
-    mast k i j = E .master k j
+    mast = master-words v v′ (λ k i j. E .master k j)
 
     -- entries
     pub users-words : (u : ℕ) → u ≢ a → (k : ℕ) → k < 32 → user v′ u k ≡ user v u k

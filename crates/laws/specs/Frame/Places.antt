@@ -74,17 +74,21 @@ module _ (v : Vol) (q : ℕ) where
     | no n ↦ put2-page v q j x p k n
   ]
 
-  pub only-putWords : (j n : ℕ) (w : Words) → OnlyAt (WordsOf q j n) v (putWords v q j n w)
-  only-putWords j n w p k a = elim (ℕ-discrete p q) [
+  -- a word of the row, or one that stays
+  pub at-putWords : (j n : ℕ) (w : Words) (p k : ℕ) → (putWords v q j n w p k ≡ v p k) ⊎ WordsOf q j n p k
+  at-putWords j n w p k = elim (ℕ-discrete p q) [
+    | no d ↦ inl (putWords-page v q j n w p k d)
     | yes e ↦ elim (decLt k j) [
-      | yes h ↦ putWords-low v q j n w p k h
-      | no h ↦ putWords-high v q j n w p k (elim (decLt k (j + n)) [
-        | yes i ↦ absurd (a (e, omega arith, i))
-        | no i ↦ omega arith
-      ])
+      | yes h ↦ inl (putWords-low v q j n w p k h)
+      | no h ↦ elim (decLt k (j + n)) [
+        | yes i ↦ inr (e, omega arith, i)
+        | no i ↦ inl (putWords-high v q j n w p k (omega arith))
+      ]
     ]
-    | no n′ ↦ putWords-page v q j n w p k n′
   ]
+
+  pub only-putWords : (j n : ℕ) (w : Words) → OnlyAt (WordsOf q j n) v (putWords v q j n w)
+  only-putWords j n w p k a = elim (at-putWords j n w p k) [ inl e ↦ e | inr h ↦ absurd (a h) ]
 
   pub only-wipe : OnlyAt (PageOf q) v (wipe v q)
   only-wipe p k a = wipe-page v q p k a

@@ -8,12 +8,13 @@ use native.Mathlib.Omega.{arith}
 use Rattle.sums.specs.Search.{pick}
 use Rattle.book.specs.Entries.{userFile, objectFile, user, object, used, given, usedPages, grant}
 use Rattle.book.specs.Files.{fileAt, Shape, FileShape}
-use Rattle.book.specs.Names.{SameName, SameFile}
+use Rattle.book.specs.Names.{Text, stored, SameName, SameFile}
 use Rattle.book.specs.Pointers.{slot, flags, page, Zero, Inside, bitPointer, objectPointer, unreservedCount, userPointer, volumeName}
 use Rattle.book.specs.Rules.{UserOk, FileOk, Rule1, Rule2, Rule3, Rule4, Rule4Over, Rule5, Rule5By, Rule6, Rule6Over, Rule7}
 use Rattle.book.specs.Trees.{run, blocks, blocksR, rootAt, rootBy, Root}
 use Rattle.book.specs.Words.{Vol, two}
 use Rattle.laws.specs.File.Named.{Legal-ext, SameName-ext, SameFile-ext, SameFile-sym}
+use Rattle.laws.specs.File.Stored.{stored-words}
 use Rattle.laws.specs.Frame.Roots.{Roots}
 use Rattle.laws.specs.Tree.Pointer.{flags-ext, page-ext, used-ext, root-1, zero-page}
 use Rattle.laws.specs.Tree.Slot.{Agree, two-ext, slot-same}
@@ -36,38 +37,43 @@ module _ (v v′ : Vol) (C : ℕ → ℕ) (A : Agree C v v′) where
 
 -- ---- the master page
 
--- the directory entry's name and pointers stay
-unfoldable pub Master : Vol → Vol → Type 0
-Master v v′ = (k : ℕ) → volumeName ≤ k → k < unreservedCount → v′ 0 k ≡ v 0 k
+-- the directory entry's pointers stay, and its name is read as before
+pub record Master (v v′ : Vol) : Type 0 where
+  pub roots : Roots v v′
+  pub name : stored 16 (v′ 0) volumeName ≡ stored 16 (v 0) volumeName
+
+-- where their words stay
+pub master-words : (v v′ : Vol) → ((k : ℕ) → volumeName ≤ k → k < unreservedCount → v′ 0 k ≡ v 0 k) → Master v v′
+unfolding Roots
+master-words v v′ m = record {
+  roots = λ k a b. m k (omega arith) b;
+  name = stored-words 16 (v′ 0) (v 0) volumeName volumeName (λ i h. m (volumeName + i / 2) (omega arith) (omega arith));
+}
 
 module _ (P : ℕ) (v v′ : Vol) (M : Master v v′) where
-  at : (k : ℕ) → volumeName ≤ k → k < unreservedCount → v′ 0 k ≡ v 0 k
-  unfolding Master
-  at = M
+  at : (k : ℕ) → objectPointer ≤ k → k < unreservedCount → v′ 0 k ≡ v 0 k
+  unfolding Roots
+  at = M .roots
 
-  pub flags-at : (k : ℕ) → volumeName ≤ k → k < unreservedCount → flags (v′ 0) k ≡ flags (v 0) k
+  pub flags-at : (k : ℕ) → objectPointer ≤ k → k < unreservedCount → flags (v′ 0) k ≡ flags (v 0) k
   flags-at k a b = flags-ext (v′ 0) (v 0) k (at k a b)
 
-  pub page-at : (k : ℕ) → volumeName ≤ k → k < (suc bitPointer) → page (v′ 0) k ≡ page (v 0) k
+  pub page-at : (k : ℕ) → objectPointer ≤ k → k < (suc bitPointer) → page (v′ 0) k ≡ page (v 0) k
   page-at k a b = page-ext (v′ 0) (v 0) k (at k a (omega arith)) (at (suc k) (omega arith) (omega arith))
-
-  pub master-roots : Roots v v′
-  unfolding Roots
-  master-roots k a b = at k (omega arith) b
 
   pub rule1 : Rule1 P v → Rule1 P v′
   rule1 r = record {
-    name = Legal-ext (v′ 0) (v 0) volumeName 1 16 (λ i h. at (volumeName + i / 2) (omega arith) (omega arith)) (r .name);
+    name = subst (Text 1 16) (sym (M .name)) (r .name);
     unflagged = flags-at bitPointer (omega arith) (omega arith) ∙ r .unflagged;
     start = omega (arith, r .start, page-at bitPointer (omega arith) (omega arith));
     fits = omega (arith, r .fits, page-at bitPointer (omega arith) (omega arith));
   }
 
-  zero-at : (k : ℕ) → volumeName ≤ k → k < (suc bitPointer) → Zero (v 0) k → Zero (v′ 0) k
+  zero-at : (k : ℕ) → objectPointer ≤ k → k < (suc bitPointer) → Zero (v 0) k → Zero (v′ 0) k
   unfolding Zero
   zero-at k a b z = (at k a (omega arith) ∙ z .0, at (suc k) (omega arith) (omega arith) ∙ z .1)
 
-  inside-at : (k x : ℕ) → volumeName ≤ k → k < (suc bitPointer) → Inside P (v 0) k x → Inside P (v′ 0) k x
+  inside-at : (k x : ℕ) → objectPointer ≤ k → k < (suc bitPointer) → Inside P (v 0) k x → Inside P (v′ 0) k x
   unfolding Inside
   inside-at k x a b i = (flags-at k a (omega arith) ∙ i .0, omega (arith, i .1, page-at k a b), omega (arith, i .2, page-at k a b))
 

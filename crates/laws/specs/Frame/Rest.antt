@@ -14,7 +14,7 @@ use Rattle.book.specs.Rules.{Rule4, Rule6, Rule7, Rule10}
 use Rattle.book.specs.Trees.{Root, run, weighR, blocksR, pageAt, rootAt}
 use Rattle.book.specs.Words.{Vol, two}
 use Rattle.laws.specs.Count.Good.{Most, Good}
-use Rattle.laws.specs.Frame.Renewed.{Master, rule1, rule2, rule3, rule5, shape-same}
+use Rattle.laws.specs.Frame.Renewed.{Master, master-words, rule1, rule2, rule3, rule5, shape-same}
 use Rattle.laws.specs.Frame.Roots.{weighR-frame, pageAt-frame, entry-frame, blocksR-le, Roots, users-root, objs-root, bits-root, weighR-add}
 use Rattle.laws.specs.Tree.Slot.{Agree, two-ext}
 
@@ -110,7 +110,7 @@ module _ (v v′ : Vol) (R : Roots v v′) (C : ℕ → ℕ) (c0 : C 0 ≡ 0) (A
 
   -- all that the rules but 8 and 9 say is as it was
   pub most-calm : (P : ℕ) → ((k : ℕ) → volumeName ≤ k → v′ 0 k ≡ v 0 k) → Most P v → Most P v′
-  unfolding Master Rule7 Rule10 unreserved systemPages
+  unfolding Rule7 Rule10 unreserved systemPages
   most-calm P m s = record {
     r1 = rule1 P v v′ M (s .r1);
     r2 = rule2 P v v′ M (s .r2);
@@ -123,7 +123,7 @@ module _ (v v′ : Vol) (R : Roots v v′) (C : ℕ → ℕ) (c0 : C 0 ≡ 0) (A
   }
     where
       M : Master v v′
-      M k i j = m k i
+      M = master-words v v′ (λ k i j. m k i)
 
       seven : Rule7 P v′
       seven e h u =

@@ -1,6 +1,6 @@
 -- `page::names::packed_word` meets its contract. Assumes nothing.
 use borrow.Author.Needs.{needs}
-use Rattle.book.specs.Names.{wordsOf, packed}
+use Rattle.book.specs.Names.{wordsOf, packedBy}
 use Rattle.page.proofs.names.packed_word.Statement.{statement}
 use Rattle.page.proofs.names.packed_word.Tie as tie
 
@@ -26,7 +26,7 @@ add-result : tie.Need-add-result
 add-result c = search needs
 
 returns : tie.Need-returns
-unfolding packed wordsOf
+unfolding packedBy wordsOf
 returns c = cc
 
 pub packed-word-spec : {M : Type 1} → statement M

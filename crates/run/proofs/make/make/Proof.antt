@@ -107,7 +107,19 @@ returns-17 c =
     chosen _ _ _ _ _ _ _ _ _ _ _ (a .number .ensures .0) (u .number2 .ensures .0) (f .number3 .ensures .0) (n .number4 .ensures .0) (t .created .ensures) _ (m .match .keys17) (x .make-format-default .ensures)
 
 returns-18 : tie.Need-returns-18
+unfolding numbered
 returns-18 c =
+    let x = c .before .before in let m = x .before .before in let t = m .before in let n = t .before in let f = n .before in let u = f .before in let a = u .before in
+    chosen _ _ _ _ _ _ _ _ _ _ _ (a .number .ensures .0) (u .number2 .ensures .0) (f .number3 .ensures .0) (n .number4 .ensures .0) (t .created .ensures) _ (m .match .keys18) (x .to-apostrophe .ensures)
+
+returns-19 : tie.Need-returns-19
+unfolding numbered
+returns-19 c =
+    let x = c .before .before in let m = x .before .before in let t = m .before in let n = t .before in let f = n .before in let u = f .before in let a = u .before in
+    chosen _ _ _ _ _ _ _ _ _ _ _ (a .number .ensures .0) (u .number2 .ensures .0) (f .number3 .ensures .0) (n .number4 .ensures .0) (t .created .ensures) _ (m .match .keys19) (x .to-zeros .ensures)
+
+returns-20 : tie.Need-returns-20
+returns-20 c =
     let m = c .before .before in let t = m .before in let n = t .before in let f = n .before in let u = f .before in let a = u .before in
     none-chosen _ _ _ _ _ _ _ _ _ _ _ (a .number .ensures .0) (u .number2 .ensures .0) (f .number3 .ensures .0) (n .number4 .ensures .0) (t .created .ensures) (m .match .rest) (c .wrong .ensures)
 
@@ -115,11 +127,11 @@ pub make-spec : {M : Type 1} → statement M
 make-spec =
     tie.close
     (tie.spec
-    (λ c κs. search needs) (λ c κs. search needs) (λ c κs. search needs) (λ c κs. search needs) (λ c κs. search needs) (λ c κs. search needs) (λ c κs. search needs) (λ c κs. search needs)
+    (λ c κs. search needs) (λ c κs. search needs) (λ c κs. search needs) (λ c κs. search needs) (λ c κs. search needs) (λ c κs. search needs) (λ c κs. search needs) (λ c κs. search needs) (λ c κs. search needs) (λ c κs. search needs)
     (λ c κs. search needs) (λ c κs. search needs) (λ c κs. search needs) (λ c κs. search needs) (λ c κs. search needs) (λ c κs. search needs) (λ c κs. search needs) (λ c κs. search needs)
     (λ c κs. search needs) (λ c κs. search needs) (λ c κs. search needs) (λ c κs. search needs) (λ c κs. search needs) (λ c κs. search needs) (λ c κs. search needs) (λ c. search needs)
     returns (λ c. search needs) returns-2 (λ c. search needs) returns-3 (λ c. search needs) returns-4 (λ c. search needs)
     returns-5 (λ c. search needs) returns-6 (λ c. search needs) returns-7 (λ c. search needs) returns-8 (λ c. search needs)
     returns-9 (λ c. search needs) returns-10 (λ c. search needs) returns-11 (λ c. search needs) returns-12 (λ c. search needs)
     returns-13 (λ c. search needs) returns-14 (λ c. search needs) returns-15 (λ c. search needs) returns-16 (λ c. search needs)
-    returns-17 (λ c. search needs) returns-18)
+    returns-17 (λ c. search needs) returns-18 (λ c. search needs) returns-19 (λ c. search needs) returns-20)
