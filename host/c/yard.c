@@ -403,6 +403,8 @@ static void every_call(void)
     broken("delete file", nord_delete_file(img, words, 0, 0), NORD_RULE_BITS, 8, 0);
     broken("write", nord_write_page(img, words, 0, 0, 0, data, PAGE), NORD_RULE_BITS, 8, 0);
     broken("note open", nord_note_open(img, words, 0, 0), NORD_RULE_BITS, 8, 0);
+    broken("convert to apostrophes, though all are: 3 and not 12", nord_convert_to_apostrophe(img, words), NORD_RULE_BITS, 8, 0);
+    broken("convert to zeros", nord_convert_to_zeros(img, words), NORD_RULE_BITS, 8, 0);
     refused("a wrong argument comes first: 2", nord_note_open(img, words, 256, 0), NORD_ARGUMENT);
     told("none changed anything", memcmp(before, img, words * sizeof *img) == 0);
     free(before);
@@ -450,6 +452,58 @@ static void names(void)
     told("the listing without what stands behind", nord_list(img, words, out, sizeof out) == length && memcmp(out, text, length) == 0);
     img[1008] = 0x2741;
     broken("an apostrophe first in the volume name", nord_check(img, words), NORD_RULE_VOLUME, 0, 1008);
+    free(img);
+}
+
+/* Document 01's volume with a second file, LOG of no type, to zeros and back. */
+static void there_and_back(void)
+{
+    size_t words = 16 * PAGE;
+    uint16_t *img = yard16(), *before = blank(16), *user = img + 2 * PAGE, *file = img + 4 * PAGE, *log = file + 32;
+    nord_create_indexed(img, words, 0, TEXT("LOG"), TEXT(""), 0);
+    memcpy(before, img, words * sizeof *img);
+    refused("to apostrophes, where all are: 12", nord_convert_to_apostrophe(img, words), NORD_FILL);
+    refused("to zeros, of 7 pages: 1", nord_convert_to_zeros(img, 7 * PAGE), NORD_SIZE);
+    told("refused conversions changed nothing", memcmp(before, img, words * sizeof *img) == 0);
+    done("to zeros", nord_convert_to_zeros(img, words), 0);
+    told("YARD is 0x5941, 0x5244, 0", img[1008] == 0x5941 && img[1009] == 0x5244 && img[1010] == 0 && img[1011] == 0);
+    told("DOCK is 0x444F, 0x434B, 0", user[1] == 0x444F && user[2] == 0x434B && user[3] == 0 && user[4] == 0);
+    told("READS ends in 0x5300, DATA stays", file[3] == 0x5300 && file[4] == 0 && file[9] == 0x4441 && file[10] == 0x5441);
+    told("LOG ends in 0x4700, its type is 0, 0", log[2] == 0x4700 && log[3] == 0 && log[9] == 0 && log[10] == 0);
+    done("check visits 8", nord_check(img, words), 8);
+    done("find LOG", nord_find_file(img, words, 0, TEXT("LOG"), TEXT("")), 1);
+    refused("to zeros again: 12", nord_convert_to_zeros(img, words), NORD_FILL);
+    done("and back", nord_convert_to_apostrophe(img, words), 0);
+    told("DOCK is 0x444F, 0x434B, 0x2700", user[1] == 0x444F && user[2] == 0x434B && user[3] == 0x2700 && user[4] == 0);
+    told("the same words as before", memcmp(before, img, words * sizeof *img) == 0);
+    free(before);
+    free(img);
+}
+
+/* Neither way: a name in the other fill, and leftovers. A name of 16 bytes has no fill and is in nobody's way. */
+static void neither_way(void)
+{
+    size_t words = 16 * PAGE;
+    uint16_t *img = yard16(), *before = blank(16), *user = img + 2 * PAGE;
+    nord_convert_to_zeros(img, words);
+    done("a user with an apostrophe", nord_create_user(img, words, TEXT("GATE")), 1);
+    memcpy(before, img, words * sizeof *img);
+    refused("both fills, to apostrophes: 12", nord_convert_to_apostrophe(img, words), NORD_FILL);
+    refused("both fills, to zeros: 12", nord_convert_to_zeros(img, words), NORD_FILL);
+    told("neither changed anything", memcmp(before, img, words * sizeof *img) == 0);
+    nord_delete_user(img, words, 1);
+    user[33] = 0x4741, user[34] = 0x2754;
+    done("an entry that is not used is in nobody's way", nord_convert_to_apostrophe(img, words), 0);
+    told("and stays", user[32] == 0 && user[33] == 0x4741 && user[34] == 0x2754 && user[35] == 0);
+    user[4] = 0x4F4C;
+    refused("leftovers, to apostrophes: 12", nord_convert_to_apostrophe(img, words), NORD_FILL);
+    refused("leftovers, to zeros: 12", nord_convert_to_zeros(img, words), NORD_FILL);
+    nord_format_default(img, words, TEXT("SIXTEEN-LETTERS1"));
+    memcpy(before, img, words * sizeof *img);
+    done("nothing short, to apostrophes", nord_convert_to_apostrophe(img, words), 0);
+    done("nothing short, to zeros", nord_convert_to_zeros(img, words), 0);
+    told("nothing changed", memcmp(before, img, words * sizeof *img) == 0);
+    free(before);
     free(img);
 }
 
@@ -551,6 +605,30 @@ static void wrong_steps(uint16_t *img, size_t words)
     img[1023]--;
 }
 
+/* Both conversions as steps, and one that is refused. */
+static void converting_steps(void)
+{
+    static const nord_step steps[] = {
+        {.call = NORD_CALL_CONVERT_TO_ZEROS},
+        {.call = NORD_CALL_CHECK},
+        {.call = NORD_CALL_CONVERT_TO_APOSTROPHE},
+        {.call = NORD_CALL_CONVERT_TO_APOSTROPHE},
+        {.call = NORD_CALL_CONVERT_TO_ZEROS},
+    };
+    size_t words = 16 * PAGE;
+    uint16_t *img = yard16(), *single = yard16();
+    nord_reply replies[5];
+    told("converted twice, then refused", run(img, words, steps, NORD_STEPS(5), replies, NORD_REPLIES(5)) == 4);
+    done("step 21: to zeros", replies[0], 0);
+    done("a check after it visits 8", replies[1], 8);
+    done("step 20: to apostrophes", replies[2], 0);
+    refused("step 20 again: 12", replies[3], NORD_FILL);
+    told("there and back by steps", memcmp(img, single, words * sizeof *img) == 0);
+    refused("step 21 on 7 pages: 1", refused_step(img, 7 * PAGE, steps[0]), NORD_SIZE);
+    free(single);
+    free(img);
+}
+
 static void runs(void)
 {
     size_t words = 154 * PAGE;
@@ -577,6 +655,7 @@ static void nulls(void)
     nord_create_user(img, words, TEXT("DOCK"));
     refused("no image: 1", nord_check(NULL, 0), NORD_SIZE);
     refused("no image to change: 1", nord_give(NULL, 0, 0, 1), NORD_SIZE);
+    refused("no image to convert: 1", nord_convert_to_zeros(NULL, 0), NORD_SIZE);
     refused("no name: 2", nord_create_user(img, words, NULL, 0), NORD_ARGUMENT);
     done("no type", nord_create_indexed(img, words, 0, TEXT("READS"), NULL, 0, 0), 0);
     done("find a file of no type", nord_find_file(img, words, 0, TEXT("READS"), NULL, 0), 0);
@@ -602,7 +681,10 @@ int main(void)
     every_call();
     listing();
     names();
+    there_and_back();
+    neither_way();
     runs();
+    converting_steps();
     nulls();
     free(img);
     printf("yard: %d cases, %d wrong\n", cases, wrong);

@@ -34,8 +34,9 @@
  * it. A stored name of no bytes is illegal; a type of none is the empty type.
  *
  * A short name or type that is written gets one apostrophe and then zeros, one of all 16 (4) bytes gets none: DOCK is 0x444F, 0x434B, 0x2700
- * and five words of 0, the empty type 0x2700, 0. Format writes the volume's name, and the calls that create write the new entry's; no other
- * call changes a word of a name. Names with zeros alone behind them, as earlier versions of this library wrote them, stay legal.
+ * and five words of 0, the empty type 0x2700, 0. Format writes the volume's name, and the calls that create write the new entry's; but for the
+ * two that convert, no other call changes a word of a name. Names with zeros alone behind them, as earlier versions of this library wrote
+ * them, stay legal.
  */
 #ifndef NORD_H
 #define NORD_H
@@ -50,7 +51,7 @@ extern "C" {
 /* The words of a page. */
 #define NORD_PAGE 1024
 
-/* The number that a call answers: the lowest that applies. */
+/* The number that a call answers: the lowest that applies, where 12 stands right behind 3. */
 enum {
     NORD_DONE = 0,
     NORD_SIZE = 1,        /* the length is no whole number of pages, or there are fewer than 8 or more than 16,384 */
@@ -63,7 +64,8 @@ enum {
     NORD_FULL = 8,        /* all 256 entries are used */
     NORD_ALLOWANCE = 9,   /* given less used is below the pages needed, or below the pages to be taken back */
     NORD_UNRESERVED = 10, /* unreserved is below the system pages needed, or the pages to be given */
-    NORD_NO_RUN = 11      /* no run for a contiguous file */
+    NORD_NO_RUN = 11,     /* no run for a contiguous file */
+    NORD_FILL = 12        /* convert: a short name or type is not in exactly the fill that it starts from; judged right after 3 */
 };
 
 /* The rules of a sound image, by what they speak of. */
@@ -184,26 +186,36 @@ nord_reply nord_delete_file(uint16_t *img, size_t words, size_t user, size_t fil
 nord_reply nord_write_page(uint16_t *img, size_t words, size_t user, size_t file, size_t position, const uint16_t *data, size_t data_words);
 nord_reply nord_note_open(uint16_t *img, size_t words, size_t user, size_t file);
 
+/* Conversion of what stands behind short names and types: in the volume's name and in every used entry, from zeros alone to one apostrophe and
+ * then zeros, and back. Each answers 1, 3, 12 or 0. 12: one that is short is not in exactly the fill that the call starts from, so a volume with
+ * both fills, or with leftovers, is refused by both, and one that was converted already by the same, if any name or type is short. All are looked
+ * at before the first word is written. Names of 16 bytes and types of 4 have no fill and stay; unused entries and all other words stay. There
+ * and back gives the same words. */
+nord_reply nord_convert_to_apostrophe(uint16_t *img, size_t words);
+nord_reply nord_convert_to_zeros(uint16_t *img, size_t words);
+
 /* The calls of a step, with what each uses of it. Who holds a page (6) and reading a page (16) answer more than a reply has: they are no
  * steps. */
 enum {
-    NORD_CALL_FORMAT = 1,             /* name, count: the bit page */
-    NORD_CALL_CHECK = 2,              /* nothing */
-    NORD_CALL_FIND_USER = 3,          /* name */
-    NORD_CALL_FIND_FILE = 4,          /* user, name, type */
-    NORD_CALL_ADDRESS = 5,            /* user, file, count: the position */
-    NORD_CALL_CREATE_USER = 7,        /* name */
-    NORD_CALL_DELETE_USER = 8,        /* user */
-    NORD_CALL_GIVE = 9,               /* user, count */
-    NORD_CALL_TAKE = 10,              /* user, count */
-    NORD_CALL_CREATE_INDEXED = 11,    /* user, name, type, created */
-    NORD_CALL_CREATE_CONTIGUOUS = 12, /* user, name, type, created, count */
-    NORD_CALL_GROW = 13,              /* user, file */
-    NORD_CALL_SHRINK = 14,            /* user, file */
-    NORD_CALL_DELETE_FILE = 15,       /* user, file */
-    NORD_CALL_WRITE_PAGE = 17,        /* user, file, count: the position, data */
-    NORD_CALL_NOTE_OPEN = 18,         /* user, file */
-    NORD_CALL_FORMAT_DEFAULT = 19     /* name */
+    NORD_CALL_FORMAT = 1,                 /* name, count: the bit page */
+    NORD_CALL_CHECK = 2,                  /* nothing */
+    NORD_CALL_FIND_USER = 3,              /* name */
+    NORD_CALL_FIND_FILE = 4,              /* user, name, type */
+    NORD_CALL_ADDRESS = 5,                /* user, file, count: the position */
+    NORD_CALL_CREATE_USER = 7,            /* name */
+    NORD_CALL_DELETE_USER = 8,            /* user */
+    NORD_CALL_GIVE = 9,                   /* user, count */
+    NORD_CALL_TAKE = 10,                  /* user, count */
+    NORD_CALL_CREATE_INDEXED = 11,        /* user, name, type, created */
+    NORD_CALL_CREATE_CONTIGUOUS = 12,     /* user, name, type, created, count */
+    NORD_CALL_GROW = 13,                  /* user, file */
+    NORD_CALL_SHRINK = 14,                /* user, file */
+    NORD_CALL_DELETE_FILE = 15,           /* user, file */
+    NORD_CALL_WRITE_PAGE = 17,            /* user, file, count: the position, data */
+    NORD_CALL_NOTE_OPEN = 18,             /* user, file */
+    NORD_CALL_FORMAT_DEFAULT = 19,        /* name */
+    NORD_CALL_CONVERT_TO_APOSTROPHE = 20, /* nothing */
+    NORD_CALL_CONVERT_TO_ZEROS = 21       /* nothing */
 };
 
 /* A step: a call with its arguments. The name is the bytes name_at .. name_at + name_bytes of `text`, the type likewise, and a page's data

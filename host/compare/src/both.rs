@@ -159,6 +159,11 @@ impl Both {
         Err(self.disagreement(what, proved, second))
     }
 
+    /// Both agree, and yet something is not as it must be: it is told as a disagreement is.
+    pub fn wrong(&mut self, what: &str, answer: Answer) -> Box<Disagreement> {
+        self.disagreement(what.to_string(), answer, answer)
+    }
+
     /// What is told of a disagreement, with the first word that differs.
     fn disagreement(&mut self, what: String, proved: Answer, second: Answer) -> Box<Disagreement> {
         let at = (0..self.start.len()).find(|&at| self.proved[at] != self.second[at]);

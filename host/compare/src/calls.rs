@@ -23,10 +23,12 @@ pub enum Call {
     DeleteFile { user: usize, file: usize },
     WritePage { user: usize, file: usize, position: usize, data: Data },
     NoteOpen { user: usize, file: usize },
+    ConvertToApostrophe,
+    ConvertToZeros,
 }
 
 /// The names of the calls, in the order of `Call::which`.
-pub const NAMES: [&str; 19] = [
+pub const NAMES: [&str; 21] = [
     "check",
     "find_user",
     "find_file",
@@ -46,6 +48,8 @@ pub const NAMES: [&str; 19] = [
     "delete_file",
     "write_page",
     "note_open",
+    "convert_to_apostrophe",
+    "convert_to_zeros",
 ];
 
 /// Page data that a line of text can hold: so many words, counting up from the first by 77.
@@ -174,6 +178,8 @@ macro_rules! made_of {
             Call::DeleteFile { user, file } => delete_file($image, *user, *file).into(),
             Call::WritePage { user, file, position, data } => write_page($image, *user, *file, *position, &data.words()).into(),
             Call::NoteOpen { user, file } => note_open($image, *user, *file).into(),
+            Call::ConvertToApostrophe => convert_to_apostrophe($image).into(),
+            Call::ConvertToZeros => convert_to_zeros($image).into(),
         }
     }};
 }
@@ -201,6 +207,8 @@ impl Call {
             Call::DeleteFile { .. } => 16,
             Call::WritePage { .. } => 17,
             Call::NoteOpen { .. } => 18,
+            Call::ConvertToApostrophe => 19,
+            Call::ConvertToZeros => 20,
         }
     }
 

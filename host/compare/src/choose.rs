@@ -1,22 +1,22 @@
 //! Calls by chance: mostly on what is there, at the edges of what fits, and now and then with something wrong.
 
-use crate::calls::{Call, Data};
+use crate::calls::{Call, Data, NAMES};
 use crate::random::Random;
 use crate::scene::{File, Scene, User};
 use crate::volumes::nth;
 use crate::words::{ENDS, PAGE};
 
 /// What a sequence of calls is mostly about; each is a weight for every call in the order of `calls::NAMES`.
-pub type Profile = [u32; 19];
+pub type Profile = [u32; NAMES.len()];
 
-pub const MIXED: Profile = [1, 2, 2, 3, 4, 3, 0, 0, 4, 2, 6, 3, 6, 5, 14, 6, 4, 3, 2];
-pub const GROWING: Profile = [0, 1, 1, 1, 2, 1, 0, 0, 2, 0, 5, 1, 4, 2, 30, 3, 1, 1, 1];
-pub const SHRINKING: Profile = [0, 0, 1, 1, 2, 1, 0, 0, 1, 3, 1, 3, 1, 1, 3, 20, 6, 1, 1];
-pub const RUNS: Profile = [0, 0, 1, 2, 2, 1, 0, 0, 1, 0, 3, 1, 1, 14, 2, 1, 7, 1, 1];
-pub const USERS: Profile = [0, 2, 0, 0, 2, 0, 0, 0, 20, 6, 4, 2, 2, 1, 1, 0, 1, 0, 0];
-pub const FILES: Profile = [0, 0, 4, 1, 2, 1, 0, 0, 1, 1, 2, 1, 20, 4, 4, 1, 8, 1, 2];
-pub const ASKING: Profile = [1, 4, 4, 6, 8, 6, 0, 0, 1, 1, 1, 1, 1, 1, 1, 1, 1, 2, 6];
-pub const ANY: Profile = [1, 1, 1, 1, 1, 1, 1, 1, 1, 1, 1, 1, 1, 1, 1, 1, 1, 1, 1];
+pub const MIXED: Profile = [1, 2, 2, 3, 4, 3, 0, 0, 4, 2, 6, 3, 6, 5, 14, 6, 4, 3, 2, 1, 1];
+pub const GROWING: Profile = [0, 1, 1, 1, 2, 1, 0, 0, 2, 0, 5, 1, 4, 2, 30, 3, 1, 1, 1, 0, 0];
+pub const SHRINKING: Profile = [0, 0, 1, 1, 2, 1, 0, 0, 1, 3, 1, 3, 1, 1, 3, 20, 6, 1, 1, 1, 1];
+pub const RUNS: Profile = [0, 0, 1, 2, 2, 1, 0, 0, 1, 0, 3, 1, 1, 14, 2, 1, 7, 1, 1, 0, 0];
+pub const USERS: Profile = [0, 2, 0, 0, 2, 0, 0, 0, 20, 6, 4, 2, 2, 1, 1, 0, 1, 0, 0, 1, 1];
+pub const FILES: Profile = [0, 0, 4, 1, 2, 1, 0, 0, 1, 1, 2, 1, 20, 4, 4, 1, 8, 1, 2, 1, 1];
+pub const ASKING: Profile = [1, 4, 4, 6, 8, 6, 0, 0, 1, 1, 1, 1, 1, 1, 1, 1, 1, 2, 6, 1, 1];
+pub const ANY: Profile = [1; NAMES.len()];
 
 pub const PROFILES: [Profile; 7] = [MIXED, GROWING, SHRINKING, RUNS, USERS, FILES, ASKING];
 
@@ -54,6 +54,8 @@ impl Choice<'_> {
             11 => self.take(),
             12 => self.create_indexed(),
             13 => self.create_contiguous(),
+            19 => Call::ConvertToApostrophe,
+            20 => Call::ConvertToZeros,
             n => self.on_file(n),
         }
     }

@@ -43,6 +43,10 @@ pub enum Kind {
     LargeSearches,
     /// Names and types, with words for each of their edges.
     Names,
+    /// Conversions, with words for each of their edges, on a volume that calls give, or on another.
+    Converts { scattered: bool },
+    /// So many volumes converted there and back.
+    ThereAndBack { volumes: u32 },
 }
 
 /// How a round gets its volume's size: one of its own, or by chance between two.
@@ -104,6 +108,10 @@ pub const CYCLE: &[(u32, Kind, Size)] = &[
     (1, Kind::LargeSearches, Size::Of(16_384)),
     (5, Kind::Names, Size::Between(20, 32)),
     (1, Kind::Names, Size::Between(33, 80)),
+    (4, Kind::Converts { scattered: false }, Size::Between(26, 32)),
+    (2, Kind::Converts { scattered: false }, Size::Between(33, 48)),
+    (3, Kind::Converts { scattered: true }, Size::Between(26, 60)),
+    (5, Kind::ThereAndBack { volumes: 50 }, Size::Between(16, 160)),
 ];
 
 /// One round: its kind and size by its number in the cycle.

@@ -149,5 +149,7 @@ fn numbers_of(call: &Call) -> proved::Step {
         Call::DeleteFile { user, file: f } => file(number::DELETE_FILE, user, f),
         Call::WritePage { user, file: f, position, .. } => counted(position, file(number::WRITE_PAGE, user, f)),
         Call::NoteOpen { user, file: f } => file(number::NOTE_OPEN, user, f),
+        Call::ConvertToApostrophe => of(number::CONVERT_TO_APOSTROPHE),
+        Call::ConvertToZeros => of(number::CONVERT_TO_ZEROS),
     }
 }

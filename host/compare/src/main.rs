@@ -5,6 +5,8 @@ mod both;
 mod calls;
 mod cases;
 mod choose;
+mod convert_rounds;
+mod converts;
 mod cycle;
 mod damage;
 mod damaged_rounds;
@@ -28,6 +30,7 @@ mod searched;
 mod spots;
 mod tally;
 mod text;
+mod there_and_back;
 mod twice;
 mod volumes;
 mod words;
@@ -41,6 +44,7 @@ compare: the proved library against the second program, every answer and every w
 
     compare [--seed N] [--first N] [--seconds S | --rounds N | --damaged N]
     compare --short
+    compare [--seed N] [--first N] --there-and-back N
     compare --cases FOLDER
     compare --replay FOLDER
 
@@ -50,6 +54,9 @@ compare: the proved library against the second program, every answer and every w
   --rounds N       so many rounds
   --damaged N      go on until so many damaged images agreed, but for one cycle of rounds at least
   --short          two cycles with seed 1, as the gate runs it
+  --there-and-back N
+                   no rounds, but so many volumes converted there and back: done both times, no other words changed between than those
+                   of names and types, and the same words in the end; --first is the number of the first volume
   --cases FOLDER   run every case in the folder through both (host/cases/README.md)
   --replay FOLDER  go through a kept disagreement again
 
@@ -60,6 +67,7 @@ Exit status: 0 where all agreed and every minimum was met, 1 where not, 2 where 
 enum Asked {
     Help,
     Run(Plan),
+    ThereAndBack { volumes: u64, seed: u64, first: u64 },
     Cases(String),
     Replay(String),
 }
@@ -78,6 +86,7 @@ fn main() -> ExitCode {
             Ok(true)
         }
         Asked::Run(plan) => Ok(run::run(&plan)),
+        Asked::ThereAndBack { volumes, seed, first } => Ok(there_and_back::run(seed, first, volumes)),
         Asked::Cases(folder) => cases::run(&folder),
         Asked::Replay(folder) => report::replay(&folder),
     };
@@ -92,7 +101,7 @@ fn main() -> ExitCode {
 }
 
 fn read_arguments(mut arguments: impl Iterator<Item = String>) -> Result<Asked, String> {
-    let (mut seed, mut first, mut until) = (None, 0, Until::Cycles(1));
+    let (mut seed, mut first, mut until, mut there_and_back) = (None, 0, Until::Cycles(1), None);
     while let Some(argument) = arguments.next() {
         let mut value = || arguments.next().ok_or(format!("{argument} wants a value"));
         match argument.as_str() {
@@ -103,12 +112,17 @@ fn read_arguments(mut arguments: impl Iterator<Item = String>) -> Result<Asked, 
             "--seconds" => until = Until::Time(Duration::from_secs(number(&value()?)?)),
             "--rounds" => until = Until::Rounds(number(&value()?)?),
             "--damaged" => until = Until::Damaged(number(&value()?)?),
+            "--there-and-back" => there_and_back = Some(number(&value()?)?),
             "--cases" => return Ok(Asked::Cases(value()?)),
             "--replay" => return Ok(Asked::Replay(value()?)),
             other => return Err(format!("{other} is no argument")),
         }
     }
-    Ok(Asked::Run(Plan { seed: seed.unwrap_or_else(seed_by_clock), first, until }))
+    let seed = seed.unwrap_or_else(seed_by_clock);
+    Ok(match there_and_back {
+        Some(volumes) => Asked::ThereAndBack { volumes, seed, first },
+        None => Asked::Run(Plan { seed, first, until }),
+    })
 }
 
 fn number(text: &str) -> Result<u64, String> {

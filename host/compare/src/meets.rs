@@ -4,7 +4,7 @@ use crate::calls::Call;
 use crate::choose::WIDE;
 use crate::scene::{File, Scene};
 use crate::script::{Asked, Part, Played, Script};
-use crate::tally::Met;
+use crate::tally::{Met, NUMBERS};
 use crate::words::OPENS;
 
 /// What a call would meet on this image, with the number that it then answers.
@@ -34,7 +34,7 @@ pub fn meets(image: &[u16], scene: &Scene, call: &Call) -> Vec<(Met, u32)> {
     if scene.longest_run(image) == 0 {
         whatever.push(Met::FullVolume);
     }
-    met.extend(whatever.into_iter().flat_map(|what| (0..12).map(move |number| (what, number))));
+    met.extend(whatever.into_iter().flat_map(|what| (0..NUMBERS as u32).map(move |number| (what, number))));
     met
 }
 
@@ -54,7 +54,7 @@ fn wide(call: &Call) -> Vec<Met> {
         }
         Call::WhoHolds { page } => pages = Some(*page),
         Call::Format { bit_page, .. } => pages = *bit_page,
-        Call::Check | Call::FindUser { .. } | Call::CreateUser { .. } => {}
+        Call::Check | Call::FindUser { .. } | Call::CreateUser { .. } | Call::ConvertToApostrophe | Call::ConvertToZeros => {}
     }
     let all =
         [(Met::WideUser, users), (Met::WideFile, files), (Met::WidePosition, positions), (Met::WidePage, pages), (Met::WideCount, counts)];

@@ -1,8 +1,9 @@
 //! The rounds of a run, each on one volume: what each kind does.
 
 use crate::both::{Answered, Both, Disagreement};
-use crate::calls::Call;
+use crate::calls::{Call, NAMES};
 use crate::choose::{Choice, Profile, ASKING, FILES, GROWING, MIXED, PROFILES, RUNS, SHRINKING, USERS};
+use crate::converts::{all_filled, Way};
 use crate::cycle::{Kind, Size};
 use crate::fills::{refill, refilled};
 use crate::meets::{leaves, meets};
@@ -49,6 +50,8 @@ impl Round<'_> {
             Kind::Searches => self.searches(pages),
             Kind::LargeSearches => self.large_searches(pages),
             Kind::Names => self.names(pages),
+            Kind::Converts { scattered } => self.converts(pages, scattered),
+            Kind::ThereAndBack { volumes } => self.there_and_back(pages, volumes),
         }
     }
 
@@ -180,7 +183,22 @@ impl Round<'_> {
         self.plain(&mut both, Call::Give { user, count: 40 })?;
         self.plain(&mut both, Call::Grow { user, file })?;
         self.calls(&mut both, &ASKING, 4)?;
-        self.calls(&mut both, &MIXED, 4)
+        self.calls(&mut both, &MIXED, 4)?;
+        self.all_converted(both.image())
+    }
+
+    /// Every entry that an image can have, converted there and back.
+    fn all_converted(&mut self, image: &[u16]) -> Agreed {
+        let start = all_filled(image, Way::ToApostrophe.from());
+        let mut both = Both::new(start.clone());
+        for way in Way::ALL {
+            let answered = both.call(way.call(), self.tally)?;
+            let right = answered.call.number == 0 && both.image() == all_filled(&start, way.to());
+            if !right {
+                return Err(both.wrong("a conversion of all entries is not done, or left other words", answered.call));
+            }
+        }
+        Ok(())
     }
 
     /// Every call with every wrong length of this image; then some with right ones.
@@ -190,8 +208,8 @@ impl Round<'_> {
         let name = b"YARD".to_vec();
         both.lend(Some(words.min(16_384 * PAGE)), Call::Format { name: name.clone(), bit_page: None }, self.tally)?;
         let scene = Scene::read(both.image());
-        for which in 0..19 {
-            let mut profile: Profile = [0; 19];
+        for which in 0..NAMES.len() {
+            let mut profile: Profile = [0; NAMES.len()];
             profile[which] = 1;
             for lent in [words - 1, 16_384 * PAGE + 1, 7 * PAGE, 8 * PAGE - 1, 8 * PAGE + 1, 0] {
                 let call = Choice { random: &mut self.random, image: both.image(), scene: &scene }.call(&profile);

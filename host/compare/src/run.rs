@@ -77,7 +77,8 @@ fn one_round(seed: u64, round: u64, tally: &mut Tally) -> bool {
     }
 }
 
-fn disagreed(seed: u64, round: u64, seen: &Disagreement) {
+/// Tells a disagreement, and keeps it.
+pub fn disagreed(seed: u64, round: u64, seen: &Disagreement) {
     clear_progress();
     println!("seed {seed}, round {round}\n{}", report::told(seen));
     let folder = PathBuf::from(format!("disagreement-{seed}-{round}"));

@@ -8,6 +8,7 @@ pub use patterned::{patterned, Beyond, Crowd, Wish, FIRST, LATER, OTHER};
 
 use crate::fills::put_name;
 use crate::random::Random;
+use crate::volumes::some_name;
 use crate::words::*;
 
 /// A volume being made. Its words are all by chance at first; what must be zero is zeroed as it is taken.
@@ -104,17 +105,8 @@ impl Making<'_> {
         put_pair(&mut self.image, BIT_POINTER, page);
     }
 
-    /// A legal name of 1 to 16 bytes; its first bytes tell the number, so names of two numbers differ.
     fn name(&mut self, number: u32) -> Vec<u8> {
-        const LEGAL: &[u8] = b"ABCDEFGHIJKLMNOPQRSTUVWXYZ0123456789-";
-        let mut name = vec![LEGAL[number as usize % 37], LEGAL[number as usize / 37]];
-        if number < 37 && self.random.one_in(2) {
-            return name[..1].to_vec();
-        }
-        for _ in 0..self.random.below(15) {
-            name.push(*self.random.pick(LEGAL));
-        }
-        name
+        some_name(self.random, number)
     }
 
     /// The user index, some user pages, and used users in them.

@@ -2,6 +2,7 @@
 //! shown nothing about it, so there are minimums, and a run below one of them fails.
 
 use crate::calls::{Answer, NAMES};
+use crate::converts::ConvertEdges;
 use crate::edges::Edges;
 use crate::names::NameEdges;
 use crate::script::{is_step, Asked, Played, Script};
@@ -10,7 +11,10 @@ use crate::twice::{pairs, FILE_SUBINDEX};
 use std::collections::BTreeMap;
 use std::fmt::Write;
 
-/// How often at least each number 0 to 11, each rule 1 to 10, and each rule by damage aimed at it.
+/// The numbers that a call can answer: 0 to 12.
+pub const NUMBERS: usize = 13;
+
+/// How often at least each of them, each rule 1 to 10, and each rule by damage aimed at it.
 const EACH_NUMBER: u64 = 50;
 const EACH_RULE: u64 = 200;
 const EACH_AIMED: u64 = 50;
@@ -64,9 +68,11 @@ pub enum Met {
     OneFileTwice,
     TwoFiles,
     TwoUsers,
+    FromZeros,
+    FromApostrophe,
 }
 
-const MINIMUMS: [(Met, &str, u64); 36] = [
+const MINIMUMS: [(Met, &str, u64); 38] = [
     (Met::FilePast512, "files grown past 512 pages", 2),
     (Met::FilePast1024, "files grown past 1,024 pages", 2),
     (Met::BackTo512, "files shrunk back to 512 pages", 2),
@@ -103,6 +109,8 @@ const MINIMUMS: [(Met, &str, u64); 36] = [
     (Met::OneFileTwice, "two holders of one file, of two kinds", 4),
     (Met::TwoFiles, "two holders of one user and two of his files", 20),
     (Met::TwoUsers, "two holders of two users", 20),
+    (Met::FromZeros, "volumes of old fill converted there and back", 100),
+    (Met::FromApostrophe, "volumes of new fill converted there and back", 100),
 ];
 
 /// How often at least each number came to a step of a run, and each call that can be one was done as one.
@@ -115,9 +123,9 @@ const NO_CALL: usize = NAMES.len();
 #[derive(Default)]
 pub struct Tally {
     /// For each call, how often it was answered with each number.
-    calls: [[u64; 12]; NAMES.len()],
+    calls: [[u64; NUMBERS]; NAMES.len()],
     /// The same of the steps of runs; the last row is of steps that are no calls.
-    steps: [[u64; 12]; NAMES.len() + 1],
+    steps: [[u64; NUMBERS]; NAMES.len() + 1],
     runs: u64,
     /// The lowest rule of the check after each call; 0 is a sound image.
     rules: [u64; 11],
@@ -134,6 +142,8 @@ pub struct Tally {
     pub edges: Edges,
     /// The edges of names as they are stored.
     pub names: NameEdges,
+    /// The edges of the conversions.
+    pub converts: ConvertEdges,
     met: BTreeMap<Met, u64>,
 }
 
@@ -195,6 +205,11 @@ impl Tally {
         *self.met.entry(what).or_default() += 1;
     }
 
+    /// How often something was met.
+    pub fn times(&self, what: Met) -> u64 {
+        self.met.get(&what).copied().unwrap_or(0)
+    }
+
     pub fn compared(&self) -> u64 {
         self.calls.iter().flatten().sum()
     }
@@ -212,8 +227,8 @@ impl Tally {
                 short.push(format!("{what}: {met}, at least {least} are wanted"));
             }
         };
-        (0..12).for_each(|n| demand(format!("number {n}"), by_number(&self.calls, n), EACH_NUMBER));
-        (0..12).for_each(|n| demand(format!("number {n} to a step"), by_number(&self.steps, n), EACH_STEP_NUMBER));
+        (0..NUMBERS).for_each(|n| demand(format!("number {n}"), by_number(&self.calls, n), EACH_NUMBER));
+        (0..NUMBERS).for_each(|n| demand(format!("number {n} to a step"), by_number(&self.steps, n), EACH_STEP_NUMBER));
         (1..11).for_each(|rule| demand(format!("rule {rule}"), self.rules[rule], EACH_RULE));
         (1..11).for_each(|rule| demand(format!("damage aimed at rule {rule}"), self.aimed[rule], EACH_AIMED));
         for (name, call) in NAMES.iter().zip(&self.calls) {
@@ -232,9 +247,9 @@ impl Tally {
             demand(format!("volumes of {pages} pages"), self.sizes.get(&pages).copied().unwrap_or(0), 1);
         }
         for (what, words, least) in MINIMUMS {
-            demand(words.to_string(), self.met.get(&what).copied().unwrap_or(0), least);
+            demand(words.to_string(), self.times(what), least);
         }
-        let edges = self.edges.demands().into_iter().chain(self.names.demands());
+        let edges = self.edges.demands().into_iter().chain(self.names.demands()).chain(self.converts.demands());
         edges.for_each(|(words, met, least)| demand(words, met, least));
         short
     }
@@ -245,9 +260,9 @@ impl Tally {
         let _ = writeln!(out, "(read_page answers no number: its parts, full and empty, are counted under 0 and below)\n");
         let names: Vec<&str> = NAMES.into_iter().chain(["no call"]).collect();
         out += &table("step \\ number", &names, &self.steps);
-        let _ = writeln!(out, "\n{:18}   sound{}", "check after a call", (1..11).map(|n| format!("  rule{n:2}")).collect::<String>());
-        let _ = writeln!(out, "{:18}{}", "lowest rule", row(&self.rules));
-        let _ = writeln!(out, "{:18}{}", "aimed and hit", row(&self.aimed));
+        let _ = writeln!(out, "\n{:22}   sound{}", "check after a call", (1..11).map(|n| format!("  rule{n:2}")).collect::<String>());
+        let _ = writeln!(out, "{:22}{}", "lowest rule", row(&self.rules));
+        let _ = writeln!(out, "{:22}{}", "aimed and hit", row(&self.aimed));
         for (spot, told) in self.spots_told() {
             let _ = writeln!(out, "rule {:2} told at: {}: {told}", spot.rule, spot.words);
         }
@@ -255,14 +270,14 @@ impl Tally {
         let _ = writeln!(out, "rule  8 told with holders of kinds {}", pairs.join(", "));
         let _ = writeln!(out, "\nvolumes by pages: {}", self.sizes_in_words());
         for (what, words, _) in MINIMUMS {
-            let _ = writeln!(out, "{words}: {}", self.met.get(&what).copied().unwrap_or(0));
+            let _ = writeln!(out, "{words}: {}", self.times(what));
         }
-        out + "\n" + &self.edges.summary() + "\n" + &self.names.summary()
+        out + "\n" + &self.edges.summary() + "\n" + &self.names.summary() + "\n" + &self.converts.summary()
     }
 
     /// How often each number was answered, and each rule was the lowest broken one: a line for a run of cases.
     pub fn numbers_and_rules(&self) -> String {
-        let numbers: Vec<String> = (0..12).map(|n| format!("{n}: {}", by_number(&self.calls, n))).collect();
+        let numbers: Vec<String> = (0..NUMBERS).map(|n| format!("{n}: {}", by_number(&self.calls, n))).collect();
         let rules: Vec<String> = (1..11).map(|rule| format!("{rule}: {}", self.rules[rule])).collect();
         format!("by number {}; by lowest rule {}", numbers.join(", "), rules.join(", "))
     }
@@ -297,18 +312,18 @@ fn can_be_a_step(name: &str) -> bool {
     !["who_holds", "read_page"].contains(&name) && (name != "check" || second::CHECK_IS_A_STEP)
 }
 
-fn by_number(rows: &[[u64; 12]], number: usize) -> u64 {
+fn by_number(rows: &[[u64; NUMBERS]], number: usize) -> u64 {
     rows.iter().map(|row| row[number]).sum()
 }
 
 /// A row for each name, and one for all.
-fn table(title: &str, names: &[&str], rows: &[[u64; 12]]) -> String {
-    let mut out = format!("{title:18}{}   all\n", (0..12).map(|n| format!("{n:8}")).collect::<String>());
+fn table(title: &str, names: &[&str], rows: &[[u64; NUMBERS]]) -> String {
+    let mut out = format!("{title:22}{}   all\n", (0..NUMBERS).map(|n| format!("{n:8}")).collect::<String>());
     for (name, counts) in names.iter().zip(rows).filter(|(_, counts)| counts.iter().any(|&count| count > 0)) {
-        let _ = writeln!(out, "{name:18}{}{:8}", row(counts), counts.iter().sum::<u64>());
+        let _ = writeln!(out, "{name:22}{}{:8}", row(counts), counts.iter().sum::<u64>());
     }
-    let all: Vec<u64> = (0..12).map(|n| by_number(rows, n)).collect();
-    let _ = writeln!(out, "{:18}{}{:8}", "all", row(&all), all.iter().sum::<u64>());
+    let all: Vec<u64> = (0..NUMBERS).map(|n| by_number(rows, n)).collect();
+    let _ = writeln!(out, "{:22}{}{:8}", "all", row(&all), all.iter().sum::<u64>());
     out
 }
 
@@ -321,12 +336,13 @@ mod tests {
     use super::*;
 
     /// A run that met nothing is told so for each number, each rule twice, each call, each kind of place and pair of holders, each size,
-    /// each edge, and each edge of a search and of a name, most of them twice.
+    /// each edge, and each edge of a search, of a name and of a conversion, most of them twice.
     #[test]
     fn nothing_is_too_little() {
         let steps = NAMES.into_iter().filter(|name| can_be_a_step(name)).count();
-        let wanted = 2 * 12 + 10 + 10 + NAMES.len() + steps + SPOTS.len() + pairs().len() + SIZES.len() + MINIMUMS.len();
+        let wanted = 2 * NUMBERS + 10 + 10 + NAMES.len() + steps + SPOTS.len() + pairs().len() + SIZES.len() + MINIMUMS.len();
         let wanted = wanted + Edges::default().demands().len() + NameEdges::default().demands().len();
+        let wanted = wanted + ConvertEdges::default().demands().len();
         assert_eq!(Tally::default().too_little().len(), wanted);
     }
 }

@@ -101,6 +101,8 @@ fn call(name: &str, words: &mut Words) -> Result<Call, String> {
             Call::WritePage { user, file, position, data }
         }
         "open" => Call::NoteOpen { user: words.number()?, file: words.number()? },
+        "convert-to-apostrophe" => Call::ConvertToApostrophe,
+        "convert-to-zeros" => Call::ConvertToZeros,
         other => return Err(format!("{other} is no call")),
     })
 }
@@ -288,6 +290,8 @@ impl fmt::Display for Call {
                 write!(out, "write {user} {file} {position} {} {}", data.first, data.length)
             }
             Call::NoteOpen { user, file } => write!(out, "open {user} {file}"),
+            Call::ConvertToApostrophe => write!(out, "convert-to-apostrophe"),
+            Call::ConvertToZeros => write!(out, "convert-to-zeros"),
         }
     }
 }
@@ -343,17 +347,23 @@ mod tests {
             "delete-file 0 0",
             "write 0 0 0 5 1023",
             "open 0 0",
+            "convert-to-apostrophe",
+            "lend 8191 convert-to-zeros",
             "give 4294967297 1",
             "run 3",
             "run 3 user A\\x3B ; give 0 5 ; no-call 16 grow 0 0 ; outside name 1 find-user A ; write 0 0 0 5 1024",
             "lend 7168 run 0 format YARD ; format YARD 7",
+            "run 3 convert-to-apostrophe ; check ; no-call 22 convert-to-zeros",
         ];
         for line in lines {
             assert_eq!(step(line).map(|step| step.to_string()), Ok(line.to_string()));
         }
-        for wrong in
-            ["", "grow 0", "grow 0 0 0", "word 0 0 65536", "user A\\xG0", "user A\\x4", "nothing", "run", "run 1 ;", "run 1 outside"]
-        {
+    }
+
+    #[test]
+    fn wrong_lines_are_no_steps() {
+        let calls = ["", "grow 0", "grow 0 0 0", "word 0 0 65536", "user A\\xG0", "user A\\x4", "nothing", "convert-to-zeros 0"];
+        for wrong in calls.into_iter().chain(["run", "run 1 ;", "run 1 outside"]) {
             assert!(step(wrong).is_err(), "{wrong}");
         }
     }

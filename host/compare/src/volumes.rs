@@ -20,6 +20,19 @@ pub fn nth(n: u32) -> Vec<u8> {
     format!("N-{n}").into_bytes()
 }
 
+/// A legal name of 1 to 16 bytes; its first bytes tell the number, so names of two numbers differ.
+pub fn some_name(random: &mut Random, number: u32) -> Vec<u8> {
+    const LEGAL: &[u8] = b"ABCDEFGHIJKLMNOPQRSTUVWXYZ0123456789-";
+    let mut name = vec![LEGAL[number as usize % 37], LEGAL[number as usize / 37]];
+    if number < 37 && random.one_in(2) {
+        return name[..1].to_vec();
+    }
+    for _ in 0..random.below(15) {
+        name.push(*random.pick(LEGAL));
+    }
+    name
+}
+
 /// A setting-up call must be done: the makers ask only for what there is room for.
 fn must(reply: second::Reply) -> usize {
     assert_eq!(reply.number, 0, "a volume could not be made");
@@ -84,6 +97,30 @@ pub fn with_names(random: &mut Random, pages: u32) -> Vec<u16> {
     must(second::create_contiguous(&mut image, 0, b"RUN", b"", 0, 1));
     for _ in 0..2 {
         must(second::grow(&mut image, 0, 0));
+    }
+    refilled(random, &mut image);
+    image
+}
+
+/// A volume with entries on three user pages and three object pages, the last of them under a second index block: 64 users, of whom 0 and 65
+/// have files. Some entries between are unused. Names and types are of any length. It takes 26 pages at least.
+pub fn with_entries(random: &mut Random, pages: u32) -> Vec<u16> {
+    let mut image = formatted(random, pages);
+    for n in 0..66 {
+        must(second::create_user(&mut image, &some_name(random, n)));
+    }
+    for (user, files) in [(0, 34), (65, 3)] {
+        must(second::give(&mut image, user, 4));
+        for n in 0..files {
+            let kind = &b"TYPE"[..random.below(5) as usize];
+            must(second::create_indexed(&mut image, user, &some_name(random, n), kind, n));
+        }
+        must(second::grow(&mut image, user, 0));
+        must(second::create_contiguous(&mut image, user, b"RUN", b"", 0, 1));
+        must(second::delete_file(&mut image, user, 1));
+    }
+    for user in [3, 40] {
+        must(second::delete_user(&mut image, user));
     }
     refilled(random, &mut image);
     image

@@ -4,6 +4,7 @@ use crate::volume_json;
 use proved::{Place, Reply};
 use serde_json::{json, Value};
 use std::fmt::Display;
+use std::path::Path;
 
 /// An answer for people and the same one for programs.
 #[derive(Debug, Default)]
@@ -35,6 +36,11 @@ pub fn item(name: &str, words: &str) -> String {
     format!("  {name:<10}{words}")
 }
 
+/// The line that says how the words of a place are shown.
+pub fn look_at(path: &Path, Place { page, word }: Place) -> String {
+    item("look at", &format!("nord page {} {page} {word}", path.display()))
+}
+
 /// So many pages, in words.
 pub fn pages(count: u32) -> String {
     match count {
@@ -64,6 +70,8 @@ pub enum Call {
     DeleteFile,
     Write,
     Open,
+    ToApostrophe,
+    ToZeros,
 }
 
 impl Call {
@@ -184,6 +192,10 @@ fn why(number: u32, call: Call) -> &'static str {
             _ => "unreserved is below the system pages needed",
         },
         11 => "there is no run of that many free pages for a contiguous file",
+        12 => match call {
+            Call::ToZeros => "one apostrophe and then zeros are wanted behind every short name and type",
+            _ => "zeros alone are wanted behind every short name and type",
+        },
         _ => "no reason is known for this number",
     }
 }

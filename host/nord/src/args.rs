@@ -17,7 +17,7 @@ const NAMES: &str =
 A name is 1 to 16 of A-Z, 0-9 and hyphen, a type 0 to 4 of them. The apostrophe that ends a short one in an image is no part of it: it is
 never shown, and a name given with it is refused (2).
 A file is a whole number of pages of 2,048 bytes. Images are high byte first, 8 to 16,384 pages.
-Exit status: 0 done; 1 to 11 the library's refusal; 64 wrong use; 74 input or output; 75 locked or changed by somebody else.
+Exit status: 0 done; 1 to 12 the library's refusal; 64 wrong use; 74 input or output; 75 locked or changed by somebody else.
 A refused or failed command leaves the image as it was. `nord help COMMAND` has an example for each command.";
 
 /// A command that asks an image and changes nothing.
@@ -66,6 +66,17 @@ pub enum Command {
         /// The page of the bit file; the middle page by default
         #[arg(long, value_name = "PAGE", value_parser = number)]
         bit_page: Option<u32>,
+    },
+    /// Convert what stands behind short names and types: zeros alone to an apostrophe and zeros, or back
+    #[command(
+        after_help = "Example:\n  nord convert disk.img --to apostrophe\n  nord convert disk.img --to zeros\n\nOld volumes have zeros alone behind names of less than 16 letters and types of less than 4; those that are written now end\nin an apostrophe. Both are sound, but another program may want one of the two. There and back gives the same image, byte\nfor byte. All of them have to be in the one fill before: where one is not, the command is refused (12), names it and changes none."
+    )]
+    Convert {
+        #[command(flatten)]
+        at: Change,
+        /// What is to stand behind every short name and type: apostrophe (one, and then zeros) or zeros (alone)
+        #[arg(long, value_enum, value_name = "FILL")]
+        to: Ending,
     },
     /// Add and delete users, give and take pages
     #[command(
@@ -290,6 +301,13 @@ pub enum Colour {
     Never,
 }
 
+/// What short names and types are to end in.
+#[derive(Clone, Copy, Debug, PartialEq, Eq, ValueEnum)]
+pub enum Ending {
+    Apostrophe,
+    Zeros,
+}
+
 impl Command {
     /// Whether the answer is wanted as JSON.
     pub fn json(&self) -> bool {
@@ -297,7 +315,7 @@ impl Command {
             Command::Check(at) | Command::List(at) | Command::Sample(at) => at.json,
             Command::Read { at, .. } | Command::Find { at, .. } | Command::Address { at, .. } => at.json,
             Command::Who { at, .. } | Command::Page { at, .. } | Command::Map { at, .. } => at.json,
-            Command::Format { at, .. } | Command::Write { at, .. } => at.json,
+            Command::Format { at, .. } | Command::Convert { at, .. } | Command::Write { at, .. } => at.json,
             Command::User(User::Add { at, .. } | User::Delete { at, .. } | User::Give { at, .. } | User::Take { at, .. }) => at.json,
             Command::File(File::Create { at, .. } | File::Grow { at, .. } | File::Shrink { at, .. }) => at.json,
             Command::File(File::Delete { at, .. } | File::Open { at, .. }) => at.json,

@@ -46,7 +46,6 @@ impl Broken<'_> {
 
     /// The lines under the refusal itself.
     pub fn lines(&self, path: &Path) -> Vec<String> {
-        let Place { page, word } = self.place;
         let mut lines = vec![
             item(&format!("rule {}", self.rule), answers::rule(self.rule)),
             item("place", &self.what()),
@@ -60,7 +59,7 @@ impl Broken<'_> {
             lines.push(item("there", &self.there()));
         }
         lines.extend(self.expected().map(|expected| item("expected", &expected)));
-        lines.push(item("look at", &format!("nord page {} {page} {word}", path.display())));
+        lines.push(answers::look_at(path, self.place));
         lines
     }
 

@@ -113,7 +113,10 @@ in words, of a failure of the host "error" and "status". Of refusal 3 it has als
 "first" and "second" (the page's first two holders with rule 8, free else: "kind", "user", "file", "position");
 .B nord check
 adds "what" (what the words there are), "there" (what they are now, with "leftovers" where something stands behind the end of a name), "expected"
-(in words, and "from" and "to" where numbers of one range are right) and the holders' names. Long work shows a bar on a terminal.
+(in words, and "from" and "to" where numbers of one range are right) and the holders' names. Of refusal 12 it has also "to", and of the first name
+or type in the way "field" ("volume", "user", "name" or "type"), "user" and "file" (their indexes, or null), "name", "fill" ("zeros", "apostrophe" or
+"leftovers"), "behind" (the bytes behind it, in hexadecimal), "leftovers" (as characters, or null), "page" and "word"; then "in_the_way", how many
+are, and "short", how many short names and types there are of each fill. Long work shows a bar on a terminal.
 .SH COMMANDS
 "#;
 
@@ -132,6 +135,12 @@ In an image a name has 16 bytes and a type 4. One that is shorter ends before th
 end is ignored: by the check, where names are compared, in listings and maps. A short name or type that is written gets one apostrophe
 (hexadecimal 27) and then zeros, so the empty type is the words 2700 and 0000; one that has all 16 or 4 bytes gets none. Volumes whose names have
 zeros alone behind them, as earlier versions wrote them, stay sound: a name is written where it is made, and all others stay as they are.
+.PP
+.B nord convert
+changes what stands behind the short names and types of a whole volume, its own name and those of its users and files: from zeros alone to an
+apostrophe and zeros, or back. There and back gives the same image. All of them have to be in the one fill before; else, as in a volume with both, in
+one that was converted already or where something is left behind a name, it is refused with 12, names the first in the way and changes nothing. Entries
+that are not used, and names and types that fill their 16 or 4 bytes, stay as they are.
 .PP
 The apostrophe is no part of a name. It is not shown, and a name or type that is given with one is refused with 2, in words that say so.
 .B nord page
@@ -196,6 +205,9 @@ Unreserved is below the system pages needed, or the pages to be given.
 .TP
 11
 There is no run for a contiguous file.
+.TP
+12
+A short name or type is not in exactly the fill that is converted. This is judged right after 3.
 .TP
 64
 The command was not used as its help says.

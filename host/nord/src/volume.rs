@@ -6,6 +6,7 @@ mod disk;
 mod fields;
 mod holder;
 mod meaning;
+mod shorts;
 mod stored;
 mod told;
 mod walk;
@@ -16,7 +17,8 @@ pub use disk::{UNRESERVED, USER_PAGES, USER_POINTER, VOLUME_NAME};
 pub use fields::number;
 pub use holder::{Holder, Kind};
 pub use meaning::{meaning, Meaning};
-pub use stored::{character, Stored};
+pub use shorts::{Short, Whose};
+pub use stored::{character, Fill, Stored};
 pub use walk::{holders, Held};
 
 /// A volume with its users ascending.

@@ -80,6 +80,8 @@ pub mod call {
     pub const WRITE_PAGE: u32 = 17;
     pub const NOTE_OPEN: u32 = 18;
     pub const FORMAT_DEFAULT: u32 = 19;
+    pub const CONVERT_TO_APOSTROPHE: u32 = 20;
+    pub const CONVERT_TO_ZEROS: u32 = 21;
 }
 
 /// The numbers of a step and of a reply, which the lengths of their lists are told in.
@@ -153,6 +155,8 @@ extern "C" {
         data_words: usize,
     ) -> Reply;
     pub(crate) fn nord_note_open(image: *mut u16, words: usize, user: usize, file: usize) -> Reply;
+    pub(crate) fn nord_convert_to_apostrophe(image: *mut u16, words: usize) -> Reply;
+    pub(crate) fn nord_convert_to_zeros(image: *mut u16, words: usize) -> Reply;
     pub(crate) fn nord_run(
         image: *mut u16,
         words: usize,

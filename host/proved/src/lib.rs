@@ -137,6 +137,16 @@ pub fn note_open(image: &mut [u16], user: usize, file: usize) -> Reply {
     unsafe { boundary::nord_note_open(image.as_mut_ptr(), image.len(), user, file) }
 }
 
+/// The volume's name and every used entry's name and type: from zeros behind a short one to an apostrophe and then zeros.
+pub fn convert_to_apostrophe(image: &mut [u16]) -> Reply {
+    unsafe { boundary::nord_convert_to_apostrophe(image.as_mut_ptr(), image.len()) }
+}
+
+/// And back to zeros.
+pub fn convert_to_zeros(image: &mut [u16]) -> Reply {
+    unsafe { boundary::nord_convert_to_zeros(image.as_mut_ptr(), image.len()) }
+}
+
 /// Makes the steps in order, with one check of the image for all of them: a reply for each, up to the first refusal or to the end of `steps`
 /// or `replies`. Gives the number of replies; the others stay as they were. Replies and image are those of the single calls one after the
 /// other. A step whose call is none, or that uses a part which does not lie in `text` or `data`, is a call whose arguments are wrong.

@@ -5,13 +5,15 @@
 //! An image is a slice of 16-bit words; P is its length divided by 1,024.
 //! Each call answers by the numbers of document 01's table, and says with 3
 //! where the image is broken (document 02, T-01). Free pages are searched a word
-//! of the bit file at a step (T-02). Short names end in an apostrophe (T-03).
+//! of the bit file at a step (T-02). Short names end in an apostrophe (T-03);
+//! what old volumes have behind them, zeros, is converted to it and back (T-04).
 
 #![forbid(unsafe_code)]
 
 mod arguments;
 pub mod bits;
 mod check;
+mod convert;
 pub mod entry;
 mod files;
 mod find;
@@ -31,6 +33,7 @@ mod volume;
 mod walk;
 
 pub use check::check;
+pub use convert::{convert_to_apostrophe, convert_to_zeros};
 pub use files::{create_contiguous, create_indexed, delete_file, note_open, write_page};
 pub use find::{address, find_file, find_user, read_page};
 pub use format::format;

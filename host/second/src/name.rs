@@ -27,15 +27,39 @@ pub fn is_type(bytes: &[u8]) -> bool {
     bytes.len() <= 2 * TYPE_WORDS && bytes.iter().all(|&b| is_legal_byte(b))
 }
 
-/// The words that are written for a legal name or type: its bytes, where these
-/// do not fill the field one apostrophe, then zeros.
-pub fn pack<const N: usize>(bytes: &[u8]) -> [u16; N] {
+/// What a short name or type is filled up with: zeros alone, as old volumes
+/// have it, or one apostrophe and then zeros, as it is written.
+#[derive(Clone, Copy, Debug, PartialEq, Eq)]
+pub enum Fill {
+    Zeros,
+    Apostrophe,
+}
+
+impl Fill {
+    /// The byte right behind a short one; all further bytes are zero.
+    fn end(self) -> u8 {
+        match self {
+            Fill::Zeros => 0,
+            Fill::Apostrophe => APOSTROPHE,
+        }
+    }
+}
+
+/// The words of a field with these bytes and, where they do not fill it, this
+/// behind them.
+fn fill_up<const N: usize>(bytes: impl Iterator<Item = u8>, fill: Fill) -> [u16; N] {
     let mut words = [0; N];
-    let ended = bytes.iter().chain(&[APOSTROPHE]).take(2 * N);
-    for (place, &byte) in ended.enumerate() {
+    let ended = bytes.chain([fill.end()]).take(2 * N);
+    for (place, byte) in ended.enumerate() {
         words[place / 2] |= u16::from(byte) << if place % 2 == 0 { 8 } else { 0 };
     }
     words
+}
+
+/// The words that are written for a legal name or type: its bytes, where these
+/// do not fill the field one apostrophe, then zeros.
+pub fn pack<const N: usize>(bytes: &[u8]) -> [u16; N] {
+    fill_up(bytes.iter().copied(), Fill::Apostrophe)
 }
 
 /// A name or type as its field has it: the bytes before the first apostrophe or
@@ -69,6 +93,11 @@ impl Stored {
     /// Its bytes, without what ends it.
     pub fn bytes(self) -> impl Iterator<Item = u8> {
         self.0.to_be_bytes().into_iter().take(self.length())
+    }
+
+    /// The words of its field, were it filled up so.
+    pub fn filled<const N: usize>(self, fill: Fill) -> [u16; N] {
+        fill_up(self.bytes(), fill)
     }
 
     /// Whether it is a legal name: there is at least one byte, and all are legal.
@@ -198,6 +227,22 @@ mod tests {
         assert_eq!(pack::<TYPE_WORDS>(b""), [0x2700, 0]);
         assert_eq!(pack::<NAME_WORDS>(b"FIFTEEN-LETTERS")[7], 0x5327);
         assert_eq!(pack::<NAME_WORDS>(b"SIXTEEN-LETTERS-")[7], 0x532D);
+    }
+
+    /// With either fill, the longest and the shortest; a full one has none.
+    #[test]
+    fn filled_up() {
+        let name = |bytes: &[u8], fill: Fill| Stored::of(bytes).filled::<NAME_WORDS>(fill);
+        assert_eq!(name(b"DOCK", Fill::Apostrophe), [0x444F, 0x434B, 0x2700, 0, 0, 0, 0, 0]);
+        assert_eq!(name(b"DOCK", Fill::Zeros), [0x444F, 0x434B, 0, 0, 0, 0, 0, 0]);
+        assert_eq!(name(b"FIFTEEN-LETTERS", Fill::Apostrophe)[7], 0x5327);
+        assert_eq!(name(b"FIFTEEN-LETTERS", Fill::Zeros)[7], 0x5300);
+        let kind = |bytes: &[u8], fill: Fill| Stored::of(bytes).filled::<TYPE_WORDS>(fill);
+        assert_eq!((kind(b"", Fill::Apostrophe), kind(b"", Fill::Zeros)), ([0x2700, 0], [0, 0]));
+        for fill in [Fill::Zeros, Fill::Apostrophe] {
+            assert_eq!(name(b"SIXTEEN-LETTERS-", fill)[7], 0x532D);
+            assert_eq!(kind(b"DATA", fill), [0x4441, 0x5441]);
+        }
     }
 
     /// What is written is read as it was asked for, of every length.

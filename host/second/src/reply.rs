@@ -95,6 +95,8 @@ pub(crate) const ENTRIES_FULL: Refusal = Refusal::of(8);
 pub(crate) const GIVEN_SHORT: Refusal = Refusal::of(9);
 pub(crate) const UNRESERVED_SHORT: Refusal = Refusal::of(10);
 pub(crate) const NO_RUN: Refusal = Refusal::of(11);
+/// Document 02, T-04; it is judged right after 3.
+pub(crate) const WRONG_FILL: Refusal = Refusal::of(12);
 
 /// Goes on where the condition holds, refuses otherwise.
 pub(crate) fn demand(condition: bool, refusal: Refusal) -> Result<(), Refusal> {

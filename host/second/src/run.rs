@@ -53,7 +53,8 @@ fn part<T>(of: &[T], at: u32, length: usize) -> Option<&[T]> {
 impl Step {
     /// The call of this step; none where its number is no call's, or where it
     /// uses a part that does not lie in what was lent. The numbers are the
-    /// places in document 01's list of the work, and 19 formats by default.
+    /// places in document 01's list of the work; 19 formats by default, 20 and
+    /// 21 convert.
     fn make(&self, image: &mut [u16], text: &[u8], data: &[u16]) -> Option<Reply> {
         let [user, file, count] = [self.user, self.file, self.count].map(|number| number as usize);
         let name = || part(text, self.name_at, self.name_bytes as usize);
@@ -76,6 +77,8 @@ impl Step {
             17 => write_page(image, user, file, count, part(data, self.data_at, PAGE_WORDS)?),
             18 => note_open(image, user, file),
             19 => format(image, name()?, None),
+            20 => convert_to_apostrophe(image),
+            21 => convert_to_zeros(image),
             _ => return None,
         })
     }

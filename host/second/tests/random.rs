@@ -53,6 +53,8 @@ fn call(image: &mut [u16], chance: &mut Chance) -> (&'static str, Reply) {
         28..=31 => ("shrink", shrink(image, user, file)),
         32..=33 => ("delete file", delete_file(image, user, file)),
         34..=36 => ("write", write_page(image, user, file, position, &[created as u16; 1024])),
+        37 if created % 4 == 0 => ("convert to apostrophe", convert_to_apostrophe(image)),
+        37 if created % 4 == 1 => ("convert to zeros", convert_to_zeros(image)),
         37 => ("note open", note_open(image, user, file)),
         38 => ("find user", find_user(image, &name)),
         _ => ("find file", find_file(image, user, &name, kind)),
@@ -100,12 +102,12 @@ fn assert_shrink_undoes_grow(image: &[u16], user: usize, file: usize) {
 }
 
 /// So many calls on a fresh volume; gives how often each number was met.
-fn run(pages: usize, calls: u32, seed: u64) -> [u32; 12] {
+fn run(pages: usize, calls: u32, seed: u64) -> [u32; 13] {
     let mut chance = Chance::new(seed);
     let mut image: Vec<u16> = (0..pages * 1024).map(|_| chance.below(65_536) as u16).collect();
     let bit_page = 1 + chance.below(pages as u32 - 1);
     assert_eq!(format(&mut image, b"YARD", Some(bit_page as usize)), done(0));
-    let mut numbers = [0; 12];
+    let mut numbers = [0; 13];
     for n in 0..calls {
         let before = image.clone();
         let (name, reply) = call(&mut image, &mut chance);
@@ -126,14 +128,14 @@ fn run(pages: usize, calls: u32, seed: u64) -> [u32; 12] {
 
 #[test]
 fn small_volumes() {
-    let mut met = [0; 12];
+    let mut met = [0; 13];
     for seed in 1..=24 {
         let pages = 8 + 5 * (seed as usize % 12);
         let numbers = run(pages, 500, 0x9E37_79B9_7F4A_7C15_u64.wrapping_mul(seed));
-        (0..12).for_each(|n| met[n] += numbers[n]);
+        (0..13).for_each(|n| met[n] += numbers[n]);
     }
     // A length is never wrong here, and a volume never unsound; 8 needs 256.
-    let expected = [0, 2, 4, 5, 6, 7, 9, 10, 11];
+    let expected = [0, 2, 4, 5, 6, 7, 9, 10, 11, 12];
     assert!(expected.iter().all(|&n| met[n] > 0), "numbers met: {met:?}");
     assert_eq!((met[1], met[3]), (0, 0));
 }

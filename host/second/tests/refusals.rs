@@ -12,7 +12,8 @@ type Call = Box<dyn Fn(&mut [u16]) -> Reply>;
 const LARGE: usize = u32::MAX as usize;
 const WIDE: usize = LARGE + 1;
 
-/// Every call with arguments that are right for `reads`, but format.
+/// Every call with arguments that are right for `reads`, but format, and but
+/// the conversion of old names, which `reads` has none of.
 fn all_calls() -> Vec<Call> {
     vec![
         Box::new(|image| check(image)),
@@ -31,6 +32,7 @@ fn all_calls() -> Vec<Call> {
         Box::new(|image| delete_file(image, 0, 0)),
         Box::new(|image| write_page(image, 0, 0, 0, &[9; 1024])),
         Box::new(|image| note_open(image, 0, 0)),
+        Box::new(|image| convert_to_zeros(image)),
     ]
 }
 

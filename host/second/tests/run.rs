@@ -119,7 +119,7 @@ fn a_format_makes_an_unsound_image_sound_in_a_run() {
 fn what_is_no_step_is_a_wrong_argument() {
     let image = reads(16, 5, 1);
     let last = TEXT.len() as u32;
-    let mut wrong: Vec<Step> = [0, 6, 16, 20, u32::MAX].map(|call| plain(call, 0)).to_vec();
+    let mut wrong: Vec<Step> = [0, 6, 16, 22, u32::MAX].map(|call| plain(call, 0)).to_vec();
     if !CHECK_IS_A_STEP {
         wrong.push(plain(2, 0));
     }

@@ -1,6 +1,7 @@
 //! One file for each subject of commands. Each command gives its answer or says what failed.
 
 mod ask;
+mod convert;
 mod files;
 mod format;
 mod map;
@@ -22,6 +23,7 @@ pub fn run(command: Command) -> Result<Answer, Failure> {
         Command::Address { at, file, position } => ask::address(&at, &file, position),
         Command::Who { at, page } => ask::who(&at, page),
         Command::Format { at, name, pages, bit_page } => format::format(&at, &name, pages, bit_page),
+        Command::Convert { at, to } => convert::convert(&at, to),
         Command::Sample(at) => format::sample(&at),
         Command::User(command) => users::run(command),
         Command::File(command) => files::run(command),

@@ -17,6 +17,9 @@ pub const OBJECTS: u32 = ENTRIES * ENTRIES;
 pub const ENTRIES_TO_A_PAGE: u32 = 32;
 pub const ENTRY_WORDS: u32 = 32;
 const USED: u16 = 1 << 15;
+/// The first words of an entry's name, and of a file's type.
+pub const ENTRY_NAME: u32 = 1;
+pub const ENTRY_TYPE: u32 = 9;
 
 /// Words of the directory entry in page 0.
 pub const VOLUME_NAME: u32 = 1008;
@@ -69,7 +72,12 @@ impl<'a> Disk<'a> {
     }
 
     pub fn volume_name(&self) -> String {
-        Stored::of(self.words(0, VOLUME_NAME, 8)).to_string()
+        self.stored_volume_name().to_string()
+    }
+
+    /// The volume's name as it stands in the image.
+    pub fn stored_volume_name(&self) -> Stored {
+        Stored::of(self.words(0, VOLUME_NAME, 8))
     }
 
     pub fn unreserved(&self) -> u32 {
@@ -202,12 +210,18 @@ impl Entry<'_> {
 
     /// The name as it stands in the image.
     pub fn stored_name(&self) -> Stored {
-        Stored::of(self.words.get(1..9).unwrap_or(&[]))
+        self.stored(ENTRY_NAME, 8)
     }
 
     /// A file's type as it stands in the image.
     pub fn stored_type(&self) -> Stored {
-        Stored::of(self.words.get(9..11).unwrap_or(&[]))
+        self.stored(ENTRY_TYPE, 2)
+    }
+
+    /// The name or type in so many words.
+    fn stored(&self, first: u32, count: u32) -> Stored {
+        let words = self.words.get(first as usize..(first + count) as usize);
+        Stored::of(words.unwrap_or(&[]))
     }
 
     /// A user's given pages.

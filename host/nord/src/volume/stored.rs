@@ -3,6 +3,17 @@
 
 use std::fmt;
 
+/// What stands behind a name that is shorter than its field.
+#[derive(Clone, Copy, Debug, PartialEq, Eq)]
+pub enum Fill {
+    /// Zeros alone, as in old volumes.
+    Zeros,
+    /// One apostrophe, then zeros, as names are written now.
+    Apostrophe,
+    /// An apostrophe or a zero byte, and then not zeros alone.
+    Leftovers,
+}
+
 /// The words of a name or a type, cut where it ends.
 #[derive(Clone, Debug)]
 pub struct Stored {
@@ -22,6 +33,21 @@ impl Stored {
     /// The name itself: the bytes before the end, or all where there is none.
     pub fn name(&self) -> &[u8] {
         &self.bytes[..self.length]
+    }
+
+    /// The bytes behind the name, from the one that ends it on; none where the name fills its field.
+    pub fn behind(&self) -> &[u8] {
+        &self.bytes[self.length..]
+    }
+
+    /// What these bytes are; none where the name fills its field.
+    pub fn fill(&self) -> Option<Fill> {
+        let end = self.behind().first()?;
+        Some(match self.leftovers() {
+            Some(_) => Fill::Leftovers,
+            None if *end == 0 => Fill::Zeros,
+            None => Fill::Apostrophe,
+        })
     }
 
     /// Whether the name has so many bytes or more, all of them A-Z, 0-9 or hyphen: 1 for a name, 0 for a type.
@@ -68,7 +94,7 @@ pub fn character(byte: u8) -> char {
 
 #[cfg(test)]
 mod tests {
-    use super::Stored;
+    use super::{Fill, Stored};
 
     /// The field with these bytes.
     fn stored(bytes: &[u8]) -> Stored {
@@ -111,6 +137,27 @@ mod tests {
         is(b"DOCk'\0", "DOCk", (false, false), None);
         is(b"DO K\0\xff", "DO?K", (false, false), Some("."));
         is(b"\x01OCK", "?OCK", (false, false), None);
+    }
+
+    #[test]
+    fn what_stands_behind_a_short_name_is_one_of_three() {
+        for (bytes, fill) in [
+            (b"DOCK\0\0\0\0", Some(Fill::Zeros)),
+            (b"DOCK'\0\0\0", Some(Fill::Apostrophe)),
+            (b"DOCK''\0\0", Some(Fill::Leftovers)),
+            (b"DOCK\0'\0\0", Some(Fill::Leftovers)),
+            (b"DOCK\0\0\0D", Some(Fill::Leftovers)),
+            (b"DOCKING\0", Some(Fill::Zeros)),
+            (b"DOCKING'", Some(Fill::Apostrophe)),
+            (b"DOCKINGS", None),
+        ] {
+            assert_eq!(stored(bytes).fill(), fill, "{bytes:?}");
+        }
+        assert_eq!(
+            (stored(b"\0\0\0\0").fill(), stored(b"'\0\0\0").fill()),
+            (Some(Fill::Zeros), Some(Fill::Apostrophe))
+        );
+        assert_eq!((stored(b"DOCK's \0").behind(), stored(b"DATA").behind()), (&b"'s \0"[..], &b""[..]));
     }
 
     #[test]

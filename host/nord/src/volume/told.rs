@@ -1,7 +1,7 @@
 //! Users, files and holders in words, by the names that stand in the image; on an unsound image as far as they can be read.
 
 use super::disk::{Disk, ENTRIES};
-use super::{Holder, Kind};
+use super::{Holder, Kind, Whose};
 
 impl Disk<'_> {
     /// "user 0 DOCK", or "user 5" where there is no name.
@@ -24,6 +24,16 @@ impl Disk<'_> {
     pub fn path(&self, user: u32, file: u32) -> Option<String> {
         let (owner, entry) = (self.user(user)?, self.object(ENTRIES * user + file)?);
         Some(format!("{}/{}:{}", owner.name(), entry.name(), entry.type_name()))
+    }
+
+    /// "the name of user 0 DOCK", "the type of DOCK/READS:DATA (user 0 file 0)".
+    pub fn whose_words(&self, whose: Whose) -> String {
+        match whose {
+            Whose::Volume => format!("the name of volume {}", self.volume_name()),
+            Whose::User(user) => format!("the name of {}", self.user_words(user)),
+            Whose::File(user, file) => format!("the name of {}", self.file_words(user, file)),
+            Whose::Type(user, file) => format!("the type of {}", self.file_words(user, file)),
+        }
     }
 
     /// Who holds a page: "data page 2 of DOCK/READS:DATA (user 0 file 0)".

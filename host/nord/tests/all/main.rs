@@ -3,6 +3,7 @@
 mod broken;
 mod commands;
 mod common;
+mod convert;
 mod full;
 mod help;
 mod host;

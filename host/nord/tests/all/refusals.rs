@@ -1,4 +1,4 @@
-//! Every refusal but 3 (broken.rs has that): its number as exit status, its words, the image unchanged.
+//! Every refusal but 3 and 12 (broken.rs and convert.rs have those): its number as exit status, its words, the image unchanged.
 
 use crate::common::{disk, done, fails, noise, run, sample, Folder};
 use serde_json::json;
