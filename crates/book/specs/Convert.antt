@@ -45,6 +45,7 @@ unfoldable pub remakeAll : (Vol → Root) → (Words → Words) → Vol → ℕ 
 remakeAll file f v zero = v
 remakeAll file f v (suc n) = remake file f (remakeAll file f v n) n
 
+-- its name with the fill c; all used users' names; all used objects' names and types
 abbrev pub convertName : ℕ → Vol → Vol
 convertName c v = putWords v 0 volumeName 8 (packedBy c (stored 16 (v 0) volumeName))
 

@@ -2,7 +2,7 @@
 use mathlib.Core.Path.{_≡_, refl, sym, ap, _∙_, subst, fun-ext}
 use mathlib.Core.Bool.{Bool, true, false}
 use mathlib.Core.List.{List}
-use Prim.Native.Nat.{ℕ, zero, suc, _+_, _-_, _*_, _/_, _%_, _≤_, _<_}
+use Prim.Native.Nat.{ℕ, zero, suc, _+_, _-_, _*_, _/_, _≤_, _<_}
 use native.Mathlib.Decide.{decLt}
 use native.Mathlib.Omega.{arith}
 use native.Mathlib.Numerals.{add-one}
@@ -17,6 +17,7 @@ use Rattle.book.specs.Rules.{Sound}
 use Rattle.book.specs.Trees.{Root, pageAt}
 use Rattle.book.specs.Decides.{Decides}
 use Rattle.book.specs.Convert.{remake, remakeAll, AllFilled, Filled, convertName, convertUsers, convertObjects, convert, refilledObject}
+use Rattle.laws.specs.Call.After.{whole-same}
 use Rattle.laws.specs.Convert.Kinds.{user-making, object-making}
 use Rattle.laws.specs.Convert.Pass.{passed}
 use Rattle.laws.specs.Convert.Volume.{name-sound}
@@ -68,7 +69,7 @@ module _ (typed : Bool) (v : Vol) (q n : ℕ) (at : q ≡ pageAt v (fileOf typed
 pub ready-again : (img img′ : List ℕ) → Ready img → length img′ ≡ length img → (v : Vol) → vol img′ ≡ v → Sound (pages img) v → Ready img′
 ready-again img img′ r e v q S =
     let p : pages img′ ≡ pages img = ap (λ (n : ℕ). n / 1024) e in record {
-      whole = record { even = ap (λ (n : ℕ). n % 1024) e ∙ r .whole .even; least = omega (arith, r .whole .least, p); most = omega (arith, r .whole .most, p) };
+      whole = whole-same img img′ e (r .whole);
       sound = subst (λ (P : ℕ). Sound P (vol img′)) (sym p) (subst (λ (w : Vol). Sound (pages img) w) (sym q) S);
     }
 

@@ -1,9 +1,9 @@
 -- What a run asks of a step's call, whichever it is; and that each of the calls has it. Assumes nothing.
-use mathlib.Core.Path.{_≡_, ap, _∙_}
+use mathlib.Core.Path.{_≡_}
 use mathlib.Core.Logic.{inl, inr}
 use mathlib.Core.Bool.{Bool, true, false}
 use mathlib.Core.List.{List}
-use Prim.Native.Nat.{ℕ, _+_, _/_, _%_, _<_}
+use Prim.Native.Nat.{ℕ, _+_, _<_}
 use lib.Dec.{eqb, leb}
 use native.Mathlib.Omega.{arith}
 use lib.ListN.{length, getD, take, drop}
@@ -20,7 +20,7 @@ use Rattle.book.specs.Format.{middle}
 use Rattle.book.specs.Names.{apostrophe, ends}
 use Rattle.book.specs.Run.{wrongCall, pickCall, partCall, nameCall, namesCall, dataCall, numbered, stepCall}
 use Rattle.laws.specs.Call.Done.{done}
-use Rattle.laws.specs.Call.After.{kept-call}
+use Rattle.laws.specs.Call.After.{whole-same, kept-call}
 use Rattle.laws.specs.Call.Open.{kept-open}
 use Rattle.laws.specs.Call.Singles.{single-find-user, single-find-file}
 use Rattle.laws.specs.Call.Write.{kept-write}
@@ -49,14 +49,7 @@ ready-after img C F r img′ o z = F .leaves r img′ (done C img r img′ (F .c
 
 -- an image of the same length is whole
 ready-as : (img img′ : List ℕ) → length img′ ≡ length img → Whole img → Sound (pages img′) (vol img′) → Ready img′
-ready-as img img′ l W S = record {
-  whole = record {
-    even = ap (λ (n : ℕ). n % 1024) l ∙ W .even;
-    least = omega (arith, ap (λ (n : ℕ). n / 1024) l, W .least);
-    most = omega (arith, ap (λ (n : ℕ). n / 1024) l, W .most);
-  };
-  sound = S;
-}
+ready-as img img′ l W S = record { whole = whole-same img img′ l W; sound = S }
 
 -- a call that goes through the gate, and keeps a sound image sound
 fair : (img : List ℕ) (args : Type 0) (rest : Rows) (none : ℕ) (gives : ℕ → Type 0) (after : Vol) → Counted rest → Single (asking img args rest none gives after)

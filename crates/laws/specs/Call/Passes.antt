@@ -2,7 +2,7 @@
 use mathlib.Core.Path.{_≡_, ap, _∙_}
 use mathlib.Core.Logic.{inl, inr}
 use mathlib.Core.List.{List, [], _∷_}
-use Prim.Native.Nat.{ℕ, _/_, _%_}
+use Prim.Native.Nat.{ℕ}
 use native.Mathlib.Omega.{arith}
 use lib.ListN.{length}
 use Rattle.book.specs.Words.{vol}
@@ -12,6 +12,7 @@ use Rattle.book.specs.Answers.{Numbers}
 use Rattle.book.specs.Image.{pages, Whole}
 use Rattle.book.specs.Outcome.{Call, call, asking, judged, Outcome}
 use Rattle.book.specs.Calls.{checkCall}
+use Rattle.laws.specs.Call.After.{whole-same}
 use Rattle.laws.specs.Call.Sequence.{Step, made, Calls, kept-all}
 
 -- ---- no call changes the length
@@ -27,10 +28,7 @@ size-all [] img img′ e = ap length e
 size-all (s ∷ l) img img′ (next, c, cs) = size-all l next img′ cs ∙ outcome-size (made s img .1) img next (c .0) (c .1)
 
 pub whole-all : (l : List Step) (img img′ : List ℕ) → Calls l img img′ → Whole img → Whole img′
-whole-all l img img′ cs W =
-    let e : length img′ ≡ length img = size-all l img img′ cs in
-    let p : pages img′ ≡ pages img = ap (λ (n : ℕ). n / 1024) e in
-    record { even = ap (λ (n : ℕ). n % 1024) e ∙ W .even; least = omega (arith, W .least, p); most = omega (arith, W .most, p) }
+whole-all l img img′ cs = whole-same img img′ (size-all l img img′ cs)
 
 -- ---- check passes exactly when the image is whole and sound
 

@@ -2,7 +2,7 @@
 use mathlib.Core.Path.{_≡_, refl, ap, _∙_}
 use mathlib.Core.Logic.{_≢_, _↔_, inl, inr}
 use mathlib.Core.List.{List}
-use Prim.Native.Nat.{ℕ, _+_, _*_, _/_, _<_}
+use Prim.Native.Nat.{ℕ, _+_, _*_, _<_}
 use native.Mathlib.Decide.{decLt}
 use native.Mathlib.Omega.{arith}
 use Rattle.book.specs.Answers.{Numbers}
@@ -16,6 +16,7 @@ use Rattle.book.specs.Rows.{Clear, Lowest}
 use Rattle.book.specs.Rules.{Sound, OldSound}
 use Rattle.book.specs.Words.{vol}
 use Rattle.book.specs.Written.{vol-in, vol-out}
+use Rattle.laws.specs.Call.After.{whole-same}
 use Rattle.laws.specs.Call.Done.{clear-done, number-lowest}
 use Rattle.laws.specs.Convert.Back.{there-and-back, AllFull, both-full}
 use Rattle.laws.specs.Convert.Call.{kept-convert, filled-convert}
@@ -70,9 +71,7 @@ module _ (from to : ℕ) (mf : 0 < ends from) (mt : 0 < ends to) (img : List ℕ
     F₁ = filled-convert from to mt img r img₁ o (D .number)
 
     W₁ : Whole img₁
-    W₁ =
-        let p : pages img₁ ≡ pages img = ap (λ (n : ℕ). n / 1024) (D .size) in
-        record { even = omega (arith, W .even, D .size); least = omega (arith, W .least, p); most = omega (arith, W .most, p) }
+    W₁ = whole-same img img₁ (D .size) W
 
     module _ (s : Numbers ℕ) (img₂ : List ℕ) (q : Outcome (convertCall to from img₁) img₁ s img₂) where
       E : DoneAs (convertCall to from img₁) img₁ s img₂
