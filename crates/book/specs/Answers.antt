@@ -6,7 +6,7 @@ use Rattle.book.specs.declared.Holder.{Holder}
 use Rattle.book.specs.declared.Holder.the-variants.{Free, Master, BitFile, UserIndex, UserPage, ObjectSubindex, ObjectIndex, ObjectPage, File}
 use Rattle.book.specs.declared.Break.{Break}
 use Rattle.book.specs.declared.Refusal.{Refusal}
-use Rattle.book.specs.declared.Refusal.the-variants.{Size, Argument, Unsound, Missing, Taken, Kind, HasFiles, Full, Allowance, Unreserved, NoRun, Fill}
+use Rattle.book.specs.declared.Refusal.the-variants.{Size, Argument, Unsound, Missing, Taken, Kind, HasFiles, Full, Allowance, Unreserved, NoRun, Fill, Overdrawn, ShortList}
 use Rattle.book.specs.declared.Answer.{Answer}
 use Rattle.book.specs.declared.Answer.the-variants.{Done, Refused}
 use Rattle.book.specs.declared.Holding.{Holding}
@@ -35,6 +35,8 @@ numberOf Allowance = 9
 numberOf Unreserved = 10
 numberOf NoRun = 11
 numberOf Fill = 12
+numberOf Overdrawn = 13
+numberOf ShortList = 14
 
 abbrev pub brokenOf : Refusal → Break
 brokenOf Size = unbroken
@@ -49,6 +51,8 @@ brokenOf Allowance = unbroken
 brokenOf Unreserved = unbroken
 brokenOf NoRun = unbroken
 brokenOf Fill = unbroken
+brokenOf Overdrawn = unbroken
+brokenOf ShortList = unbroken
 
 -- done with a value; a refusal has the value none
 abbrev pub doneWith : {A : Type 0} → A → Numbers A

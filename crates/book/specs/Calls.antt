@@ -1,8 +1,9 @@
--- The twenty calls: for each number that it can be refused with, what that number asks for. Assumes nothing.
+-- The twenty-one calls: for each number that it can be refused with, what that number asks for. Assumes nothing.
 use mathlib.Core.Path.{_≡_}
-use mathlib.Core.List.{List, []}
+use mathlib.Core.Bool.{true, false}
+use mathlib.Core.List.{List, [], _++_}
 use Prim.Native.Nat.{ℕ, _-_, _*_, _≤_, _<_}
-use lib.ListN.{take, drop}
+use lib.ListN.{length, take, drop}
 use Rattle.book.specs.Words.{Vol, vol}
 use Rattle.book.specs.Pointers.{flags}
 use Rattle.book.specs.Trees.{pageAt}
@@ -13,7 +14,9 @@ use Rattle.book.specs.Files.{fileAt, need, isRun}
 use Rattle.book.specs.Holders.{visits, Told}
 use Rattle.book.specs.Rows.{Rows, end, row}
 use Rattle.book.specs.Image.{pages, Whole, IndexArg, CountArg, PageArg, BitArg, DataArg}
-use Rattle.book.specs.Outcome.{Call, call, asking}
+use Rattle.book.specs.Rules.{Pointed}
+use Rattle.book.specs.Answers.{Numbers}
+use Rattle.book.specs.Outcome.{Call, call, asking, Outcome}
 use Rattle.book.specs.Steps.{giveStep, takeStep, writeStep, openStep}
 use Rattle.book.specs.Grow.{grow}
 use Rattle.book.specs.Shrink.{shrink}
@@ -21,6 +24,8 @@ use Rattle.book.specs.Create.{userNeed, fileNeed, filePlace, createUser,
 use Rattle.book.specs.Delete.{deleteFile, deleteUser}
 use Rattle.book.specs.Format.{format, middle}
 use Rattle.book.specs.Convert.{AllFilled, convert}
+use Rattle.book.specs.Salvage.{mended, Affords, changes, changed}
+use Rattle.book.specs.declared.Change.{Change}
 use Rattle.book.specs.declared.Holder.{Holder}
 use Rattle.book.specs.declared.Holder.the-variants.{Free}
 
@@ -98,6 +103,7 @@ whoCall img p = asking img (PageArg (pages img) p) end Free (Told (pages img) (v
 unfoldable pub formatCall : List ℕ → List ℕ → ℕ → Call ℕ
 formatCall img name b = record {
   table = row 1 (Whole img) (row 2 (NameText name × BitArg (pages img) b) end);
+  ten = true;
   none = 0;
   gives = λ x. x ≡ 0;
   after = format (pages img) (vol img) name b;
@@ -177,3 +183,35 @@ toApostropheCall = convertCall 0 apostrophe
 
 abbrev pub toZerosCall : List ℕ → Call ℕ
 toZerosCall = convertCall apostrophe 0
+
+-- ---- salvage
+
+-- the volume it leaves, the changes it tells, and their number
+abbrev pub salvaged : List ℕ → Vol
+salvaged img = mended (pages img) (vol img)
+
+abbrev pub repairs : List ℕ → List Change
+repairs img = changes (vol img) (salvaged img) (1024 * pages img)
+
+abbrev pub repaired : List ℕ → ℕ
+repaired img = changed (vol img) (salvaged img) (1024 * pages img)
+
+-- 3 judges the pointers alone; so many changes can be told
+unfoldable pub salvageCall : List ℕ → ℕ → Call ℕ
+salvageCall img room = record {
+  table = row 1 (Whole img) (row 3 (Pointed (pages img) (vol img)) (row 13 (Affords (pages img) (vol img)) (row 14 (repaired img ≤ room) end)));
+  ten = false;
+  none = 0;
+  gives = λ x. x ≡ repaired img;
+  after = salvaged img;
+}
+
+-- done: the list begins with the changes, and those past them stay; refused: it is as it was
+pub record Listed (img : List ℕ) (number : ℕ) (list list′ : List Change) : Type 0 where
+  pub done : number ≡ 0 → list′ ≡ repairs img ++ drop (repaired img) list
+  pub refused : (number ≡ 0 → ⊥) → list′ ≡ list
+
+-- with a list lent
+pub record Salvaged (img : List ℕ) (list : List Change) (r : Numbers ℕ) (img′ : List ℕ) (list′ : List Change) : Type 0 where
+  pub outcome : Outcome (salvageCall img (length list)) img r img′
+  pub listed : Listed img (r .number) list list′

@@ -1,5 +1,6 @@
 -- Two outcomes that meet a call's table are the same: proved once, for any call. Assumes nothing.
 use mathlib.Core.Path.{_≡_, sym, _∙_, ap}
+use mathlib.Core.Bool.{Bool, true}
 use mathlib.Core.Logic.{inl, inr}
 use mathlib.Core.List.{List}
 use Prim.Native.Nat.{ℕ, _+_, _*_, _/_, _%_, _<_}
@@ -9,12 +10,13 @@ use lib.ListN.{length, getD}
 use lib.Seq.{ext-getD}
 use Rattle.book.specs.Words.{Vol, vol}
 use Rattle.book.specs.Written.{vol-in}
-use Rattle.book.specs.Rules.{Sound, rules}
+use Rattle.book.specs.Rules.{SoundOver, rulesOf}
 use Rattle.book.specs.Rows.{Rows, Lowest, Clear, lowest-one, lowest-applies, clear-none}
 use Rattle.book.specs.Answers.{Numbers}
 use Rattle.book.specs.Outcome.{Call, call, asking, BrokenFor, Outcome, Gives, Single}
 use Rattle.book.specs.Broken.{one-break}
 use Rattle.book.specs.Image.{pages}
+use Rattle.book.specs.Names.{stored}
 use Rattle.book.specs.declared.Break.{Break}
 
 -- equal volumes of one length are equal images
@@ -25,10 +27,10 @@ vol-ext a b l e = ext-getD 0 a b l (λ i h.
     sym (ap (λ (k : ℕ). getD a k 0) q) ∙ sym (vol-in a (i / 1024) (i % 1024) m) ∙ ap (λ (v : Vol). v (i / 1024) (i % 1024)) e
     ∙ vol-in b (i / 1024) (i % 1024) m ∙ ap (λ (k : ℕ). getD b k 0) q)
 
-broken-one : (img : List ℕ) (n m : ℕ) (r s : Break) → n ≡ m → BrokenFor img n r → BrokenFor img m s → r ≡ s
+broken-one : (ten : Bool) (img : List ℕ) (n m : ℕ) (r s : Break) → n ≡ m → BrokenFor ten img n r → BrokenFor ten img m s → r ≡ s
 unfolding BrokenFor
-broken-one img n m r s e a b = elim (ℕ-discrete n 3) [
-  | yes h ↦ one-break (pages img) (vol img) r s (a .0 h) (b .0 (sym e ∙ h))
+broken-one ten img n m r s e a b = elim (ℕ-discrete n 3) [
+  | yes h ↦ one-break ten (pages img) (vol img) r s (a .0 h) (b .0 (sym e ∙ h))
   | no h ↦ a .1 h ∙ sym (b .1 (λ q. h (e ∙ q)))
 ]
 
@@ -43,7 +45,7 @@ pub one-outcome : {A : Type 0} (C : Call A) → Single C → (img : List ℕ) (r
 unfolding Outcome Single
 one-outcome C u img r s a b (inl x) (inl y) =
     let n : r .number ≡ s .number = lowest-one (C .table) (r .number) (s .number) (x .number) (y .number) in
-    (same r s n (x .value ∙ sym (y .value)) (broken-one img (r .number) (s .number) (r .broken) (s .broken) n (x .broken) (y .broken)), x .image ∙ sym (y .image))
+    (same r s n (x .value ∙ sym (y .value)) (broken-one (C .ten) img (r .number) (s .number) (r .broken) (s .broken) n (x .broken) (y .broken)), x .image ∙ sym (y .image))
 one-outcome C u img r s a b (inl x) (inr y) = absurd (clear-none (C .table) (y .clear) (r .number) (lowest-applies (C .table) (r .number) (x .number)))
 one-outcome C u img r s a b (inr x) (inl y) = absurd (clear-none (C .table) (x .clear) (s .number) (lowest-applies (C .table) (s .number) (y .number)))
 one-outcome C u img r s a b (inr x) (inr y) = (
@@ -60,14 +62,14 @@ pub single-call : (img : List ℕ) (args : Type 0) (rest : Rows) (value : ℕ) (
 unfolding Single call asking
 single-call img args rest value after c x y a b = a ∙ sym b
 
--- the ten rules and their table
-pub sound-clear : (P : ℕ) (v : Vol) → Sound P v → Clear (rules P v)
-unfolding rules Clear
-sound-clear P v S = (S .r1, (S .r2, (S .r3, (S .r4, (S .r5, (S .r6, (S .r7, (S .r8, (S .r9, (S .r10, tt))))))))))
+-- the rules judged and their table
+pub sound-clear : (ten : Bool) (P : ℕ) (v : Vol) → SoundOver stored ten P v → Clear (rulesOf ten P v)
+unfolding rulesOf Clear
+sound-clear ten P v S = (S .r1, (S .r2, (S .r3, (S .r4, (S .r5, (S .r6, (S .r7, (S .r8, (S .r9, (S .r10, tt))))))))))
 
-pub clear-sound : (P : ℕ) (v : Vol) → Clear (rules P v) → Sound P v
-unfolding rules Clear
-clear-sound P v c = record {
+pub clear-sound : (ten : Bool) (P : ℕ) (v : Vol) → Clear (rulesOf ten P v) → SoundOver stored ten P v
+unfolding rulesOf Clear
+clear-sound ten P v c = record {
   r1 = c .0;
   r2 = c .1 .0;
   r3 = c .1 .1 .0;
@@ -80,5 +82,5 @@ clear-sound P v c = record {
   r10 = c .1 .1 .1 .1 .1 .1 .1 .1 .1 .0;
 }
 
-pub broken-unsound : (P : ℕ) (v : Vol) (r : ℕ) → Lowest (rules P v) r → Sound P v → ⊥
-broken-unsound P v r l S = clear-none (rules P v) (sound-clear P v S) r (lowest-applies (rules P v) r l)
+pub broken-unsound : (ten : Bool) (P : ℕ) (v : Vol) (r : ℕ) → Lowest (rulesOf ten P v) r → SoundOver stored ten P v → ⊥
+broken-unsound ten P v r l S = clear-none (rulesOf ten P v) (sound-clear ten P v S) r (lowest-applies (rulesOf ten P v) r l)

@@ -8,7 +8,7 @@ use Rattle.book.specs.Decides.{Decides}
 use Rattle.book.specs.Image.{Ready}
 use Rattle.book.specs.Gate.{Shuts, Gated}
 use Rattle.book.specs.declared.Refusal.{Refusal}
-use Rattle.book.specs.declared.Refusal.the-variants.{Size, Argument, Unsound, Missing, Taken, Kind, HasFiles, Full, Allowance, Unreserved, NoRun, Fill}
+use Rattle.book.specs.declared.Refusal.the-variants.{Size, Argument, Unsound, Missing, Taken, Kind, HasFiles, Full, Allowance, Unreserved, NoRun, Fill, Overdrawn, ShortList}
 use Rattle.book.specs.declared.Gate.{Gate}
 use Rattle.book.specs.declared.Gate.the-variants.{Shut, Open}
 
@@ -71,6 +71,8 @@ module _ (img : List ℕ) (args : Type 0) (ok : Bool) (d : Decides ok args) wher
       go (Shut Unreserved) k = absurd k
       go (Shut NoRun) k = absurd k
       go (Shut Fill) k = absurd k
+      go (Shut Overdrawn) k = absurd k
+      go (Shut ShortList) k = absurd k
 
 -- open: what the open half asks for
 pub fit : {img : List ℕ} {args : Type 0} {g : Gate} {n : ℕ} → Entered img args g → g ≡ Open n → Fit img args

@@ -23,6 +23,7 @@ pub mod Create
 pub mod Delete
 pub mod Format
 pub mod Convert
+pub mod Salvage
 pub mod Calls
 pub mod Yard
 pub mod Orders

@@ -4,7 +4,7 @@ use mathlib.Core.List.{List, [], _∷_}
 use Prim.Native.Nat.{ℕ}
 use Rattle.book.specs.Words.{Vol}
 use Rattle.book.specs.Rows.{Rows, numbersOf}
-use Rattle.book.specs.Rules.{rules}
+use Rattle.book.specs.Rules.{rules, rulesOf}
 use Rattle.book.specs.Outcome.{call, asking, judged}
 use Rattle.book.specs.Calls.{
   checkCall,
@@ -30,6 +30,7 @@ use Rattle.book.specs.Calls.{
   convertCall,
   toApostropheCall,
   toZerosCall,
+  salvageCall,
 }
 use Rattle.book.specs.Yard.{Row, example, Right}
 
@@ -60,10 +61,11 @@ tables img name type d u f n b p created P v =
     ∷ order (openCall img u f .table) (1 ∷ 2 ∷ 3 ∷ 4 ∷ [])
     ∷ order (toApostropheCall img .table) (1 ∷ 2 ∷ 3 ∷ 12 ∷ [])
     ∷ order (toZerosCall img .table) (1 ∷ 2 ∷ 3 ∷ 12 ∷ [])
+    ∷ order (salvageCall img n .table) (1 ∷ 3 ∷ 13 ∷ 14 ∷ [])
     ∷ order (rules P v) (1 ∷ 2 ∷ 3 ∷ 4 ∷ 5 ∷ 6 ∷ 7 ∷ 8 ∷ 9 ∷ 10 ∷ [])
     ∷ []
 
 pub orders : (img name type d : List ℕ) (u f n b p created : ℕ) (P : ℕ) (v : Vol) → Right (tables img name type d u f n b p created P v)
-unfolding Right numbersOf rules call asking judged positionRows checkCall findUserCall findFileCall addressCall readCall whoCall formatCall createUserCall deleteUserCall giveCall takeCall createIndexedCall createContiguousCall growCall shrinkCall deleteFileCall writeCall openCall convertCall
+unfolding Right numbersOf rulesOf call asking judged positionRows checkCall findUserCall findFileCall addressCall readCall whoCall formatCall createUserCall deleteUserCall giveCall takeCall createIndexedCall createContiguousCall growCall shrinkCall deleteFileCall writeCall openCall convertCall salvageCall
 orders img name type d u f n b p created P v =
-    (refl, (refl, (refl, (refl, (refl, (refl, (refl, (refl, (refl, (refl, (refl, (refl, (refl, (refl, (refl, (refl, (refl, (refl, (refl, (refl, (refl, (refl, tt))))))))))))))))))))))
+    (refl, (refl, (refl, (refl, (refl, (refl, (refl, (refl, (refl, (refl, (refl, (refl, (refl, (refl, (refl, (refl, (refl, (refl, (refl, (refl, (refl, (refl, (refl, tt)))))))))))))))))))))))

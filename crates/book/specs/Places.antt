@@ -1,5 +1,6 @@
 -- The places of each rule, in the order in which the first that breaks it is told. Assumes nothing.
 use mathlib.Core.Path.{_≡_}
+use mathlib.Core.Bool.{Bool, true}
 use mathlib.Core.Logic.{_⊎_}
 use Prim.Native.Nat.{ℕ, zero, suc, _+_, _-_, _*_, _/_, _≤_, _<_}
 use Rattle.sums.specs.Sum.{sum}
@@ -10,6 +11,7 @@ use Rattle.book.specs.Entries.{Table, entryWord, user, object, userPage,
 use Rattle.book.specs.Names.{LegalName, LegalType, SameName, SameFile}
 use Rattle.book.specs.Files.{Empty, Contiguous, BytesRight}
 use Rattle.book.specs.Holders.{mine, holders, some, systemPages}
+use Rattle.book.specs.Rules.{Asked, UsedWithin}
 use Rattle.book.specs.declared.Place.{Place}
 use Rattle.book.specs.Spots.{at, Spots, none, spot, _then_, each, when, Chapters, last, chapter, nth}
 
@@ -52,20 +54,20 @@ spots2 P v = spot (inMaster objectPointer) ((Zero (v 0) userPointer × Zero (v 0
 unfoldable pub spots3 : ℕ → Vol → Spots
 spots3 P v = pointers v (page (v 0) userPointer) (May P 8)
 
--- 4: used users; for each its name, which no lower one has, its used count, its own index
+-- 4: used users; for each its name, which no lower one has, its used count if it is asked for, its own index
 abbrev pub NewName : Table → ℕ → Type 0
 NewName U u = (a : ℕ) → a < u → 0 < used (U a) → SameName (U a) (U u) → ⊥
 
-unfoldable pub userSpots : Vol → ℕ → Spots
-userSpots v u = spot (inUser v u 1) (LegalName (user v u) 1 × NewName (user v) u)
-    then spot (inUser v u 16) (usedPages (user v) u ≤ given (user v) u)
+unfoldable pub userSpots : Bool → Vol → ℕ → Spots
+userSpots ten v u = spot (inUser v u 1) (LegalName (user v u) 1 × NewName (user v) u)
+    then spot (inUser v u 16) (Asked ten (UsedWithin (user v) u))
     then spot (inUser v u 18) (user v u 18 ≡ u)
 
-abbrev pub userRow : Vol → ℕ → Spots
-userRow v u = when (used (user v u)) (userSpots v u)
+abbrev pub userRow : Bool → Vol → ℕ → Spots
+userRow ten v u = when (used (user v u)) (userSpots ten v u)
 
-unfoldable pub spots4 : Vol → Spots
-spots4 v = each 256 (userRow v)
+unfoldable pub spots4 : Bool → Vol → Spots
+spots4 ten v = each 256 (userRow ten v)
 
 -- 5: a used user above 63 where the object file is indexed; the subindex block; the index blocks
 unfoldable pub spots5By : ℕ → Vol → ℕ → ℕ → Spots
@@ -134,6 +136,9 @@ spots10 P v = each 256 (λ u. when (used (user v u)) (spot (inUser v u 16) (used
     then spot (inMaster unreservedCount) (unreserved v + sum 256 (grant (user v)) + systemPages P v ≡ P)
 
 -- by the number of the rule
-unfoldable pub spots : ℕ → Vol → ℕ → Spots
-spots P v = nth (chapter none (chapter (spots1 P v) (chapter (spots2 P v) (chapter (spots3 P v) (chapter (spots4 v) (chapter (spots5 P v)
+unfoldable pub spotsOf : Bool → ℕ → Vol → ℕ → Spots
+spotsOf ten P v = nth (chapter none (chapter (spots1 P v) (chapter (spots2 P v) (chapter (spots3 P v) (chapter (spots4 ten v) (chapter (spots5 P v)
     (chapter (spots6 v) (chapter (spots7 P v) (chapter (spots8 P v) (chapter (spots9 P v) (chapter (spots10 P v) last)))))))))))
+
+abbrev pub spots : ℕ → Vol → ℕ → Spots
+spots = spotsOf true

@@ -1,6 +1,6 @@
 -- How a call comes back: from a shut gate, from its own row that fails, or from all its rows, to its outcome. Assumes nothing.
 use mathlib.Core.Path.{_≡_, refl, subst}
-use mathlib.Core.Bool.{Bool}
+use mathlib.Core.Bool.{Bool, true}
 use mathlib.Core.Logic.{inl, inr}
 use mathlib.Core.List.{List}
 use Prim.Native.Nat.{ℕ, _<_}
@@ -16,7 +16,7 @@ use Rattle.book.specs.Coincide.{broken-unsound}
 use Rattle.book.specs.Gate.{Shuts, Gated}
 use Rattle.book.specs.Enter.{Fit, Enters, Entered}
 use Rattle.book.specs.declared.Refusal.{Refusal}
-use Rattle.book.specs.declared.Refusal.the-variants.{Size, Argument, Unsound, Missing, Taken, Kind, HasFiles, Full, Allowance, Unreserved, NoRun, Fill}
+use Rattle.book.specs.declared.Refusal.the-variants.{Size, Argument, Unsound, Missing, Taken, Kind, HasFiles, Full, Allowance, Unreserved, NoRun, Fill, Overdrawn, ShortList}
 use Rattle.book.specs.declared.Gate.{Gate}
 use Rattle.book.specs.declared.Gate.the-variants.{Shut, Open}
 
@@ -34,6 +34,8 @@ number-pos Allowance = omega arith
 number-pos Unreserved = omega arith
 number-pos NoRun = omega arith
 number-pos Fill = omega arith
+number-pos Overdrawn = omega arith
+number-pos ShortList = omega arith
 
 -- a refusal of a call's own: any but 1, 2 and 3
 abbrev pub Own : Refusal → Type 0
@@ -49,6 +51,8 @@ Own Allowance = Unit {0}
 Own Unreserved = Unit {0}
 Own NoRun = Unit {0}
 Own Fill = Unit {0}
+Own Overdrawn = Unit {0}
+Own ShortList = Unit {0}
 
 -- nothing broken is told with it, for its number is not 3
 own-plain : (w : Refusal) → Own w → (brokenOf w ≡ unbroken) × (numberOf w ≡ 3 → ⊥)
@@ -61,6 +65,8 @@ own-plain Allowance h = (refl, λ e. omega (arith, e))
 own-plain Unreserved h = (refl, λ e. omega (arith, e))
 own-plain NoRun h = (refl, λ e. omega (arith, e))
 own-plain Fill h = (refl, λ e. omega (arith, e))
+own-plain Overdrawn h = (refl, λ e. omega (arith, e))
+own-plain ShortList h = (refl, λ e. omega (arith, e))
 
 module _ {A : Type 0} (img : List ℕ) (args : Type 0) (rest : Rows) (none : A) (gives : A → Type 0) (after : Vol) where
   abbrev C : Call A
@@ -76,7 +82,7 @@ module _ {A : Type 0} (img : List ℕ) (args : Type 0) (rest : Rows) (none : A) 
   shuts Size h = plain Size (refl, λ e. let z : ⊥ = omega arith in z) (inl (refl, h))
   shuts Argument h = plain Argument (refl, λ e. let z : ⊥ = omega arith in z) (inr (h .0, inl (refl, h .1)))
   shuts (Unsound b) h = inl record {
-    number = inr (h .0, inr (h .1, inl (refl, broken-unsound (pages img) (vol img) (b .rule) (h .2 .rule))));
+    number = inr (h .0, inr (h .1, inl (refl, broken-unsound true (pages img) (vol img) (b .rule) (h .2 .rule))));
     value = refl;
     broken = (λ e. h .2, λ e. absurd (e refl));
     image = refl;
@@ -90,6 +96,8 @@ module _ {A : Type 0} (img : List ℕ) (args : Type 0) (rest : Rows) (none : A) 
   shuts Unreserved h = absurd h
   shuts NoRun h = absurd h
   shuts Fill h = absurd h
+  shuts Overdrawn h = absurd h
+  shuts ShortList h = absurd h
 
   -- the gate is shut: that is the call's outcome
   pub shut : {g : Gate} {w : Refusal} → Entered img args g → g ≡ Shut w → Outcome C img (refusedWith none w) img

@@ -1,5 +1,6 @@
--- Sound: the ten rules. Those that speak of names, 1, 4 and 6, stand over how a name is read. Assumes nothing.
+-- Sound: the ten rules. Those that speak of names, 1, 4 and 6, stand over how a name is read; what they say of bits and counts is asked, or not. Assumes nothing.
 use mathlib.Core.Path.{_≡_}
+use mathlib.Core.Bool.{Bool, true, false}
 use mathlib.Core.Logic.{_⊎_}
 use Prim.Native.Nat.{ℕ, zero, suc, _+_, _≤_, _<_}
 use Rattle.sums.specs.Sum.{sum}
@@ -12,6 +13,12 @@ use Rattle.book.specs.Names.{Reading, stored, zeroFilled, NameOver, Type
 use Rattle.book.specs.Files.{FileShape}
 use Rattle.book.specs.Holders.{mine, holders, some, systemPages}
 use Rattle.book.specs.Rows.{Rows, end, row}
+
+-- A disk whose bits or counts are stale has good pointers still. `ten` tells which rules are judged: all ten, or those of the pointers alone, which
+-- are 1 to 8 without the comparison in rule 4
+abbrev pub Asked : Bool → Type 0 → Type 0
+Asked true A = A
+Asked false A = Unit {0}
 
 -- 1: legal volume name; bit pointer without flags, its pages in 1..P-1
 pub record Rule1Over (read : Reading) (P : ℕ) (v : Vol) : Type 0 where
@@ -33,20 +40,23 @@ unfoldable pub Rule3 : ℕ → Vol → Type 0
 Rule3 P v = (n : ℕ) → n < 512 → (slot v (page (v 0) userPointer) n < P) × (8 ≤ n → slot v (page (v 0) userPointer) n ≡ 0)
 
 -- 4: used users: own index right, name legal, no two names equal, used <= given
-pub record UserOkOver (read : Reading) (U : Table) (u : ℕ) : Type 0 where
+abbrev pub UsedWithin : Table → ℕ → Type 0
+UsedWithin U u = usedPages U u ≤ given U u
+
+pub record UserOkOver (read : Reading) (ten : Bool) (U : Table) (u : ℕ) : Type 0 where
   pub own : U u 18 ≡ u
   pub name : NameOver read (U u) 1
-  pub within : usedPages U u ≤ given U u
+  pub within : Asked ten (UsedWithin U u)
 
-unfoldable pub Rule4Over : Reading → Table → Type 0
-Rule4Over read U = ((u : ℕ) → u < 256 → 0 < used (U u) → UserOkOver read U u)
+unfoldable pub Rule4Over : Reading → Bool → Table → Type 0
+Rule4Over read ten U = ((u : ℕ) → u < 256 → 0 < used (U u) → UserOkOver read ten U u)
     × ((a b : ℕ) → a < 256 → b < 256 → 0 < used (U a) → 0 < used (U b) → OneName read (U a) (U b) → a ≡ b)
 
 abbrev pub UserOk : Table → ℕ → Type 0
-UserOk = UserOkOver stored
+UserOk = UserOkOver stored true
 
 abbrev pub Rule4 : Table → Type 0
-Rule4 = Rule4Over stored
+Rule4 = Rule4Over stored true
 
 -- 5: object blocks: allowed slots zero or in 1..P-1, others zero; if indexed, no used user above 63
 unfoldable pub Rule5By : ℕ → Vol → ℕ → ℕ → Type 0
@@ -94,28 +104,35 @@ unfoldable pub Rule10 : ℕ → Vol → Type 0
 Rule10 P v = ((u : ℕ) → u < 256 → 0 < used (user v u) → usedPages (user v) u ≡ mine v u some)
     × (unreserved v + sum 256 (grant (user v)) + systemPages P v ≡ P)
 
-pub record SoundOver (read : Reading) (P : ℕ) (v : Vol) : Type 0 where
+pub record SoundOver (read : Reading) (ten : Bool) (P : ℕ) (v : Vol) : Type 0 where
   pub r1 : Rule1Over read P v
   pub r2 : Rule2 P v
   pub r3 : Rule3 P v
-  pub r4 : Rule4Over read (user v)
+  pub r4 : Rule4Over read ten (user v)
   pub r5 : Rule5 P v
   pub r6 : Rule6Over read (user v) (object v)
   pub r7 : Rule7 P v
   pub r8 : Rule8 P v
-  pub r9 : Rule9 P v
-  pub r10 : Rule10 P v
+  pub r9 : Asked ten (Rule9 P v)
+  pub r10 : Asked ten (Rule10 P v)
 
 -- the rules as they stand
 abbrev pub Sound : ℕ → Vol → Type 0
-Sound = SoundOver stored
+Sound = SoundOver stored true
+
+-- those of the pointers alone
+abbrev pub Pointed : ℕ → Vol → Type 0
+Pointed = SoundOver stored false
 
 -- document 01's rules as they first stood, with zero-filled names
 abbrev pub OldSound : ℕ → Vol → Type 0
-OldSound = SoundOver zeroFilled
+OldSound = SoundOver zeroFilled true
 
--- the ten as a table: the lowest broken rule is its lowest number
-unfoldable pub rules : ℕ → Vol → Rows
-rules P v =
-    row 1 (Rule1 P v) (row 2 (Rule2 P v) (row 3 (Rule3 P v) (row 4 (Rule4 (user v)) (row 5 (Rule5 P v) (row 6 (Rule6 (user v) (object v))
-    (row 7 (Rule7 P v) (row 8 (Rule8 P v) (row 9 (Rule9 P v) (row 10 (Rule10 P v) end)))))))))
+-- the ten as a table: the lowest broken rule is its lowest number. One that is not asked cannot be broken
+unfoldable pub rulesOf : Bool → ℕ → Vol → Rows
+rulesOf ten P v =
+    row 1 (Rule1 P v) (row 2 (Rule2 P v) (row 3 (Rule3 P v) (row 4 (Rule4Over stored ten (user v)) (row 5 (Rule5 P v) (row 6 (Rule6 (user v) (object v))
+    (row 7 (Rule7 P v) (row 8 (Rule8 P v) (row 9 (Asked ten (Rule9 P v)) (row 10 (Asked ten (Rule10 P v)) end)))))))))
+
+abbrev pub rules : ℕ → Vol → Rows
+rules = rulesOf true

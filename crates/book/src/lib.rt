@@ -33,6 +33,15 @@ pub struct Place {
     pub word: u32,
 }
 
+// One changed word: word 0 to 1,023 of a page, its old and its new value.
+#[repr(C)]
+pub struct Change {
+    pub page: u32,
+    pub word: u32,
+    pub old: u32,
+    pub new: u32,
+}
+
 // What refusal 3 tells: the lowest broken rule, its first place, and with rule 8 the first two holders of that page.
 pub struct Break {
     pub rule: u32,
@@ -41,13 +50,13 @@ pub struct Break {
     pub second: Holder,
 }
 
-// What the ten rules say of an image.
+// What the rules judged say of an image.
 pub enum Verdict {
     Sound { visits: u32 },
     Broken { rule: u32 },
 }
 
-// Why a call was refused, in the order of the numbers 1 to 12.
+// Why a call was refused, in the order of the numbers 1 to 14.
 pub enum Refusal {
     Size,
     Argument,
@@ -61,6 +70,8 @@ pub enum Refusal {
     Unreserved,
     NoRun,
     Fill,
+    Overdrawn,
+    ShortList,
 }
 
 // The answer of every call but who-holds and read.

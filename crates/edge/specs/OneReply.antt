@@ -32,7 +32,7 @@ same-place p q r a b = ap (λ (x : ℕ). mk x (q .word)) (a .0 ∙ sym (b .0)) �
     mk : ℕ → ℕ → Spot
     mk p k = record { page = p; word = k }
 
-same-reply : (n : Numbers ℕ) (r s : Reply) → Spelled n r → Spelled n s → r ≡ s
+pub same-reply : (n : Numbers ℕ) (r s : Reply) → Spelled n r → Spelled n s → r ≡ s
 same-reply n r s a b =
     ap (λ (x : ℕ). mk x (r .rule) (r .value) (r .place) (r .first) (r .second)) (a .0 ∙ sym (b .0))
     ∙ ap (λ (x : ℕ). mk (s .number) x (r .value) (r .place) (r .first) (r .second)) (a .2 .0 ∙ sym (b .2 .0))

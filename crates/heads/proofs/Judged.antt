@@ -1,6 +1,6 @@
 -- Rules 4 and 6, by the parts that the code judges. Assumes nothing.
 use mathlib.Core.Path.{_≡_, sym, ap, _∙_, subst, fun-ext}
-use mathlib.Core.Bool.{Bool}
+use mathlib.Core.Bool.{Bool, true, false}
 use mathlib.Core.List.{List}
 use Prim.Native.Nat.{ℕ, _+_, _-_, _*_, _/_, _%_, _≤_, _<_}
 use native.Mathlib.Decide.{decLt, ℕ-discrete}
@@ -9,8 +9,8 @@ use Rattle.book.specs.Words.{Vol, vol}
 use Rattle.book.specs.Pointers.{flags, page, objectPointer, userPointer}
 use Rattle.book.specs.Trees.{Root, rootBy}
 use Rattle.book.specs.Entries.{Table, entry, user, object, used, fileEntry}
-use Rattle.book.specs.Names.{SameFile, LegalName, LegalType}
-use Rattle.book.specs.Rules.{Rule4, Rule4Over, Rule6, Rule6Over, FileOk}
+use Rattle.book.specs.Names.{stored, SameFile, LegalName, LegalType}
+use Rattle.book.specs.Rules.{Asked, Rule4Over, Rule6, Rule6Over, FileOk}
 use Rattle.book.specs.Decides.{Decides}
 use Rattle.page.proofs.Deciding.{decides-iff}
 use Rattle.tree.specs.Ends.{Ends}
@@ -20,6 +20,20 @@ use Rattle.heads.specs.Span.{Span, span-join, span-part}
 use Rattle.heads.specs.Fine.{UserFine, FileFine}
 use Rattle.heads.specs.Twins.{SameTitle, Apart, FilesApart}
 use Rattle.heads.proofs.Alike.{title-none}
+
+-- ---- what is asked, or not
+
+pub asked-not : (ten : Bool) (A : Type 0) → ten ≡ false → Asked ten A
+asked-not true A e = let z : _≡_ {A = ℕ} 0 1 = cc in absurd (omega arith)
+asked-not false A e = tt
+
+pub asked-holds : (ten : Bool) (A : Type 0) → A → Asked ten A
+asked-holds true A a = a
+asked-holds false A a = tt
+
+pub asked-only : (ten : Bool) (A : Type 0) → ten ≡ true → Asked ten A → A
+asked-only true A e a = a
+asked-only false A e a = let z : _≡_ {A = ℕ} 0 1 = cc in absurd (omega arith)
 
 -- ---- the entries of the user file and of the object file, by flags and page of their pointers
 
@@ -53,12 +67,12 @@ module _ (E : Table) (n base z : ℕ) where
 
 -- ---- rule 4
 
-module _ (U : Table) where
-  pub rule4-users : Rule4 U → Span (UserFine U) 0 256
+module _ (ten : Bool) (U : Table) where
+  pub rule4-users : Rule4Over stored ten U → Span (UserFine ten U) 0 256
   unfolding Rule4Over Span
   rule4-users r u h l = r .0 u l
 
-  pub rule4-by : (b : Bool) → Span (UserFine U) 0 256 → Decides b (Apart U 0 0 256) → Decides b (Rule4 U)
+  pub rule4-by : (b : Bool) → Span (UserFine ten U) 0 256 → Decides b (Apart U 0 0 256) → Decides b (Rule4Over stored ten U)
   unfolding Rule4Over Span
   rule4-by b s =
       decides-iff b _ _ (λ a. ((λ u l. s u (omega arith) l), λ x y i j p q s. apart-one U 0 0 256 a x y (omega arith) i (omega arith) j p q (title-none (U x) (U y) s)))

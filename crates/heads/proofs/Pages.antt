@@ -8,6 +8,7 @@ use Rattle.book.specs.Trees.{Root, pageAt}
 use Rattle.book.specs.Names.{LegalName, LegalType}
 use Rattle.book.specs.Entries.{Table, entryWord, entry, user, userPage, used, given, usedPages}
 use Rattle.book.specs.Decides.{Decides}
+use Rattle.book.specs.Rules.{Asked}
 use Rattle.tree.specs.Reach.{entryIn}
 use Rattle.tree.proofs.Entries.{absent-word, user-in}
 use Rattle.heads.specs.Span.{Span}
@@ -45,14 +46,14 @@ absent-unused v q x w e z = omega (arith, ap (λ (y : Words). y 0) e, absent-wor
 -- ---- what is asked of an entry, by its words alone
 
 module _ (U W : Table) (x : ℕ) (e : U x ≡ W x) where
-  pub user-fine : UserFine U x → UserFine W x
+  pub user-fine : (ten : Bool) → UserFine ten U x → UserFine ten W x
   unfolding given usedPages
-  user-fine f h =
+  user-fine ten f h =
       let a = f (subst (λ (w : Words). 0 < used w) (sym e) h) in
       record {
         own = ap (λ (w : Words). w 18) (sym e) ∙ a .own;
         name = subst (λ (w : Words). LegalName w 1) e (a .name);
-        within = subst (λ (w : Words). two w 16 ≤ two w 14) e (a .within);
+        within = subst (λ (w : Words). Asked ten (two w 16 ≤ two w 14)) e (a .within);
       }
 
   pub file-fine : (T : Table) → FileFine T U x → FileFine T W x
@@ -73,9 +74,9 @@ module _ (v : Vol) (q first : ℕ) (f : first % 32 ≡ 0) (z : q ≡ 0) where
   unfolding Span
   users-none e x h l = absent-unused v q x _ (user-on v q first x f h l e) z
 
-  pub users-absent : q ≡ userPage v first → Span (UserFine (user v)) first (first + 32)
+  pub users-absent : (ten : Bool) → q ≡ userPage v first → Span (UserFine ten (user v)) first (first + 32)
   unfolding Span
-  users-absent e x h l u = absurd (let r : ⊥ = omega (arith, absent-unused v q x _ (user-on v q first x f h l e) z) in r)
+  users-absent ten e x h l u = absurd (let r : ⊥ = omega (arith, absent-unused v q x _ (user-on v q first x f h l e) z) in r)
 
   pub files-absent : (T : Table) (r : Root) → q ≡ pageAt v r (first / 32) → Span (FileFine T (entry v r)) first (first + 32)
   unfolding Span

@@ -5,5 +5,6 @@ pub mod Claims
 pub mod Freed
 pub mod Mark
 pub mod Marked
+pub mod Painted
 pub mod Runs
 pub mod Taking

@@ -5,4 +5,5 @@ pub mod Fills
 pub mod FirstUser
 pub mod Leftovers
 pub mod Where
+pub mod Stale
 pub mod Sparse

@@ -9,6 +9,7 @@ pub mod Create
 pub mod Delete
 pub mod User
 pub mod Convert
+pub mod Salvage
 pub mod Call
 pub mod Format
 pub mod Place

@@ -14,7 +14,7 @@ use Rattle.book.specs.Calls.{HasUser, IsFile}
 use Rattle.book.specs.Enter.{Fit}
 use Rattle.book.specs.Return.{refused}
 use Rattle.book.specs.declared.Refusal.{Refusal}
-use Rattle.book.specs.declared.Refusal.the-variants.{Size, Argument, Unsound, Missing, Taken, Kind, HasFiles, Full, Allowance, Unreserved, NoRun, Fill}
+use Rattle.book.specs.declared.Refusal.the-variants.{Size, Argument, Unsound, Missing, Taken, Kind, HasFiles, Full, Allowance, Unreserved, NoRun, Fill, Overdrawn, ShortList}
 use Rattle.book.specs.declared.Answer.{Answer}
 use Rattle.book.specs.declared.Answer.the-variants.{Done, Refused}
 use Rattle.nord.specs.Fresh.{Stale, New, Fresh}
@@ -44,6 +44,8 @@ module _ (img : List ℕ) (args : Type 0) (more : Rows) (gives : ℕ → Type 0)
   stale Unreserved h = absurd h
   stale NoRun h = absurd h
   stale Fill h = absurd h
+  stale Overdrawn h = absurd h
+  stale ShortList h = absurd h
 
   -- the same answer handed on
   pub stale-as : (r : Answer) (w : Refusal) → r ≡ Refused w → Fresh (vol img) u name type r → Outcome C img (numbers r) img

@@ -8,4 +8,4 @@ unfoldable pub use Rattle.book.specs.Rows.{Lowest, Clear}
 unfoldable pub use Rattle.book.specs.Outcome.{call}
 pub use Rattle.book.specs.Enter.{entered, fit}
 pub use Rattle.book.specs.Return.{shut, refused, finished}
-pub use Rattle.book.specs.declared.Refusal.the-variants.{Missing, Taken, Kind, HasFiles, Full, Allowance, Unreserved, NoRun, Fill}
+pub use Rattle.book.specs.declared.Refusal.the-variants.{Missing, Taken, Kind, HasFiles, Full, Allowance, Unreserved, NoRun, Fill, Overdrawn, ShortList}

@@ -6,7 +6,7 @@ use Rattle.book.specs.Words.{Vol}
 use Rattle.book.specs.Entries.{newFile}
 use Rattle.book.specs.Calls.{HasUser, IsFile}
 use Rattle.book.specs.declared.Refusal.{Refusal}
-use Rattle.book.specs.declared.Refusal.the-variants.{Size, Argument, Unsound, Missing, Taken, Kind, HasFiles, Full, Allowance, Unreserved, NoRun, Fill}
+use Rattle.book.specs.declared.Refusal.the-variants.{Size, Argument, Unsound, Missing, Taken, Kind, HasFiles, Full, Allowance, Unreserved, NoRun, Fill, Overdrawn, ShortList}
 use Rattle.book.specs.declared.Answer.{Answer}
 use Rattle.book.specs.declared.Answer.the-variants.{Done, Refused}
 
@@ -23,6 +23,8 @@ Stale v u name type Allowance = ⊥
 Stale v u name type Unreserved = ⊥
 Stale v u name type NoRun = ⊥
 Stale v u name type Fill = ⊥
+Stale v u name type Overdrawn = ⊥
+Stale v u name type ShortList = ⊥
 
 pub record New (v : Vol) (u : ℕ) (name type : List ℕ) (f : ℕ) : Type 0 where
   pub owner : HasUser v u

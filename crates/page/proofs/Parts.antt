@@ -93,10 +93,3 @@ zeros-wipe img q = fun-ext (λ p. fun-ext (λ k. elim (ℕ-discrete p q) [
     | no h ↦ putWords-high (vol img) q 0 1024 zeros q k (omega arith) ∙ vol-out img q k (omega arith)
   ] ∙ sym (ap (λ (x : ℕ). wipe (vol img) q x k) e ∙ wipe-here (vol img) q k)
 ]))
-
--- words are below 65,536
-pub vol-lt : (img : List ℕ) → ((i : ℕ) → getD img i 0 < 65536) → (p k : ℕ) → vol img p k < 65536
-vol-lt img f p k = elim (decLt k 1024) [
-  | yes h ↦ omega (arith, vol-in img p k h, f (1024 * p + k))
-  | no h ↦ omega (arith, vol-out img p k (omega arith))
-]

@@ -2,12 +2,13 @@
 use mathlib.Core.Path.{_≡_, refl, sym, ap, _∙_, subst}
 use mathlib.Core.Logic.{inl, inr}
 use mathlib.Core.List.{List}
+use mathlib.Core.Bool.{Bool}
 use Prim.Native.Nat.{ℕ, _+_, _/_, _≤_, _<_}
 use native.Mathlib.Decide.{decLt}
 use native.Mathlib.Omega.{arith}
 use Rattle.book.specs.Image.{pages, Whole}
 use Rattle.book.specs.Pointers.{flags, page, userPointer}
-use Rattle.book.specs.Rules.{Rule2, Rule3}
+use Rattle.book.specs.Rules.{Rule2, Rule3, Asked, UsedWithin}
 use Rattle.heads.proofs.Heads.{users-reached}
 use Rattle.book.specs.Words.{Words, Vol, vol, two}
 use Rattle.book.specs.Trees.{Root, rootBy, pageAt}
@@ -72,38 +73,38 @@ module _ (img : List ℕ) (x t q u : ℕ) (d : UserAt img x t q u) where
   unnamed : LegalName (user v u) 1 × NewName (user v) u → Named
   unnamed n = (subst (λ (T : Table). LegalName (T u) 1) (sym table) (n .0), new-fresh (n .1))
 
-  abbrev WithinThere : Type 0
-  WithinThere = two (entryIn v q u) 16 ≤ two (entryIn v q u) 14
+  abbrev WithinThere : Bool → Type 0
+  WithinThere ten = Asked ten (two (entryIn v q u) 16 ≤ two (entryIn v q u) 14)
 
-  within : WithinThere → usedPages (user v) u ≤ given (user v) u
+  within : (ten : Bool) → WithinThere ten → Asked ten (UsedWithin (user v) u)
   unfolding usedPages given
-  within = subst (λ (w : Words). two w 16 ≤ two w 14) words-are
+  within ten = subst (λ (w : Words). Asked ten (two w 16 ≤ two w 14)) words-are
 
-  over : (WithinThere → ⊥) → usedPages (user v) u ≤ given (user v) u → ⊥
+  over : (ten : Bool) → (WithinThere ten → ⊥) → Asked ten (UsedWithin (user v) u) → ⊥
   unfolding usedPages given
-  over n l = n (subst (λ (w : Words). two w 16 ≤ two w 14) (sym words-are) l)
+  over ten n l = n (subst (λ (w : Words). Asked ten (two w 16 ≤ two w 14)) (sym words-are) l)
 
   own-is : (k : ℕ) → entryIn v q u k ≡ user v u k
   own-is k = ap (λ (w : Words). w k) words-are
 
   -- ---- each way through the code
 
-  module _ (p : Place) where
-    pub name-wrong : p ≡ at q (entryWord u + 1) → (Named → ⊥) → First (userSpots v u) p
+  module _ (ten : Bool) (p : Place) where
+    pub name-wrong : p ≡ at q (entryWord u + 1) → (Named → ⊥) → First (userSpots ten v u) p
     unfolding First userSpots
     name-wrong e n = inl (here 1 p e, λ a. n (unnamed a))
 
-    pub used-over : Named → p ≡ at q (entryWord u + 16) → (WithinThere → ⊥) → First (userSpots v u) p
+    pub used-over : Named → p ≡ at q (entryWord u + 16) → (WithinThere ten → ⊥) → First (userSpots ten v u) p
     unfolding First AllHold userSpots
-    used-over n e o = inr (named n, inl (here 16 p e, over o))
+    used-over n e o = inr (named n, inl (here 16 p e, over ten o))
 
-    pub own-wrong : Named → WithinThere → p ≡ at q (entryWord u + 18) → (entryIn v q u 18 ≡ u → ⊥) → First (userSpots v u) p
+    pub own-wrong : Named → WithinThere ten → p ≡ at q (entryWord u + 18) → (entryIn v q u 18 ≡ u → ⊥) → First (userSpots ten v u) p
     unfolding First AllHold userSpots
-    own-wrong n l e w = inr (named n, inr (within l, (here 18 p e, λ a. w (own-is 18 ∙ a))))
+    own-wrong n l e w = inr (named n, inr (within ten l, (here 18 p e, λ a. w (own-is 18 ∙ a))))
 
-  pub user-right : Named → WithinThere → entryIn v q u 18 ≡ u → AllHold (userSpots v u)
+  pub user-right : (ten : Bool) → Named → WithinThere ten → entryIn v q u 18 ≡ u → AllHold (userSpots ten v u)
   unfolding AllHold userSpots
-  user-right n l w = (named n, (within l, sym (own-is 18) ∙ w))
+  user-right ten n l w = (named n, (within ten l, sym (own-is 18) ∙ w))
 
 -- a user on page q that is used, with all that the code knows of him then
 pub user-at : (img : List ℕ) (x t q u : ℕ) → Users img x t → u < 256 → (q ≡ pageAt (vol img) (rootBy x t 0) (u / 32)) × (q < pages img) → 0 < used (entryIn (vol img) q u) → UserAt img x t q u

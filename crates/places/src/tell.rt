@@ -25,7 +25,7 @@ ghost use mathlib.Core.Path.{_≡_};
 ghost use Prim.Native.Nat.{_<_};
 ghost use Rattle.book.specs.Words.{vol};
 ghost use Rattle.book.specs.Image.{pages};
-ghost use Rattle.book.specs.Broken.{BrokenAt};
+ghost use Rattle.book.specs.Broken.{BrokenBy};
 ghost use Rattle.tree.specs.Ends.{Ends};
 ghost use Rattle.places.specs.Tell.{Breaks, placeOf, plainly};
 
@@ -52,9 +52,9 @@ fn plain(rule: u32, fault: Fault) -> Break
 }
 
 // Rule 8: word 0 of the lowest page that two hold, with the first two.
-fn tell_held(img: &[u16], total: usize, ends: usize) -> Break
-    requires { ⌜ Breaks (now img) 8 × (total ≡ pages (now img)) × Ends (now img) ends ⌝ }
-    ensures { λ r. ⌜ BrokenAt (pages (now (img .entry))) (vol (now (img .entry))) r ⌝ }
+fn tell_held(img: &[u16], ten: bool, total: usize, ends: usize) -> Break
+    requires { ⌜ Breaks (now img) ten 8 × (total ≡ pages (now img)) × Ends (now img) ends ⌝ }
+    ensures { λ r. ⌜ BrokenBy ten (pages (now (img .entry))) (vol (now (img .entry))) r ⌝ }
 {
     let place = place_of(first8(img, total, ends));
     let p = place.page;
@@ -70,14 +70,14 @@ fn tell_held(img: &[u16], total: usize, ends: usize) -> Break
 }
 
 // Rules 9 and 10, after a walk over the pages held. A page that it met twice would break rule 8; that this is told by a call keeps the room of its search out of the gate.
-fn tell_counts(img: &[u16], total: usize, ends: usize, rule: u32) -> Break
-    requires { ⌜ Breaks (now img) rule × (8 < rule) × (total ≡ pages (now img)) × Ends (now img) ends ⌝ }
-    ensures { λ r. ⌜ BrokenAt (pages (now (img .entry))) (vol (now (img .entry))) r ⌝ }
+fn tell_counts(img: &[u16], ten: bool, total: usize, ends: usize, rule: u32) -> Break
+    requires { ⌜ Breaks (now img) ten rule × (8 < rule) × (total ≡ pages (now img)) × Ends (now img) ends ⌝ }
+    ensures { λ r. ⌜ BrokenBy ten (pages (now (img .entry))) (vol (now (img .entry))) r ⌝ }
 {
     let mut marks = no_marks();
     let w = mark_all(img, &mut marks, total, ends);
     let Walk::On { visited } = w else {
-        return tell_held(img, total, ends);
+        return tell_held(img, ten, total, ends);
     };
     if rule == 9 {
         let b = page_at(img, 0, BITS) as usize;
@@ -87,9 +87,9 @@ fn tell_counts(img: &[u16], total: usize, ends: usize, rule: u32) -> Break
 }
 
 // Rules 6 and up: those of the objects, and of what they hold.
-fn tell_objects(img: &[u16], total: usize, rule: u32) -> Break
-    requires { ⌜ Breaks (now img) rule × (5 < rule) × (total ≡ pages (now img)) ⌝ }
-    ensures { λ r. ⌜ BrokenAt (pages (now (img .entry))) (vol (now (img .entry))) r ⌝ }
+fn tell_objects(img: &[u16], ten: bool, total: usize, rule: u32) -> Break
+    requires { ⌜ Breaks (now img) ten rule × (5 < rule) × (total ≡ pages (now img)) ⌝ }
+    ensures { λ r. ⌜ BrokenBy ten (pages (now (img .entry))) (vol (now (img .entry))) r ⌝ }
 {
     let ends = object_ends(img);
     if rule == 6 {
@@ -99,15 +99,15 @@ fn tell_objects(img: &[u16], total: usize, rule: u32) -> Break
         return plain(7, first7(img, total, ends));
     }
     if rule == 8 {
-        return tell_held(img, total, ends);
+        return tell_held(img, ten, total, ends);
     }
-    tell_counts(img, total, ends, rule)
+    tell_counts(img, ten, total, ends, rule)
 }
 
-// What refusal 3 tells of an image whose lowest broken rule is this one.
-pub fn tell(img: &[u16], rule: u32) -> Break
-    requires { ⌜ Breaks (now img) rule ⌝ }
-    ensures { λ r. ⌜ BrokenAt (pages (now (img .entry))) (vol (now (img .entry))) r ⌝ }
+// What refusal 3 tells of an image whose lowest broken rule, of all ten or of those of the pointers alone, is this one.
+pub fn tell(img: &[u16], ten: bool, rule: u32) -> Break
+    requires { ⌜ Breaks (now img) ten rule ⌝ }
+    ensures { λ r. ⌜ BrokenBy ten (pages (now (img .entry))) (vol (now (img .entry))) r ⌝ }
 {
     let total = img.len() / WORDS;
     if rule == 1 {
@@ -120,10 +120,10 @@ pub fn tell(img: &[u16], rule: u32) -> Break
         return plain(3, first3(img, total));
     }
     if rule == 4 {
-        return plain(4, first4(img));
+        return plain(4, first4(img, ten));
     }
     if rule == 5 {
         return plain(5, first5(img, total));
     }
-    tell_objects(img, total, rule)
+    tell_objects(img, ten, total, rule)
 }

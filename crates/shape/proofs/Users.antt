@@ -76,19 +76,20 @@ pub grants-sum : (v : Vol) → sum 256 (λ u. countIn 14 (user v u)) ≡ sum 256
 unfolding countIn grant given
 grants-sum v = sum-ext 256 (λ u. countIn 14 (user v u)) (grant (user v)) (λ u h. refl)
 
--- the used pages, where they are those of the files: an unused user has none
-module _ (P : ℕ) (v : Vol) (r6 : Rule6 (user v) (object v)) (r7 : Rule7 P v) (right : UsersRight v 0 256) where
-  none-held : (u : ℕ) → u < 256 → (0 < used (user v u) → ⊥) → 0 ≡ pagesOf v u
-  unfolding Rule6Over
-  none-held u h n = pages-none v u (λ i k a b j. n (r6 .0 u (32 * i + k) h (omega arith) (subst (λ (e : ℕ). 0 < used (object v e)) (here i k) j) .owner))
-    where
-      here : (i k : ℕ) → 32 * (8 * u + i) + k ≡ fileEntry u (32 * i + k)
-      here i k = omega arith
+-- an unused user has none
+pub none-held : (v : Vol) → Rule6 (user v) (object v) → (u : ℕ) → u < 256 → (0 < used (user v u) → ⊥) → 0 ≡ pagesOf v u
+unfolding Rule6Over
+none-held v r6 u h n = pages-none v u (λ i k a b j. n (r6 .0 u (32 * i + k) h (omega arith) (subst (λ (e : ℕ). 0 < used (object v e)) (here i k) j) .owner))
+  where
+    here : (i k : ℕ) → 32 * (8 * u + i) + k ≡ fileEntry u (32 * i + k)
+    here i k = omega arith
 
+-- the used pages, where they are those of the files
+module _ (P : ℕ) (v : Vol) (r6 : Rule6 (user v) (object v)) (r7 : Rule7 P v) (right : UsersRight v 0 256) where
   taken-at : (u : ℕ) → u < 256 → countIn 16 (user v u) ≡ mine v u some
   taken-at u h = elim (decLt 0 (used (user v u))) [
     | yes i ↦ sym (count-used 16 (user v u) i) ∙ right u h zero-le i
-    | no i ↦ sym (count-unused 16 (user v u) i) ∙ none-held u h i
+    | no i ↦ sym (count-unused 16 (user v u) i) ∙ none-held v r6 u h i
   ] ∙ mine-pages P v r7 u h
 
   pub taken-sum : sum 256 (λ u. countIn 16 (user v u)) ≡ sum 256 (λ u. mine v u some)

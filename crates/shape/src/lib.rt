@@ -5,4 +5,4 @@ pub mod file;
 mod plain;
 pub mod rule10;
 pub mod rule7;
-mod tally;
+pub mod tally;

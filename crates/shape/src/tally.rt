@@ -12,7 +12,7 @@ ghost use Rattle.tree.specs.Reach.{Reach, entryIn};
 ghost use Rattle.shape.specs.Counts.{countIn};
 
 // The number at word k of entry u on page q, 0 of an unused one.
-fn count_of(img: &[u16], q: usize, u: usize, k: usize) -> u64
+pub fn count_of(img: &[u16], q: usize, u: usize, k: usize) -> u64
     requires { ⌜ (q < pages (now img)) × (k < 31) ⌝ }
     ensures { λ r. ⌜ (r ≡ countIn k (entryIn (vol (now (img .entry))) q u)) × (r < 4294967296) ⌝ }
 {

@@ -1,11 +1,15 @@
 // The check: the ten rules judged in order, each where all lower ones hold; and the gate that every call but format goes through.
+pub mod early;
 pub mod numbers;
 
 use book::Gate;
 use book::Refusal;
 use book::Verdict;
+use early::Said;
+use early::early;
 use walk::Walk;
 ghost use mathlib.Core.Path.{_≡_};
+ghost use mathlib.Core.Bool.{true};
 ghost use Rattle.book.specs.Words.{vol};
 ghost use Rattle.book.specs.Decides.{Decides};
 ghost use Rattle.book.specs.Image.{pages, Whole};
@@ -15,7 +19,7 @@ ghost use Rattle.sound.specs.Late.{Early, JudgedLate};
 
 // Rules 8 to 10 of an image that keeps the first seven: the walk marks each held page and counts it. The object file ends at position `ends`.
 fn judge_held(img: &[u16], total: usize, ends: usize) -> Verdict
-    requires { ⌜ Whole (now img) × (total ≡ pages (now img)) × Early (pages (now img)) (vol (now img)) × Ends (now img) ends ⌝ }
+    requires { ⌜ Whole (now img) × (total ≡ pages (now img)) × Early true (pages (now img)) (vol (now img)) × Ends (now img) ends ⌝ }
     ensures { λ r. ⌜ JudgedLate (pages (now (img .entry))) (vol (now (img .entry))) r ⌝ }
 {
     let mut marks = bits::marks::no_marks();
@@ -36,33 +40,13 @@ fn judge_held(img: &[u16], total: usize, ends: usize) -> Verdict
 // Judges an image of whole pages: sound with the pages visited, or the lowest broken rule.
 pub fn judge(img: &[u16]) -> Verdict
     requires { ⌜ Whole (now img) ⌝ }
-    ensures { λ r. ⌜ Judged (pages (now (img .entry))) (vol (now (img .entry))) r ⌝ }
+    ensures { λ r. ⌜ Judged true (pages (now (img .entry))) (vol (now (img .entry))) r ⌝ }
 {
-    let total = img.len() / page::WORDS;
-    if !heads::master::rule1(img, total) {
-        return Verdict::Broken { rule: 1 };
+    let found = early(img, true);
+    match found {
+        Said::Broken { rule } => Verdict::Broken { rule },
+        Said::Kept { ends } => judge_held(img, img.len() / page::WORDS, ends),
     }
-    if !heads::master::rule2(img, total) {
-        return Verdict::Broken { rule: 2 };
-    }
-    if !heads::master::rule3(img, total) {
-        return Verdict::Broken { rule: 3 };
-    }
-    let mut table = heads::stamps::room();
-    if !heads::users::rule4(img, &mut table) {
-        return Verdict::Broken { rule: 4 };
-    }
-    if !heads::objects::rule5(img, total) {
-        return Verdict::Broken { rule: 5 };
-    }
-    let ends = tree::root::object_ends(img);
-    if !heads::objects::rule6(img, &mut table, ends) {
-        return Verdict::Broken { rule: 6 };
-    }
-    if !shape::rule7::rule7(img, total, ends) {
-        return Verdict::Broken { rule: 7 };
-    }
-    judge_held(img, total, ends)
 }
 
 // Whether an image is of whole pages, 8 to 16,384 of them.
@@ -99,7 +83,7 @@ pub fn gate(img: &[u16], ok: bool) -> Gate
         Verdict::Sound { visits } => Gate::Open { visits },
         Verdict::Broken { rule } => Gate::Shut {
             why: Refusal::Unsound {
-                broken: places::tell::tell(img, rule),
+                broken: places::tell::tell(img, true, rule),
             },
         },
     }

@@ -26,6 +26,8 @@ pub fn number_of(why: Refusal) -> u32
         Refusal::Unreserved => 10,
         Refusal::NoRun => 11,
         Refusal::Fill => 12,
+        Refusal::Overdrawn => 13,
+        Refusal::ShortList => 14,
     }
 }
 
@@ -58,6 +60,8 @@ pub fn broken_of(why: Refusal) -> Break
         Refusal::Unreserved => nothing_broken(),
         Refusal::NoRun => nothing_broken(),
         Refusal::Fill => nothing_broken(),
+        Refusal::Overdrawn => nothing_broken(),
+        Refusal::ShortList => nothing_broken(),
     }
 }
 

@@ -5,10 +5,14 @@ use crate::say::case;
 use crate::say::done;
 use crate::say::held;
 use crate::say::put;
+use crate::say::refused;
 use crate::say::word;
 use edge::ask::nord_check;
 use edge::change::nord_create_indexed;
 use edge::change::nord_grow;
+use edge::mend::mended;
+use edge::spell::Reply;
+use salvage::row::no_changes;
 
 // Whether check gives this rule and word `first` of page p with word k of page p set to x; the word is put back.
 pub fn breaks(img: &mut [u16], p: u16, k: u16, x: u16, rule: u32, first: u32) -> bool {
@@ -36,7 +40,10 @@ pub fn rules(img: &mut [u16]) {
     entries(img);
     files(img);
     counts(img);
-    again(img);
+    sound(img, b"sound again");
+    stale(img);
+    mends(img);
+    sound(img, b"sound after salvage");
 }
 
 fn one_page(img: &mut [u16]) {
@@ -98,6 +105,33 @@ fn counts(img: &mut [u16]) {
     case(b"rule 10: unreserved", breaks(img, 0, 1023, 3, 10, 1022));
 }
 
-fn again(img: &[u16]) {
-    case(b"sound again", done(nord_check(img), 8));
+fn sound(img: &[u16], name: &[u8]) {
+    case(name, done(nord_check(img), 8));
+}
+
+// A salvage with room for so many changes.
+fn salvage(img: &mut [u16], room: usize) -> Reply {
+    let mut row = no_changes();
+    mended(img, room, &mut row)
+}
+
+// 13, with 1 page given of 2 that are held.
+fn overdrawn(img: &mut [u16]) -> bool {
+    put(img, 2, 15, 1);
+    let r = salvage(img, 3);
+    put(img, 2, 15, 8);
+    refused(r, 13)
+}
+
+// A used count of 3 for 2: no room for the change, then pages given that are too few.
+fn stale(img: &mut [u16]) {
+    put(img, 2, 17, 3);
+    case(b"14: no room for a change", refused(salvage(img, 0), 14));
+    case(b"13: holds two, was given one", overdrawn(img));
+}
+
+// With room the count is mended, and a second salvage has nothing to do.
+fn mends(img: &mut [u16]) {
+    case(b"salvage: the used count", done(salvage(img, 1), 1));
+    case(b"salvage: nothing to mend", done(salvage(img, 0), 0));
 }

@@ -2,15 +2,17 @@
 use mathlib.Core.Path.{_≡_, sym, subst, ap, _∙_}
 use mathlib.Core.Logic.{_⊎_, inl, inr}
 use mathlib.Core.List.{List}
-use Prim.Native.Nat.{ℕ, _<_, _/_, _%_}
+use Prim.Native.Nat.{ℕ, _+_, _*_, _<_, _/_, _%_}
+use native.Mathlib.Decide.{decLt}
 use native.Mathlib.Omega.{arith}
-use lib.ListN.{length}
+use lib.ListN.{length, getD}
 use Rattle.book.specs.Answers.{Numbers}
-use Rattle.book.specs.Image.{pages, Whole}
+use Rattle.book.specs.Image.{pages, Sixteen, Whole}
 use Rattle.book.specs.Outcome.{Call, asking, judged, Outcome, RefusedAs, DoneAs, call}
 use Rattle.book.specs.Rows.{Rows, Clear, Counted, lowest-counted}
 use Rattle.book.specs.Rules.{Sound}
 use Rattle.book.specs.Words.{Vol, vol}
+use Rattle.book.specs.Written.{vol-in, vol-out}
 use Rattle.laws.specs.Frame.Places.{Places, OnlyAt}
 
 -- an image as long as a whole one is whole
@@ -18,6 +20,13 @@ pub whole-same : (img img′ : List ℕ) → length img′ ≡ length img → Wh
 whole-same img img′ e W =
     let p : pages img′ ≡ pages img = ap (λ (n : ℕ). n / 1024) e in
     record { even = ap (λ (n : ℕ). n % 1024) e ∙ W .even; least = omega (arith, W .least, p); most = omega (arith, W .most, p) }
+
+-- the words of its volume have 16 bits
+pub small-words : (img : List ℕ) → Sixteen img → (p k : ℕ) → vol img p k < 65536
+small-words img h p k = elim (decLt k 1024) [
+  | yes l ↦ omega (arith, vol-in img p k l, h (1024 * p + k))
+  | no l ↦ omega (arith, vol-out img p k (omega arith))
+]
 
 module _ {A : Type 0} (img : List ℕ) (args : Type 0) (rest : Rows) (none : A) (gives : A → Type 0) (after : Vol) (r : Numbers A) (img′ : List ℕ)
     (o : Outcome (asking img args rest none gives after) img r img′) (Q : Vol → Type 0) where

@@ -32,6 +32,7 @@ use Rattle.book.specs.Calls.{
   openCall,
   toApostropheCall,
   toZerosCall,
+  salvageCall,
 }
 use Rattle.book.specs.Names.{apostrophe}
 use Rattle.book.specs.declared.Holder.{Holder}
@@ -45,6 +46,7 @@ use Rattle.laws.specs.Delete.User.{kept-delete-user}
 use Rattle.laws.specs.File.Stored.{ends-zero, ends-apostrophe}
 use Rattle.laws.specs.Format.Call.{kept-format}
 use Rattle.laws.specs.Grow.Call.{kept-grow}
+use Rattle.laws.specs.Salvage.Call.{kept-salvage}
 use Rattle.laws.specs.Shrink.Call.{kept-shrink}
 use Rattle.laws.specs.User.Give.{kept-give, kept-take}
 
@@ -57,7 +59,7 @@ pub data Question : Type 0 where
   whoHolds : (p : ℕ) → Question
   readPage : (u f n : ℕ) → Question
 
--- the twenty calls, with their arguments; a format by default too
+-- the twenty-one calls, with their arguments; a format by default too
 pub data Step : Type 0 where
   asks : Question → Step
   formats : (name : List ℕ) (b : ℕ) → Step
@@ -75,6 +77,7 @@ pub data Step : Type 0 where
   opens : (u f : ℕ) → Step
   convertsToApostrophe : Step
   convertsToZeros : Step
+  salvages : (room : ℕ) → Step
 
 -- the book's call on an image, after the type of its value
 abbrev pub asked : Question → List ℕ → (A : Type 0) × Call A
@@ -102,6 +105,7 @@ made (writes u f n d) img = (ℕ, writeCall img u f n d)
 made (opens u f) img = (ℕ, openCall img u f)
 made convertsToApostrophe img = (ℕ, toApostropheCall img)
 made convertsToZeros img = (ℕ, toZerosCall img)
+made (salvages room) img = (ℕ, salvageCall img room)
 
 -- from an image to the image after one call, whatever it came back with
 abbrev pub Calling : Step → List ℕ → List ℕ → Type 0
@@ -150,6 +154,7 @@ kept-one (writes u f n d) img img′ (r, o) = kept-write img u f n d r img′ o
 kept-one (opens u f) img img′ (r, o) = kept-open img u f r img′ o
 kept-one convertsToApostrophe img img′ (r, o) = kept-convert 0 apostrophe ends-apostrophe img r img′ o
 kept-one convertsToZeros img img′ (r, o) = kept-convert apostrophe 0 ends-zero img r img′ o
+kept-one (salvages room) img img′ (r, o) = kept-salvage img room r img′ o
 
 pub kept-all : (l : List Step) (img img′ : List ℕ) → Calls l img img′ → Sound (pages img) (vol img) → Sound (pages img′) (vol img′)
 unfolding Calls

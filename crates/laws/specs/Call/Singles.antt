@@ -1,4 +1,4 @@
--- Each of the twenty calls gives one value, so that any two of its outcomes coincide (Coincide.one-outcome). Assumes nothing.
+-- Each of the twenty-one calls gives one value, so that any two of its outcomes coincide (Coincide.one-outcome). Assumes nothing.
 use mathlib.Core.Path.{sym, _∙_}
 use mathlib.Core.List.{List}
 use Prim.Native.Nat.{ℕ}
@@ -9,7 +9,7 @@ use Rattle.book.specs.Outcome.{Single, asking, judged}
 use Rattle.book.specs.Rows.{Clear}
 use Rattle.book.specs.Rules.{Rule4Over, Rule6Over}
 
--- who holds and format: Count.Who.single-who, Format.Call.single-format
+-- who holds, format and salvage: Count.Who.single-who, Format.Call.single-format, Salvage.Call.single-salvage
 
 module _ (img : List ℕ) where
   pub single-check : Single (checkCall img)

@@ -2,8 +2,7 @@
 use mathlib.Core.Path.{_≡_, refl, ap, _∙_}
 use mathlib.Core.Logic.{_≢_, _↔_, inl, inr}
 use mathlib.Core.List.{List}
-use Prim.Native.Nat.{ℕ, _+_, _*_, _<_}
-use native.Mathlib.Decide.{decLt}
+use Prim.Native.Nat.{ℕ, _<_}
 use native.Mathlib.Omega.{arith}
 use Rattle.book.specs.Answers.{Numbers}
 use Rattle.book.specs.Calls.{convertCall}
@@ -15,8 +14,7 @@ use Rattle.book.specs.Outcome.{Outcome, DoneAs, call, asking, judged}
 use Rattle.book.specs.Rows.{Clear, Lowest}
 use Rattle.book.specs.Rules.{Sound, OldSound}
 use Rattle.book.specs.Words.{vol}
-use Rattle.book.specs.Written.{vol-in, vol-out}
-use Rattle.laws.specs.Call.After.{whole-same}
+use Rattle.laws.specs.Call.After.{whole-same, small-words}
 use Rattle.laws.specs.Call.Done.{clear-done, number-lowest}
 use Rattle.laws.specs.Convert.Back.{there-and-back, AllFull, both-full}
 use Rattle.laws.specs.Convert.Call.{kept-convert, filled-convert}
@@ -52,12 +50,6 @@ pub record ThereAndBack (from to : ℕ) (img : List ℕ) : Type 0 where
   pub there : (r : Numbers ℕ) (img₁ : List ℕ) → Outcome (convertCall from to img) img r img₁ → (r .number ≡ 0) × Sound (pages img₁) (vol img₁) × AllFilled to (vol img₁)
   pub back : (r : Numbers ℕ) (img₁ : List ℕ) → Outcome (convertCall from to img) img r img₁
       → (s : Numbers ℕ) (img₂ : List ℕ) → Outcome (convertCall to from img₁) img₁ s img₂ → (s .number ≡ 0) × (img₂ ≡ img)
-
-small-words : (img : List ℕ) → Sixteen img → (p k : ℕ) → vol img p k < 65536
-small-words img h p k = elim (decLt k 1024) [
-  | yes l ↦ omega (arith, vol-in img p k l, h (1024 * p + k))
-  | no l ↦ omega (arith, vol-out img p k (omega arith))
-]
 
 module _ (from to : ℕ) (mf : 0 < ends from) (mt : 0 < ends to) (img : List ℕ) (B : Sixteen img) (W : Whole img) (S : Sound (pages img) (vol img)) (F : AllFilled from (vol img)) where
   module _ (r : Numbers ℕ) (img₁ : List ℕ) (o : Outcome (convertCall from to img) img r img₁) where

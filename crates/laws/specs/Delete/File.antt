@@ -14,7 +14,8 @@ use Rattle.book.specs.Rules.{Rule10, Sound}
 use Rattle.book.specs.Trees.{weighR, pageAt}
 use Rattle.book.specs.Words.{Words, Vol, two, word, put2, putWords, zeros}
 use Rattle.book.specs.Written.{word-pos, word-ext, put2-page, put2-word, put2-hi, put2-lo, putWords-here, putWords-page, putWords-low, putWords-high}
-use Rattle.laws.specs.Bits.Marked.{Changed, Marked, marked, marked-good, alone}
+use Rattle.laws.specs.Bits.Marked.{Marked, marked, marked-good, alone}
+use Rattle.laws.specs.Bits.Painted.{Changed}
 use Rattle.laws.specs.Count.Good.{Good, good, sound, bit-le}
 use Rattle.laws.specs.Delete.Entry.{delete-good}
 use Rattle.laws.specs.File.Finish.{isO, isU, UO, owner-used}
@@ -171,7 +172,7 @@ module _ (P : ℕ) (v : Vol) (S : Sound P v) (pos : 0 < P) (big : P ≤ 10737418
     spent = omega (arith, ap (λ (T : Table). usedPages T a) (marked₁ .still .users), now left, counted);
     words = only-trans (DeletePlaces P v a e) v (w left) (markAll P (w left) f₁ P)
         (only-trans (DeletePlaces P v a e) v v₁′ (w left) (only-wider _ _ v v₁′ (λ p k h. inr (inl h)) (only-putWords v O (32 * (e % 32)) 32 zeros)) (only-wider _ _ v₁′ (w left) (λ p k h. inr (inr h)) (only-put2 v₁′ U at left)))
-        (only-wider _ _ (w left) _ bits (marked₁ .words));
+        (only-wider _ _ (w left) _ bits (marked₁ .painted .words));
   }
     where
       v₁′ : Vol

@@ -15,7 +15,7 @@ use Rattle.book.specs.Bits.{bitPages, bit}
 use Rattle.book.specs.Entries.{entry, user, object, userFile, objectFile, used, unreserved}
 use Rattle.book.specs.Names.{Letter, Text, NameText, LegalName, byteAt, ends, wordsOf}
 use Rattle.book.specs.Rows.{Lowest}
-use Rattle.book.specs.Rules.{Rule1, Rule2, Rule3, Rule4, Rule4Over, Rule5, Rule5By, Rule6, Rule6Over, rules}
+use Rattle.book.specs.Rules.{Rule1, Rule2, Rule3, Rule4, Rule4Over, Rule5, Rule5By, Rule6, Rule6Over, rules, rulesOf}
 use Rattle.laws.specs.Example.Sparse.{Cell, cell, volume, Off, volume-off, entry-first, entry-bare}
 use Rattle.laws.specs.File.Packed.{legal-back, behind-old}
 use Rattle.laws.specs.File.Stored.{nameless}
@@ -129,7 +129,7 @@ unfolding ends is
 zero-first w k z = first-ends w k 0 z (omega arith)
 
 pub breaks1 : Lowest (rules 16 (volume broken1)) 1
-unfolding rules Lowest volume
+unfolding rulesOf Lowest volume
 breaks1 = inl (refl, λ r. zero-first (volume [] 0) volumeName refl (r .name))
 
 -- ---- rule 2
@@ -139,7 +139,7 @@ unfolding volume Off put pick is
 head2 = record { first = refl; second = refl; tail = λ k a b. volume-off broken2 0 k (omega arith); high = refl; low = refl }
 
 pub breaks2 : Lowest (rules 16 (volume broken2)) 2
-unfolding rules Lowest Rule2 Zero Inside flags volume put pick is
+unfolding rulesOf Lowest Rule2 Zero Inside flags volume put pick is
 breaks2 = inr (head-rule (volume broken2) head2 (omega arith) (omega arith) (omega arith), inl (refl, no))
   where
     v : Vol
@@ -231,7 +231,7 @@ unfolding volume Off put pick is
 master3 = record { head = record { first = refl; second = refl; tail = λ k a b. volume-off broken3 0 k (omega arith); high = refl; low = refl }; ufl = refl; upg = refl; ofl = refl; opg = refl }
 
 pub breaks3 : Lowest (rules 16 (volume broken3)) 3
-unfolding rules Lowest Rule3 slot two word volume put pick is
+unfolding rulesOf Lowest Rule3 slot two word volume put pick is
 breaks3 = inr (head-rule v (master3 .head) (omega arith) (omega arith) (omega arith), inr (rule-2 v master3 (omega arith) (omega arith) (omega arith), inl (refl, no)))
   where
     v : Vol
@@ -251,7 +251,7 @@ unfolding user word
 user-first l M e u k h = ap (λ (r : Root). entry (volume l) r u k) (user-root (volume l) M) ∙ entry-first (volume l) 1 u k h ∙ ap (λ (q : ℕ). word (volume l) q (32 * u + k)) e
 
 pub breaks4 : Lowest (rules 16 (volume broken4)) 4
-unfolding rules Lowest Rule4Over slot two word volume put pick is Off used
+unfolding rulesOf Lowest Rule4Over slot two word volume put pick is Off used
 breaks4 = inr (
   head-rule (volume broken4) (master4 .head) (omega arith) (omega arith) (omega arith),
   inr (
@@ -271,7 +271,7 @@ unfolding volume Off put pick is
 master5 = record { head = record { first = refl; second = refl; tail = λ k a b. volume-off broken5 0 k (omega arith); high = refl; low = refl }; ufl = refl; upg = refl; ofl = refl; opg = refl }
 
 pub breaks5 : Lowest (rules 16 (volume broken5)) 5
-unfolding rules Lowest slot two word volume put pick is Off
+unfolding rulesOf Lowest slot two word volume put pick is Off
 breaks5 = inr (
   head-rule (volume broken5) (master5 .head) (omega arith) (omega arith) (omega arith),
   inr (
@@ -296,7 +296,7 @@ unfolding object word
 object-first l M q e k h = ap (λ (r : Root). entry (volume l) r e k) (object-root (volume l) M) ∙ entry-first (volume l) 2 e k h ∙ ap (λ (p : ℕ). word (volume l) p (32 * e + k)) q
 
 pub breaks6 : Lowest (rules 16 (volume broken6)) 6
-unfolding rules Lowest Rule6Over slot two word volume put pick is Off used
+unfolding rulesOf Lowest Rule6Over slot two word volume put pick is Off used
 breaks6 = inr (
   head-rule (volume broken6) (master6 .head) (omega arith) (omega arith) (omega arith),
   inr (

@@ -18,7 +18,7 @@ use Rattle.book.specs.Names.{Letter, Text, NameText, LegalName, LegalType, word
 use Rattle.book.specs.Files.{FileShape, pageBytes}
 use Rattle.book.specs.Holders.{hit, some, all, system, holders, systemPages}
 use Rattle.book.specs.Rows.{Rows, end, row, Lowest}
-use Rattle.book.specs.Rules.{Rule1, Rule2, Rule3, Rule4, Rule4Over, UserOk, Rule5, Rule6, Rule6Over, FileOk, Rule7, Rule8, Rule9, Rule10, rules}
+use Rattle.book.specs.Rules.{Rule1, Rule2, Rule3, Rule4, Rule4Over, UserOk, Rule5, Rule6, Rule6Over, FileOk, Rule7, Rule8, Rule9, Rule10, rules, rulesOf}
 use Rattle.laws.specs.Count.Good.{bit-le}
 use Rattle.laws.specs.Example.Broken.{Head, Master, broken7, broken8, broken9, broken10, head-rule, user-root, object-root, rule-2, rule-3, rule-5, no-users, no-objects, bare, user-first, object-first}
 use Rattle.laws.specs.Example.Sparse.{volume, Off, volume-off, entry-past}
@@ -79,7 +79,7 @@ object7 u h = elim (decLt u 32) [
 ]
 
 pub breaks7 : Lowest (rules 16 (volume broken7)) 7
-unfolding rules Lowest Rule4Over Rule6Over Rule7 FileShape slot two word volume put pick is Off used given usedPages
+unfolding rulesOf Lowest Rule4Over Rule6Over Rule7 FileShape slot two word volume put pick is Off used given usedPages
 breaks7 = inr (
   head-rule v (master7 .head) (omega arith) (omega arith) (omega arith),
   inr (
@@ -157,7 +157,7 @@ held-twice h = omega (
 )
 
 pub breaks8 : Lowest (rules 16 (volume broken8)) 8
-unfolding rules Lowest Rule8 slot two word volume put pick is Off holders all system
+unfolding rulesOf Lowest Rule8 slot two word volume put pick is Off holders all system
 breaks8 = inr (
   head-rule v (master8 .head) (omega arith) (omega arith) (omega arith),
   inr (
@@ -239,7 +239,7 @@ unfolding volume Off put pick is Zero
 fresh9 = record { head = record { first = refl; second = refl; tail = λ k a b. volume-off broken9 0 k (omega arith); high = refl; low = refl }; users = (refl, refl); objects = (refl, refl) }
 
 pub breaks9 : Lowest (rules 16 (volume broken9)) 9
-unfolding rules Lowest Rule9 bit bitPage bitFile bitPages pageAt upto page digit word volume put pick is hit
+unfolding rulesOf Lowest Rule9 bit bitPage bitFile bitPages pageAt upto page digit word volume put pick is hit
 breaks9 = fresh-rules (volume broken9) fresh9 9 (row 9 (Rule9 16 (volume broken9)) (row 10 (Rule10 16 (volume broken9)) end)) (inl (refl, no))
   where
     no : Rule9 16 (volume broken9) → ⊥
@@ -258,7 +258,7 @@ unfolding sum bit bitPage bitFile bitPages pageAt upto page digit word volume pu
 bits10 = agree 16 (bit 16 (volume broken10)) (λ p. is p 0 + hit p 8) refl
 
 pub breaks10 : Lowest (rules 16 (volume broken10)) 10
-unfolding rules Lowest Rule9 Rule10 unreserved systemPages two volume put pick is
+unfolding rulesOf Lowest Rule9 Rule10 unreserved systemPages two volume put pick is
 breaks10 = fresh-rules (volume broken10) fresh10 10 (row 9 (Rule9 16 (volume broken10)) (row 10 (Rule10 16 (volume broken10)) end)) (inr (nine, inl (refl, no)))
   where
     nine : Rule9 16 (volume broken10)

@@ -1,5 +1,6 @@
 -- The yard's volume of 154 pages with its first user, in pages 1, 2 and 3: which rules it keeps when his used count, the unreserved count and a word of the bit file are what they are. Assumes nothing.
 use mathlib.Core.Path.{_≡_, refl, sym, ap, _∙_, subst}
+use mathlib.Core.Bool.{Bool, true}
 use mathlib.Core.Logic.{inr}
 use mathlib.Core.List.{List, [], _∷_}
 use Prim.Native.Nat.{ℕ, zero, suc, _+_, _-_, _*_, _%_, _≤_, _<_}
@@ -13,8 +14,9 @@ use Rattle.book.specs.Trees.{Root, tree, weigh, weighR}
 use Rattle.book.specs.Bits.{bitPages, bitFile}
 use Rattle.book.specs.Entries.{entry, user, object, userFile, objectFile, used, given, usedPages}
 use Rattle.book.specs.Holders.{hit, all, system, holders}
+use Rattle.book.specs.Names.{stored}
 use Rattle.book.specs.Rows.{Rows, row, Lowest}
-use Rattle.book.specs.Rules.{Rule1, Rule2, Rule3, Rule4, Rule4Over, UserOk, Rule5, Rule6, Rule7, Rule8}
+use Rattle.book.specs.Rules.{Rule1, Rule2, Rule3, Rule4, Rule4Over, UserOk, UserOkOver, Rule5, Rule6, Rule7, Rule8}
 use Rattle.laws.specs.Count.Sums.{sum-1}
 use Rattle.laws.specs.Example.Sparse.{Cell, cell, volume, Off, volume-off, entry-past}
 use Rattle.laws.specs.Example.Broken.{Master, head-rule, user-root, object-root, rule-2, rule-3, rule-5, no-objects, bare, user-first}
@@ -85,9 +87,9 @@ module _ (x y z : ℕ) where
   pub keeps3 : Rule3 154 v
   keeps3 = rule-3 v master (omega (arith, first-slot)) other-slots
 
-  pub named : UserOk (user v) 0 → Rule4 (user v)
+  pub named : (ten : Bool) → UserOkOver stored ten (user v) 0 → Rule4Over stored ten (user v)
   unfolding Rule4Over
-  named o = ((λ u h l. subst (UserOk (user v)) (sym (only u l)) o), λ a b ha hb p q s. only a p ∙ sym (only b q))
+  named ten o = ((λ u h l. subst (UserOkOver stored ten (user v)) (sym (only u l)) o), λ a b ha hb p q s. only a p ∙ sym (only b q))
 
   pub keeps5 : Rule5 154 v
   keeps5 = rule-5 v master (omega arith) (omega (arith, no-slots 0)) (λ n h. no-slots n) above
@@ -144,7 +146,7 @@ keeps-eight y z r t l = inr (
     inr (
       keeps3 0 y z,
       inr (
-        named 0 y z (user-ok y z),
+        named 0 y z true (user-ok y z),
         inr (
           keeps5 0 y z,
           inr (rule6-none (v 0 y z) (nothing 0 y z), inr (rule7-none (v 0 y z) (nothing 0 y z) 154, inr (keeps8 0 y z, l))),

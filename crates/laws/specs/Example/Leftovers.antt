@@ -14,7 +14,7 @@ use Rattle.book.specs.Bits.{bit, bitPage, bitFile, bitPages, digit}
 use Rattle.book.specs.Holders.{hit, some}
 use Rattle.book.specs.Names.{Letter, Text, byteAt, bytes, ends, wordsOf, stored, zeroFilled}
 use Rattle.book.specs.Rows.{Lowest}
-use Rattle.book.specs.Rules.{Sound, OldSound, rules}
+use Rattle.book.specs.Rules.{Sound, OldSound, rules, rulesOf}
 use Rattle.laws.specs.Example.Broken.{yardName, yard-text, yard, first-ends}
 use Rattle.laws.specs.Example.BrokenLate.{agree}
 use Rattle.laws.specs.Example.Sparse.{Cell, cell, volume}
@@ -93,5 +93,5 @@ abbrev nameless : List Cell
 nameless = cell 0 volumeName 10049 ∷ yard
 
 pub apostrophe-first : Lowest (rules 16 (volume nameless)) 1
-unfolding rules Lowest ends volume put pick is
+unfolding rulesOf Lowest ends volume put pick is
 apostrophe-first = inl (refl, λ r. first-ends (volume nameless 0) volumeName 10049 refl (omega arith) (r .name))

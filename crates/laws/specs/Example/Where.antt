@@ -2,6 +2,7 @@
 use mathlib.Core.Path.{_≡_, refl, sym, ap, _∙_, subst}
 use mathlib.Core.Logic.{_⊎_, inl, inr}
 use mathlib.Core.List.{List, [], _∷_}
+use mathlib.Core.Bool.{true}
 use Prim.Native.Nat.{ℕ, zero, suc, _+_, _*_, _≤_, _<_}
 use native.Mathlib.Nat.{not-suc-le-zero}
 use native.Mathlib.Decide.{decLt}
@@ -17,9 +18,9 @@ use Rattle.book.specs.Files.{pageBytes, fileAt}
 use Rattle.book.specs.Holders.{hit, mine, some, holders, Holds, Exists, heldPage, rolePage, systemPages}
 use Rattle.book.specs.Rows.{end, row, Lowest}
 use Rattle.book.specs.Names.{LegalName}
-use Rattle.book.specs.Rules.{rules, Rule4Over, Rule9, Rule10}
+use Rattle.book.specs.Rules.{rules, Rule4Over, Rule9, Rule10, rulesOf}
 use Rattle.book.specs.Spots.{at, spot, when, AllHold, First, nth, when-all, when-first}
-use Rattle.book.specs.Places.{inUser, pointers, spots1, spots2, spots3, spots4, userSpots, spots5, spots5By, spots6, objectSpots, spots7, fileSpots, spots8, spots9, spots10, spots}
+use Rattle.book.specs.Places.{inUser, pointers, spots1, spots2, spots3, spots4, userSpots, spots5, spots5By, spots6, objectSpots, spots7, fileSpots, spots8, spots9, spots10, spots, spotsOf}
 use Rattle.book.specs.Pair.{Ahead, Before}
 use Rattle.book.specs.Broken.{BrokenAt, PairFor}
 use Rattle.book.specs.declared.Place.{Place}
@@ -50,13 +51,13 @@ plain n l f = record { rule = l; place = f; pair = (λ e. absurd (n e), λ e. (r
 -- ---- 1: the volume name
 
 told1 : BrokenAt 16 (volume broken1) (record { rule = 1; place = at 0 1008; first = Free; second = Free })
-unfolding spots nth spots1 First volume
+unfolding spotsOf nth spots1 First volume
 told1 = plain (λ e. omega (arith, e)) breaks1 (inl (refl, zero-first (volume [] 0) volumeName refl))
 
 -- ---- 2: one pointer of the two is zero
 
 told2 : BrokenAt 16 (volume broken2) (record { rule = 2; place = at 0 1016; first = Free; second = Free })
-unfolding spots nth spots2 First Zero Inside flags volume put pick is
+unfolding spotsOf nth spots2 First Zero Inside flags volume put pick is
 told2 = plain (λ e. omega (arith, e)) breaks2 (inl (refl, no))
   where
     no : (Zero (volume broken2 0) userPointer × Zero (volume broken2 0) objectPointer)
@@ -68,7 +69,7 @@ told2 = plain (λ e. omega (arith, e)) breaks2 (inl (refl, no))
 -- ---- 3: slot 8 of the user index
 
 told3 : BrokenAt 16 (volume broken3) (record { rule = 3; place = at 1 16; first = Free; second = Free })
-unfolding spots nth spots3 pointers AllHold First slot two word volume put pick is Off
+unfolding spotsOf nth spots3 pointers AllHold First slot two word volume put pick is Off
 told3 = plain (λ e. omega (arith, e)) breaks3 (subst (λ (t : ℕ). First (pointers (volume broken3) t (λ s x. (x < 16) × (8 ≤ s → x ≡ 0) × (s < 8 → 0 ≤ x))) (at 1 16)) (sym (user-page (volume broken3) master3))
     (8, omega arith, (λ j h. let z : slot (volume broken3) 1 j ≡ 0 = bare broken3 1 j (omega arith) (omega arith) (omega arith) in (omega (arith, z), (λ l. z), λ l. omega arith)), (refl, λ a. let r : ⊥ = omega (arith, a .1 (omega arith)) in r)))
 
@@ -79,12 +80,12 @@ unfolding userPage
 first-page l M e = ap (λ (r : Root). pageAt (volume l) r 0) (user-root (volume l) M) ∙ page-one (volume l) 1 0 (omega arith) ∙ e
 
 told4 : BrokenAt 16 (volume broken4) (record { rule = 4; place = at 3 1; first = Free; second = Free })
-unfolding spots nth spots4 userSpots First slot two word volume put pick is Off used
+unfolding spotsOf nth spots4 userSpots First slot two word volume put pick is Off used
 told4 = plain (λ e. omega (arith, e)) breaks4 (
   0,
   omega arith,
   (λ j h. absurd (not-suc-le-zero h)),
-  when-first _ (userSpots (volume broken4) 0) (at 3 1) (omega (arith, U 0))
+  when-first _ (userSpots true (volume broken4) 0) (at 3 1) (omega (arith, U 0))
       (inl (ap (λ (q : ℕ). at q 1) (sym (first-page broken4 master4 refl)), λ a. zero-first (user (volume broken4) 0) 1 (U 1) (a .0))),
 )
   where
@@ -94,7 +95,7 @@ told4 = plain (λ e. omega (arith, e)) breaks4 (
 -- ---- 5: slot 0 of the object index
 
 told5 : BrokenAt 16 (volume broken5) (record { rule = 5; place = at 2 0; first = Free; second = Free })
-unfolding spots nth spots5 spots5By pointers AllHold First slot two word volume put pick is Off
+unfolding spotsOf nth spots5 spots5By pointers AllHold First slot two word volume put pick is Off
 told5 = plain (λ e. omega (arith, e)) breaks5 (subst (λ (x : ℕ). First (spots5By 16 (volume broken5) x (page (volume broken5 0) objectPointer)) (at 2 0)) (sym (object-flags (volume broken5) master5))
     (subst (λ (t : ℕ). First (spots5By 16 (volume broken5) 1 t) (at 2 0)) (sym (object-page (volume broken5) master5))
     (inr ((λ u h l. no-users (volume broken5) master5 empty u), (0, omega arith, (λ j h. absurd (not-suc-le-zero h)), (refl, λ a. let r : ⊥ = omega (arith, a .0) in r))))))
@@ -109,7 +110,7 @@ unfolding objectPage
 first-object l {b} {o} M e = ap (λ (r : Root). pageAt (volume l) r 0) (object-root (volume l) M) ∙ page-one (volume l) o 0 (omega arith) ∙ e
 
 told6 : BrokenAt 16 (volume broken6) (record { rule = 6; place = at 4 0; first = Free; second = Free })
-unfolding spots nth spots6 objectSpots First slot two word volume put pick is Off used
+unfolding spotsOf nth spots6 objectSpots First slot two word volume put pick is Off used
 told6 = plain (λ e. omega (arith, e)) breaks6 (
   0,
   omega arith,
@@ -129,7 +130,7 @@ told6 = plain (λ e. omega (arith, e)) breaks6 (
 -- ---- 7: object 0's bytes
 
 told7 : BrokenAt 16 (volume broken7) (record { rule = 7; place = at 4 28; first = Free; second = Free })
-unfolding spots nth spots7 fileSpots First slot two word volume put pick is Off used
+unfolding spotsOf nth spots7 fileSpots First slot two word volume put pick is Off used
 told7 = plain (λ e. omega (arith, e)) breaks7 (
   0,
   omega arith,
@@ -177,7 +178,7 @@ held8 (ObjectPage n) x e = absurd (let r : ⊥ = omega (arith, e, bare8 (objectF
 held8 (File h) x e = absurd (let r : ⊥ = omega (arith, e, no-role (volume broken8) (fileEntry (h .user) (h .file)) (h .role) (no-objects (volume broken8) master8 empty8 (fileEntry (h .user) (h .file)))) in r)
 
 told8 : BrokenAt 16 (volume broken8) (record { rule = 8; place = at 1 0; first = UserIndex; second = ObjectIndex 0 })
-unfolding spots nth spots8 AllHold First PairFor Ahead Holds indexAt leaf
+unfolding spotsOf nth spots8 AllHold First PairFor Ahead Holds indexAt leaf
 told8 = record {
   rule = breaks8;
   place = (1, omega arith, (λ p h. let e : p ≡ 0 = omega arith in omega (arith, ap (holders 16 (volume broken8)) e, holders-zero 16 (volume broken8))), (refl, twice));
@@ -209,7 +210,7 @@ nine-by : (P : ℕ) (v : Vol) (p : ℕ) → bit P v p ≡ holders P v p → (bit
 nine-by P v p e = ((λ b. omega (arith, b, e)), λ b. omega (arith, b, e, bit-le P v p))
 
 told9 : BrokenAt 16 (volume broken9) (record { rule = 9; place = at 8 0; first = Free; second = Free })
-unfolding sum spots nth spots9 AllHold First bit bitPage bitFile bitPages pageAt upto page digit word volume put pick is hit
+unfolding sum spotsOf nth spots9 AllHold First bit bitPage bitFile bitPages pageAt upto page digit word volume put pick is hit
 told9 = plain (λ e. omega (arith, e)) breaks9 (5, omega arith, before, (refl, λ a. let r : ⊥ = omega (arith, a .0 refl, fresh-holders (volume broken9) fresh9 5) in r))
   where
     same : (p : ℕ) → p < 5 → bit 16 (volume broken9) p ≡ is p 0 + hit p 8
@@ -221,7 +222,7 @@ told9 = plain (λ e. omega (arith, e)) breaks9 (5, omega arith, before, (refl, �
 -- ---- 10: the sum
 
 told10 : BrokenAt 16 (volume broken10) (record { rule = 10; place = at 0 1022; first = Free; second = Free })
-unfolding spots nth spots10 AllHold First unreserved systemPages two volume put pick is
+unfolding spotsOf nth spots10 AllHold First unreserved systemPages two volume put pick is
 told10 = plain (λ e. omega (arith, e)) breaks10 (inr ((λ u h. when-all _ _ (λ l. absurd (nobody u l))), (refl, no)))
   where
     nobody : (u : ℕ) → 0 < used (user (volume broken10) u) → ⊥
@@ -234,12 +235,12 @@ told10 = plain (λ e. omega (arith, e)) breaks10 (inr ((λ u h. when-all _ _ (λ
 
 -- his used count is 1
 told-used : BrokenAt 154 (volume (firstUser 1 149 0)) (record { rule = 4; place = at 2 16; first = Free; second = Free })
-unfolding rules Lowest spots nth spots4 userSpots AllHold First Rule4Over volume put pick is Off used given usedPages two userPage
+unfolding rulesOf Lowest spotsOf nth spots4 userSpots AllHold First Rule4Over volume put pick is Off used given usedPages two userPage
 told-used = plain (λ e. omega (arith, e)) (inr (keeps1 1 149 0, inr (keeps2 1 149 0, inr (keeps3 1 149 0, inl (refl, λ r. over (r .0 0 (omega arith) (omega (arith, U 0)) .within)))))) (
   0,
   omega arith,
   (λ j h. absurd (not-suc-le-zero h)),
-  when-first _ (userSpots (volume (firstUser 1 149 0)) 0) (at 2 16) (omega (arith, U 0))
+  when-first _ (userSpots true (volume (firstUser 1 149 0)) 0) (at 2 16) (omega (arith, U 0))
       (inr ((name, λ a h l e. absurd (not-suc-le-zero h)), inl (ap (λ (q : ℕ). at q 16) (sym (first-page (firstUser 1 149 0) (master 1 149 0) (first-slot 1 149 0))), over))),
 )
   where
@@ -254,7 +255,7 @@ told-used = plain (λ e. omega (arith, e)) (inr (keeps1 1 149 0, inr (keeps2 1 1
 
 -- the bit of page 100 is set
 told-bit : BrokenAt 154 (volume (firstUser 0 149 16)) (record { rule = 9; place = at 77 6; first = Free; second = Free })
-unfolding sum rules Lowest spots nth spots9 AllHold First Rule9 bit bitPage bitFile bitPages pageAt upto page digit word volume put pick is hit
+unfolding sum rulesOf Lowest spotsOf nth spots9 AllHold First Rule9 bit bitPage bitFile bitPages pageAt upto page digit word volume put pick is hit
 told-bit = plain (λ e. omega (arith, e)) (keeps-eight 149 16 9 (row 9 (Rule9 154 (volume (firstUser 0 149 16))) (row 10 (Rule10 154 (volume (firstUser 0 149 16))) end)) (inl (refl, λ r. over (r 100 (omega arith) .0 refl)))) (100, omega arith, before, (refl, λ a. over (a .0 refl)))
   where
     over : 0 < holders 154 (volume (firstUser 0 149 16)) 100 → ⊥
@@ -277,7 +278,7 @@ counted u e = subst (λ (a : ℕ). usedPages (user (volume (firstUser 0 150 0)))
     (omega (arith, words 0 150 0 16, words 0 150 0 17, mine-none (volume (firstUser 0 150 0)) (nothing 0 150 0) 0 some))
 
 told-sum : BrokenAt 154 (volume (firstUser 0 150 0)) (record { rule = 10; place = at 0 1022; first = Free; second = Free })
-unfolding sum rules Lowest spots nth spots10 AllHold First Rule9 Rule10 bit bitPage bitFile bitPages pageAt upto page digit word volume put pick is hit
+unfolding sum rulesOf Lowest spotsOf nth spots10 AllHold First Rule9 Rule10 bit bitPage bitFile bitPages pageAt upto page digit word volume put pick is hit
 told-sum = plain (λ e. omega (arith, e)) (keeps-eight 150 0 10 (row 9 (Rule9 154 (volume (firstUser 0 150 0))) (row 10 (Rule10 154 (volume (firstUser 0 150 0))) end)) (inr ((λ p h. nine-by 154 (volume (firstUser 0 150 0)) p (same p h ∙ sym (held-by 0 150 0 p))), inl (refl, λ r. over (r .1))))) (inr (counts, (refl, over)))
   where
     same : (p : ℕ) → p < 154 → bit 154 (volume (firstUser 0 150 0)) p ≡ is p 0 + (hit p 77 + (hit p 1 + hit p 2) + hit p 3)

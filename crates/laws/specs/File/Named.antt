@@ -1,5 +1,6 @@
 -- Names and types of entries whose words stay, and of a sound volume's used entries. Assumes nothing.
 use mathlib.Core.Path.{_≡_, sym, ap, _∙_, subst}
+use mathlib.Core.Bool.{Bool}
 use Prim.Native.Nat.{ℕ, _+_, _/_, _%_, _<_}
 use native.Mathlib.Omega.{arith}
 use Rattle.book.specs.Entries.{user, object, used, fileEntry}
@@ -31,7 +32,7 @@ SameFile-sym w x s = (sym (s .0), sym (s .1))
 
 -- ---- on a sound volume, in whichever way its names are read
 
-module _ {read : Reading} (P : ℕ) (v : Vol) (S : SoundOver read P v) where
+module _ {read : Reading} {ten : Bool} (P : ℕ) (v : Vol) (S : SoundOver read ten P v) where
   pub user-legal : (u : ℕ) → u < 256 → 0 < used (user v u) → NameOver read (user v u) 1
   unfolding Rule4Over
   user-legal u h i = S .r4 .0 u h i .name

@@ -1,5 +1,6 @@
 -- Two ways of reading names that give the same for a volume's own names: what is sound by the one is sound by the other. Assumes nothing.
 use mathlib.Core.Path.{_≡_, sym, _∙_, subst}
+use mathlib.Core.Bool.{Bool}
 use Prim.Native.Nat.{ℕ, _<_}
 use native.Mathlib.Omega.{arith}
 use Rattle.book.specs.Entries.{user, object, used, fileEntry}
@@ -15,8 +16,8 @@ pub record Alike (read read′ : Reading) (v : Vol) : Type 0 where
   pub names : (e : ℕ) → e < 65536 → 0 < used (object v e) → read′ 16 (object v e) 1 ≡ read 16 (object v e) 1
   pub types : (e : ℕ) → e < 65536 → 0 < used (object v e) → read′ 4 (object v e) 9 ≡ read 4 (object v e) 9
 
-module _ {read read′ : Reading} (P : ℕ) (v : Vol) (A : Alike read read′ v) (S : SoundOver read P v) where
-  four : Rule4Over read′ (user v)
+module _ {read read′ : Reading} {ten : Bool} (P : ℕ) (v : Vol) (A : Alike read read′ v) (S : SoundOver read ten P v) where
+  four : Rule4Over read′ ten (user v)
   unfolding Rule4Over
   four = (
     (λ u h i. let o = S .r4 .0 u h i in record { own = o .own; name = subst (Text 1 16) (sym (A .users u h i)) (o .name); within = o .within }),
@@ -40,7 +41,7 @@ module _ {read read′ : Reading} (P : ℕ) (v : Vol) (A : Alike read read′ v)
         ),
   )
 
-  pub sound-alike : SoundOver read′ P v
+  pub sound-alike : SoundOver read′ ten P v
   sound-alike = record {
     r1 = let r = S .r1 in record { name = subst (Text 1 16) (sym (A .volume)) (r .name); unflagged = r .unflagged; start = r .start; fits = r .fits };
     r2 = S .r2;

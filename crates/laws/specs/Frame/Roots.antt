@@ -7,7 +7,7 @@ use native.Mathlib.Decide.{decLt}
 use native.Mathlib.Omega.{arith}
 use Rattle.sums.specs.Search.{pick}
 use Rattle.sums.specs.Sum.{sum, sum-ext, sum-at, sum-at₂, sum-change, sum-none, sum-add}
-use Rattle.book.specs.Bits.{bitFile, bitPages}
+use Rattle.book.specs.Bits.{bitFile, bitPages, bitPage, pageBits}
 use Rattle.book.specs.Entries.{entry, userFile, objectFile, object, used}
 use Rattle.book.specs.Files.{fileAt}
 use Rattle.book.specs.Holders.{mine, system, all}
@@ -164,6 +164,15 @@ module _ (v v′ : Vol) (R : Roots v v′) where
   pub bits-root : (P : ℕ) → bitFile P v′ ≡ bitFile P v
   unfolding bitFile Roots page
   bits-root P = ap (λ (t : ℕ). run t (bitPages P)) (page-ext (v′ 0) (v 0) bitPointer (R bitPointer (omega arith) (omega arith)) (R (suc bitPointer) (omega arith) (omega arith)))
+
+-- the pages of the bit file are told by the master page, and so is where a page's bit lies
+pub bits-same : (P : ℕ) (v w : Vol) → Roots v w → (n : ℕ) → pageAt w (bitFile P w) n ≡ pageAt v (bitFile P v) n
+unfolding bitFile pageAt
+bits-same P v w R n = ap (λ (r : Root). pageAt w r n) (bits-root v w R P)
+
+pub bitPage-root : (P : ℕ) (v w : Vol) → Roots v w → (p : ℕ) → bitPage P w p ≡ bitPage P v p
+unfolding bitPage
+bitPage-root P v w R p = bits-same P v w R (p / pageBits)
 
 module _ (P : ℕ) (v v′ : Vol) (g : ℕ → ℕ) (a b : ℕ) (ha : a < 256) (hb : b < 256)
     (wb : weighR v′ (bitFile P v′) g ≡ weighR v (bitFile P v) g) (wu : weighR v′ (userFile v′) g ≡ weighR v (userFile v) g) (wo : weighR v′ (objectFile v′) g ≡ weighR v (objectFile v) g)

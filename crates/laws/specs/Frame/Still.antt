@@ -4,7 +4,7 @@ use mathlib.Core.Logic.{_≢_}
 use Prim.Native.Nat.{ℕ, suc, _/_, _%_, _<_}
 use native.Mathlib.Omega.{arith}
 use Rattle.sums.specs.Sum.{sum}
-use Rattle.book.specs.Bits.{bitFile, bitPage, pageBits}
+use Rattle.book.specs.Bits.{bitFile, bitPage}
 use Rattle.book.specs.Entries.{entry, userFile, objectFile, user, object, fileEntry, userPage, objectPage, unreserved}
 use Rattle.book.specs.Files.{fileAt}
 use Rattle.book.specs.Holders.{hit, mine, all}
@@ -14,7 +14,7 @@ use Rattle.book.specs.Words.{Words, Vol}
 use Rattle.book.specs.Written.{word-ext}
 use Rattle.laws.specs.Frame.Places.{Places, OnlyAt}
 use Rattle.laws.specs.Frame.Rest.{file-le, rest, all-rest, q-entry, user-calm, obj-calm, file-calm, page-calm, all-calm}
-use Rattle.laws.specs.Frame.Roots.{Roots, Kept, users-root, objs-root, entry-frame, file-kept, pageAt-frame, blocksR-le, bits-root, weighR-frame}
+use Rattle.laws.specs.Frame.Roots.{Roots, Kept, users-root, objs-root, entry-frame, file-kept, pageAt-frame, blocksR-le, bits-root, weighR-frame, bitPage-root}
 use Rattle.laws.specs.Tree.Slot.{Agree, hit-same, two-ext}
 
 -- where the entries lie
@@ -134,8 +134,8 @@ still-calm P v v′ C c0 A q m = record {
 -- ---- what the entries' places say of the bit file
 
 pub bitPage-same : (P : ℕ) (v v′ : Vol) → SamePlaces v v′ → (p : ℕ) → bitPage P v′ p ≡ bitPage P v p
-unfolding bitPage bitFile pageAt Roots
-bitPage-same P v v′ L p = ap (λ (r : Root). pageAt v r (p / pageBits)) (bits-root v v′ (λ k i j. L .master k) P)
+unfolding Roots
+bitPage-same P v v′ L = bitPage-root P v v′ (λ k i j. L .master k)
 
 pub rest-same : (P : ℕ) (v v′ : Vol) → Still P v v′ → (g : ℕ → ℕ) → rest v′ g ≡ rest v g
 unfolding bitFile weighR Roots

@@ -1,12 +1,14 @@
 -- The lowest broken rule: all lower ones hold, and it does not. Assumes nothing.
 use mathlib.Core.Path.{_≡_}
+use mathlib.Core.Bool.{Bool}
 use mathlib.Core.Logic.{inl, inr}
 use Prim.Native.Nat.{ℕ, _<_}
 use native.Mathlib.Omega.{arith}
 use Rattle.book.specs.Words.{Vol}
 use Rattle.book.specs.Entries.{user, object}
 use Rattle.book.specs.Rows.{Rows, end, row, Lowest, Counted, lowest-counted}
-use Rattle.book.specs.Rules.{Rule1, Rule2, Rule3, Rule4, Rule5, Rule6, Rule7, Rule8, Rule9, Rule10, rules}
+use Rattle.book.specs.Rules.{Asked, Rule1, Rule2, Rule3, Rule4Over, Rule5, Rule6, Rule7, Rule8, Rule9, Rule10, rulesOf}
+use Rattle.book.specs.Names.{stored}
 
 -- ---- in any table whose numbers ascend
 
@@ -32,14 +34,14 @@ unfolding Lowest
 here k n A t (inl e) q p a = e .1 a
 here k n A t (inr r) q p a = past-none t n (r .1) p
 
--- ---- of the ten rules
+-- ---- of the rules judged
 
-module _ (P : ℕ) (v : Vol) where
+module _ (ten : Bool) (P : ℕ) (v : Vol) where
   abbrev rows10 : Rows
-  rows10 = row 10 (Rule10 P v) end
+  rows10 = row 10 (Asked ten (Rule10 P v)) end
 
   abbrev rows9 : Rows
-  rows9 = row 9 (Rule9 P v) rows10
+  rows9 = row 9 (Asked ten (Rule9 P v)) rows10
 
   abbrev rows8 : Rows
   rows8 = row 8 (Rule8 P v) rows9
@@ -54,7 +56,7 @@ module _ (P : ℕ) (v : Vol) where
   rows5 = row 5 (Rule5 P v) rows6
 
   abbrev rows4 : Rows
-  rows4 = row 4 (Rule4 (user v)) rows5
+  rows4 = row 4 (Rule4Over stored ten (user v)) rows5
 
   abbrev rows3 : Rows
   rows3 = row 3 (Rule3 P v) rows4
@@ -62,9 +64,9 @@ module _ (P : ℕ) (v : Vol) where
   abbrev rows2 : Rows
   rows2 = row 2 (Rule2 P v) rows3
 
-  module _ (r : ℕ) (l : Lowest (rules P v) r) where
+  module _ (r : ℕ) (l : Lowest (rulesOf ten P v) r) where
     first : Lowest (row 1 (Rule1 P v) rows2) r
-    unfolding rules
+    unfolding rulesOf
     first = l
 
     -- those below it hold
@@ -77,8 +79,8 @@ module _ (P : ℕ) (v : Vol) where
     pub above3 : 3 < r → (Rule3 P v) × Lowest rows4 r
     above3 h = over 3 r (Rule3 P v) rows4 (above2 (omega arith) .1) h
 
-    pub above4 : 4 < r → (Rule4 (user v)) × Lowest rows5 r
-    above4 h = over 4 r (Rule4 (user v)) rows5 (above3 (omega arith) .1) h
+    pub above4 : 4 < r → (Rule4Over stored ten (user v)) × Lowest rows5 r
+    above4 h = over 4 r (Rule4Over stored ten (user v)) rows5 (above3 (omega arith) .1) h
 
     pub above5 : 5 < r → (Rule5 P v) × Lowest rows6 r
     above5 h = over 5 r (Rule5 P v) rows6 (above4 (omega arith) .1) h
@@ -92,8 +94,8 @@ module _ (P : ℕ) (v : Vol) where
     pub above8 : 8 < r → (Rule8 P v) × Lowest rows9 r
     above8 h = over 8 r (Rule8 P v) rows9 (above7 (omega arith) .1) h
 
-    pub above9 : 9 < r → (Rule9 P v) × Lowest rows10 r
-    above9 h = over 9 r (Rule9 P v) rows10 (above8 (omega arith) .1) h
+    pub above9 : 9 < r → (Asked ten (Rule9 P v)) × Lowest rows10 r
+    above9 h = over 9 r (Asked ten (Rule9 P v)) rows10 (above8 (omega arith) .1) h
 
     -- it does not
     pub fails1 : r ≡ 1 → Rule1 P v → ⊥
@@ -108,9 +110,9 @@ module _ (P : ℕ) (v : Vol) where
     unfolding Past
     fails3 e = here 3 r (Rule3 P v) rows4 (above2 (omega arith) .1) e (omega arith, (omega arith, (omega arith, (omega arith, (omega arith, (omega arith, (omega arith, tt)))))))
 
-    pub fails4 : r ≡ 4 → Rule4 (user v) → ⊥
+    pub fails4 : r ≡ 4 → Rule4Over stored ten (user v) → ⊥
     unfolding Past
-    fails4 e = here 4 r (Rule4 (user v)) rows5 (above3 (omega arith) .1) e (omega arith, (omega arith, (omega arith, (omega arith, (omega arith, (omega arith, tt))))))
+    fails4 e = here 4 r (Rule4Over stored ten (user v)) rows5 (above3 (omega arith) .1) e (omega arith, (omega arith, (omega arith, (omega arith, (omega arith, (omega arith, tt))))))
 
     pub fails5 : r ≡ 5 → Rule5 P v → ⊥
     unfolding Past
@@ -128,18 +130,18 @@ module _ (P : ℕ) (v : Vol) where
     unfolding Past
     fails8 e = here 8 r (Rule8 P v) rows9 (above7 (omega arith) .1) e (omega arith, (omega arith, tt))
 
-    pub fails9 : r ≡ 9 → Rule9 P v → ⊥
+    pub fails9 : r ≡ 9 → Asked ten (Rule9 P v) → ⊥
     unfolding Past
-    fails9 e = here 9 r (Rule9 P v) rows10 (above8 (omega arith) .1) e (omega arith, tt)
+    fails9 e = here 9 r (Asked ten (Rule9 P v)) rows10 (above8 (omega arith) .1) e (omega arith, tt)
 
-    pub fails10 : r ≡ 10 → Rule10 P v → ⊥
+    pub fails10 : r ≡ 10 → Asked ten (Rule10 P v) → ⊥
     unfolding Past
-    fails10 e = here 10 r (Rule10 P v) end (above9 (omega arith) .1) e tt
+    fails10 e = here 10 r (Asked ten (Rule10 P v)) end (above9 (omega arith) .1) e tt
 
     -- and it is one of the ten
     pub least : 0 < r
-    unfolding rules Counted
-    least = lowest-counted (rules P v) r (omega arith, (omega arith, (omega arith, (omega arith, (omega arith, (omega arith, (omega arith, (omega arith, (omega arith, (omega arith, tt)))))))))) l
+    unfolding rulesOf Counted
+    least = lowest-counted (rulesOf ten P v) r (omega arith, (omega arith, (omega arith, (omega arith, (omega arith, (omega arith, (omega arith, (omega arith, (omega arith, (omega arith, tt)))))))))) l
 
     pub most : 9 < r → r ≡ 10
     unfolding Lowest

@@ -1,5 +1,6 @@
 -- A rule holds exactly when all its places do; rule 7 stands by itself in Rule7. Assumes nothing.
 use mathlib.Core.Path.{_≡_, refl, sym, ap, _∙_, subst}
+use mathlib.Core.Bool.{Bool}
 use mathlib.Core.Logic.{_⊎_, inl, inr}
 use Prim.Native.Nat.{ℕ, zero, suc, _+_, _*_, _≤_, _<_}
 use native.Mathlib.Decide.{decLt, ℕ-discrete}
@@ -8,8 +9,8 @@ use Rattle.book.specs.Words.{Vol, two, word}
 use Rattle.book.specs.Pointers.{flags, page, slot, Zero, Inside, userPointer, objectPointer}
 use Rattle.book.specs.Trees.{Below}
 use Rattle.book.specs.Entries.{Table, user, object, used, fileEntry}
-use Rattle.book.specs.Names.{SameName, SameFile}
-use Rattle.book.specs.Rules.{Rule1, Rule2, Rule3, Rule4, Rule4Over, Rule5, Rule5By, Rule6, Rule6Over, Rule8, Rule9, Rule10}
+use Rattle.book.specs.Names.{stored, SameName, SameFile}
+use Rattle.book.specs.Rules.{Rule1, Rule2, Rule3, Rule4Over, Rule5, Rule5By, Rule6, Rule6Over, Rule8, Rule9, Rule10}
 use Rattle.laws.specs.Tree.Pointer.{zero-page, zero-flags}
 use Rattle.laws.specs.Tree.Slot.{slot-zero}
 use Rattle.laws.specs.File.Named.{SameFile-sym}
@@ -136,20 +137,21 @@ module _ (Used : ℕ → Type 0) (Same : ℕ → ℕ → Type 0) (turn : (a b : 
     ]
   ]
 
-module _ (v : Vol) where
-  pub all4 : Rule4 (user v) → AllHold (spots4 v)
+module _ (ten : Bool) (v : Vol) where
+  pub all4 : Rule4Over stored ten (user v) → AllHold (spots4 ten v)
   unfolding AllHold spots4 userSpots Rule4Over
-  all4 r u h = when-all (used (user v u)) (userSpots v u) (λ l.
+  all4 r u h = when-all (used (user v u)) (userSpots ten v u) (λ l.
       let o = r .0 u h l in ((o .name, λ a m k s. let e : a ≡ u = r .1 a u (omega arith) h k l s in omega arith), (o .within, o .own)))
 
-  pub rule4 : AllHold (spots4 v) → Rule4 (user v)
+  pub rule4 : AllHold (spots4 ten v) → Rule4Over stored ten (user v)
   unfolding AllHold spots4 userSpots Rule4Over
   rule4 a = (
-    (λ u h l. let o = when-hold (used (user v u)) (userSpots v u) (a u h) l in record { own = o .1 .1; name = o .0 .0; within = o .1 .0 }),
+    (λ u h l. let o = when-hold (used (user v u)) (userSpots ten v u) (a u h) l in record { own = o .1 .1; name = o .0 .0; within = o .1 .0 }),
     one-of (λ u. 0 < used (user v u)) (λ x y. SameName (user v x) (user v y)) (λ x y. sym)
-        (λ b h l. when-hold (used (user v b)) (userSpots v b) (a b h) l .0 .1),
+        (λ b h l. when-hold (used (user v b)) (userSpots ten v b) (a b h) l .0 .1),
   )
 
+module _ (v : Vol) where
   pub all6 : Rule6 (user v) (object v) → AllHold (spots6 v)
   unfolding AllHold spots6 objectSpots Rule6Over
   all6 r u h f l = when-all (used (object v (fileEntry u f))) (objectSpots v u f (fileEntry u f)) (λ m.

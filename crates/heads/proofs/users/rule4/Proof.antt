@@ -14,7 +14,7 @@ users-ok-requires : tie.Need-users-ok-requires
 users-ok-requires c κs = let s = c .before in users-reach _ (omega arith) (s .pre .1) (s .pre .2)
 
 returns : tie.Need-returns
-returns c = ((λ r. fails (c .before .users-ok .result) _ (c .before .users-ok .ensures) (c .if1 .taken) (rule4-users _ r)), λ e. c .before .before .before .pre .3)
+returns c = ((λ r. fails (c .before .users-ok .result) _ (c .before .users-ok .ensures) (c .if1 .taken) (rule4-users _ _ r)), λ e. c .before .before .before .pre .3)
 
 flags-at-requires : tie.Need-flags-at-requires
 flags-at-requires c κs = search needs
@@ -33,7 +33,7 @@ apart-requires c κs =
 returns-2 : tie.Need-returns-2
 returns-2 c =
     let p = c .before .before in let f = p .before in let i = f .before in let o = i .before in let s = o .before .before in let v = vol (s .args .img .now) in (
-      rule4-by _ (c .apart .result) (holds (o .users-ok .result) _ (o .users-ok .ensures) (i .if1 .left))
+      rule4-by _ _ (c .apart .result) (holds (o .users-ok .result) _ (o .users-ok .ensures) (i .if1 .left))
           (subst (λ (E : Table). Decides (c .apart .result) (Apart E 0 0 256)) (users-table v (f .flags-at .result) (p .page-at .result) (f .flags-at .ensures .0) (p .page-at .ensures .0)) (c .apart .ensures .0)),
       c .apart .ensures .1,
     )

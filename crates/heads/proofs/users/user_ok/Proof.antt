@@ -1,6 +1,7 @@
 use native.Mathlib.Omega.{arith}
 use Rattle.book.specs.Decides.{holds, fails}
 use Rattle.book.specs.Entries.{given, usedPages}
+use Rattle.page.proofs.Deciding.{decides-iff}
 use borrow.Author.Needs.{needs}
 use Rattle.heads.proofs.users.user_ok.Statement.{statement}
 use Rattle.heads.proofs.users.user_ok.Tie as tie
@@ -26,19 +27,15 @@ entry-legal-requires c κs = search needs
 returns-3 : tie.Need-returns-3
 returns-3 c = λ f. let a = f (holds (c .before .before .before .before .before .entry-used .result) _ (c .before .before .before .before .before .entry-used .ensures) (c .before .before .before .before .if1 .left)) in fails (c .before .entry-legal .result) _ (c .before .entry-legal .ensures) (c .if3 .taken) (a .name)
 
-entry-two-requires : tie.Need-entry-two-requires
-entry-two-requires c κs = search needs
-
-entry-two-requires-2 : tie.Need-entry-two-requires-2
-entry-two-requires-2 c κs = search needs
+within-requires : tie.Need-within-requires
+within-requires c κs = search needs
 
 returns-4 : tie.Need-returns-4
 unfolding given usedPages
-returns-4 c = λ f. let a = f (holds (c .before .before .before .before .before .before .before .before .entry-used .result) _ (c .before .before .before .before .before .before .before .before .entry-used .ensures) (c .before .before .before .before .before .before .before .if1 .left)) in omega (arith, a .within)
-
-returns-5 : tie.Need-returns-5
-unfolding given usedPages
-returns-5 c = λ h. record { own = omega arith; name = holds (c .before .before .before .before .entry-legal .result) _ (c .before .before .before .before .entry-legal .ensures) (c .before .before .before .if3 .left); within = omega arith }
+returns-4 c =
+    let i3 = c .before in let l = i3 .before in let w = l .before .before in let i1 = w .before in let u = i1 .before in
+    decides-iff (c .within .result) _ _ (λ a h. record { own = omega arith; name = holds (l .entry-legal .result) _ (l .entry-legal .ensures) (i3 .if3 .left); within = a })
+    (λ f. f (holds (u .entry-used .result) _ (u .entry-used .ensures) (i1 .if1 .left)) .within) (c .within .ensures)
 
 pub user-ok-spec : {M : Type 1} → statement M
 user-ok-spec =
@@ -51,7 +48,5 @@ user-ok-spec =
     returns-2
     entry-legal-requires
     returns-3
-    entry-two-requires
-    entry-two-requires-2
-    returns-4
-    returns-5)
+    within-requires
+    returns-4)

@@ -11,10 +11,10 @@ use Rattle.heads.proofs.users.users_ok.Statement.{statement}
 use Rattle.heads.proofs.users.users_ok.Tie as tie
 
 abbrev Inv-loop : tie.InvT-loop
-Inv-loop img first₀ first = (first ≤ 256) × (first % 32 ≡ 0) × Span (UserFine (user (vol img))) 0 first
+Inv-loop img ten first₀ first = (first ≤ 256) × (first % 32 ≡ 0) × Span (UserFine ten (user (vol img))) 0 first
 
 abbrev μ-loop : tie.MeasureT-loop
-μ-loop img first₀ first = 256 - first
+μ-loop img ten first₀ first = 256 - first
 
 loop-holds : tie.Need-loop-holds Inv-loop μ-loop
 loop-holds c = (omega arith, omega arith, span-none _ _)
@@ -37,7 +37,7 @@ loop-again c = (omega arith, omega arith, span-join _ _ _ _ (c .before .before .
 returns-2 : tie.Need-returns-2 Inv-loop μ-loop
 returns-2 c =
     let l = c .before .loop in let e : l .first ≡ 256 = omega arith in
-    subst (λ (z : ℕ). Span (UserFine (user (vol (c .before .before .before .args .img .now)))) 0 z) e (l .inv .2)
+    subst (λ (z : ℕ). Span (UserFine (c .before .before .before .args .ten) (user (vol (c .before .before .before .args .img .now)))) 0 z) e (l .inv .2)
 
 pub users-ok-spec : {M : Type 1} → statement M
 users-ok-spec =

@@ -16,28 +16,28 @@ use Rattle.places.proofs.tell.tell_held.Reads as tell-held-reads
 use Rattle.tree.proofs.root.object_ends.Reads as object-ends-reads
 
 object-ends-requires : tie.Need-object-ends-requires
-object-ends-requires c κs = let s = c .before in let l = s .pre .0 .lowest in let h = s .pre .1 in record { some = omega (arith, s .pre .0 .whole .least); below = below-objects _ _ (above2 _ _ _ l (omega arith) .0) (above5 _ _ _ l h .0) }
+object-ends-requires c κs = let s = c .before in let l = s .pre .0 .lowest in let h = s .pre .1 in record { some = omega (arith, s .pre .0 .whole .least); below = below-objects _ _ (above2 _ _ _ _ l (omega arith) .0) (above5 _ _ _ _ l h .0) }
 
 first6-requires : tie.Need-first6-requires
-first6-requires c κs = let s = c .before .before .before in let l = s .pre .0 .lowest in let h = s .pre .1 in (s .pre .0 .whole, above2 _ _ _ l (omega arith) .0, above3 _ _ _ l (omega arith) .0, above5 _ _ _ l h .0)
+first6-requires c κs = let s = c .before .before .before in let l = s .pre .0 .lowest in let h = s .pre .1 in (s .pre .0 .whole, above2 _ _ _ _ l (omega arith) .0, above3 _ _ _ _ l (omega arith) .0, above5 _ _ _ _ l h .0)
 
 plain-requires : tie.Need-plain-requires
 plain-requires c κs = search needs
 
 returns : tie.Need-returns
-returns c = let s = c .before .before .before .before .before in told6 _ _ (s .pre .0) (c .before .first6 .result) _ (c .before .before .if1 .taken) (c .before .first6 .ensures) (c .plain .ensures)
+returns c = let s = c .before .before .before .before .before in told6 _ _ _ (s .pre .0) (c .before .first6 .result) _ (c .before .before .if1 .taken) (c .before .first6 .ensures) (c .plain .ensures)
 
 first7-requires : tie.Need-first7-requires
-first7-requires c κs = let s = c .before .before .before .before in let l = s .pre .0 .lowest in let h = s .pre .1 in (s .pre .0 .whole, s .pre .2, above2 _ _ _ l (omega arith) .0, above5 _ _ _ l h .0, c .before .before .object-ends .ensures)
+first7-requires c κs = let s = c .before .before .before .before in let l = s .pre .0 .lowest in let h = s .pre .1 in (s .pre .0 .whole, s .pre .2, above2 _ _ _ _ l (omega arith) .0, above5 _ _ _ _ l h .0, c .before .before .object-ends .ensures)
 
 plain-requires-2 : tie.Need-plain-requires-2
 plain-requires-2 c κs = search needs
 
 returns-2 : tie.Need-returns-2
-returns-2 c = let s = c .before .before .before .before .before .before in told7 _ _ (s .pre .0) (c .before .first7 .result) _ (c .before .before .if2 .taken) (c .before .first7 .ensures) (c .plain2 .ensures)
+returns-2 c = let s = c .before .before .before .before .before .before in told7 _ _ _ (s .pre .0) (c .before .first7 .result) _ (c .before .before .if2 .taken) (c .before .first7 .ensures) (c .plain2 .ensures)
 
 tell-held-requires : tie.Need-tell-held-requires
-tell-held-requires c κs = let s = c .before .before .before .before .before in (breaks-at _ _ (s .pre .0) (c .if3 .taken), s .pre .2, c .before .before .before .object-ends .ensures)
+tell-held-requires c κs = let s = c .before .before .before .before .before in (breaks-at _ _ _ (s .pre .0) (c .if3 .taken), s .pre .2, c .before .before .before .object-ends .ensures)
 
 returns-3 : tie.Need-returns-3
 returns-3 c = search needs

@@ -30,7 +30,7 @@ returns-2 : tie.Need-returns-2
 returns-2 c =
     let i = c .before in let e = i .before in let q = e .before in let s = q .before .before in let a = s .args in
     let u : UserAt (a .img .now) (a .flags) (a .top) (q .root-page .result) (a .u) = user-at _ (a .flags) (a .top) (q .root-page .result) (a .u) (s .pre .0) (s .pre .1) (q .root-page .ensures) (holds (e .entry-used .result) _ (e .entry-used .ensures) (i .if1 .left)) in
-    finds-when (used (user (vol (a .img .now)) (a .u))) (userSpots (vol (a .img .now)) (a .u)) (u .used) (c .used-user .result) (c .used-user .ensures)
+    finds-when (used (user (vol (a .img .now)) (a .u))) (userSpots (a .ten) (vol (a .img .now)) (a .u)) (u .used) (c .used-user .result) (c .used-user .ensures)
 
 pub any-user-spec : {M : Type 1} → statement M
 any-user-spec =

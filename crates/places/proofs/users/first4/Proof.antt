@@ -10,10 +10,10 @@ use Rattle.places.proofs.users.first4.Statement.{statement}
 use Rattle.places.proofs.users.first4.Tie as tie
 
 abbrev Inv-loop : tie.InvT-loop
-Inv-loop img flags top u₀ u = (u ≤ 256) × Passed (userRow (vol img)) u
+Inv-loop img ten flags top u₀ u = (u ≤ 256) × Passed (userRow ten (vol img)) u
 
 abbrev μ-loop : tie.MeasureT-loop
-μ-loop img flags top u₀ u = 256 - u
+μ-loop img ten flags top u₀ u = 256 - u
 
 flags-at-requires : tie.Need-flags-at-requires Inv-loop μ-loop
 flags-at-requires c κs = search needs
@@ -39,7 +39,7 @@ returns : tie.Need-returns Inv-loop μ-loop
 unfolding spots4
 returns c =
     let f = c .before in let a = f .before .before in let l = a .before .before in let s = l .before .before .before .before in
-    each-first 256 (userRow (vol (s .args .img .now))) _ (l .loop .u) (omega arith) (l .loop .inv .1) (found-at _ (a .any-user .result) (a .any-user .ensures) _ (f .found .given .1))
+    each-first 256 (userRow (s .args .ten) (vol (s .args .img .now))) _ (l .loop .u) (omega arith) (l .loop .inv .1) (found-at _ (a .any-user .result) (a .any-user .ensures) _ (f .found .given .1))
 
 enum-told : tie.Need-enum-told Inv-loop μ-loop
 enum-told c = search needs
@@ -53,11 +53,11 @@ loop-less c = omega arith
 loop-again : tie.Need-loop-again Inv-loop μ-loop
 loop-again c =
     let a = c .before .before in let l = a .before .before in let s = l .before .before .before .before in
-    (omega arith, passed-more (userRow (vol (s .args .img .now))) (l .loop .u) (l .loop .inv .1) (found-right _ (a .any-user .result) (a .any-user .ensures) (c .enum-told .given .1)))
+    (omega arith, passed-more (userRow (s .args .ten) (vol (s .args .img .now))) (l .loop .u) (l .loop .inv .1) (found-right _ (a .any-user .result) (a .any-user .ensures) (c .enum-told .given .1)))
 
 returns-2 : tie.Need-returns-2 Inv-loop μ-loop
 unfolding spots4
-returns-2 c = let l = c .before in let s = l .before .before .before .before in each-all 256 (l .loop .u) (userRow (vol (s .args .img .now))) (omega arith) (l .loop .inv .1)
+returns-2 c = let l = c .before in let s = l .before .before .before .before in each-all 256 (l .loop .u) (userRow (s .args .ten) (vol (s .args .img .now))) (omega arith) (l .loop .inv .1)
 
 pub first4-spec : {M : Type 1} → statement M
 first4-spec =
