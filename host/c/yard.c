@@ -507,6 +507,85 @@ static void neither_way(void)
     free(img);
 }
 
+/* Document 01's volume after a power cut: unreserved, DOCK's used count, data page 5 marked free and page 12 reserved. Page 16 is not there, and
+ * its bit is nobody's. */
+static uint16_t *stale16(void)
+{
+    uint16_t *img = yard16(), *bits = img + 8 * PAGE;
+    img[1023] = 9, img[2 * PAGE + 17] = 0;
+    bits[0] = 0x115F, bits[1] = 0xFFFF;
+    return img;
+}
+
+/* A list whose records no salvage has written. */
+static void unwritten(nord_change *list, size_t changes)
+{
+    memset(list, 0xEE, changes * sizeof *list);
+}
+
+static int is_change(nord_change got, uint32_t page, uint32_t word, uint32_t old_value, uint32_t new_value)
+{
+    return got.page == page && got.word == word && got.old_value == old_value && got.new_value == new_value;
+}
+
+/* Stale bits and counts are mended, and each changed word is told; a second salvage has nothing to tell. */
+static void salvages(void)
+{
+    size_t words = 16 * PAGE;
+    uint16_t *img = stale16(), *sound = yard16();
+    nord_change list[4], fresh[4];
+    unwritten(list, 4), unwritten(fresh, 4);
+    sound[8 * PAGE + 1] = 0xFFFF;
+    broken("page 5 is marked free", nord_check(img, words), NORD_RULE_BITS, 8, 0);
+    done("salvage changes 3 words", nord_salvage(img, words, list, 4), 3);
+    told("unreserved first: 9 becomes 5", is_change(list[0], 0, 1023, 9, 5));
+    told("then DOCK's used count: 0 becomes 2", is_change(list[1], 2, 17, 0, 2));
+    told("then the bits: 0x115F become 0x17F", is_change(list[2], 8, 0, 0x115F, 0x17F));
+    told("the record past them stays", memcmp(list + 3, fresh, sizeof *list) == 0);
+    told("all other words stay, and the bit of page 16", memcmp(img, sound, words * sizeof *img) == 0);
+    done("check visits 8", nord_check(img, words), 8);
+    unwritten(list, 4);
+    done("a second salvage changes nothing", nord_salvage(img, words, list, 4), 0);
+    done("a sound image needs no list", nord_salvage(img, words, NULL, 0), 0);
+    told("both tell nothing", memcmp(list, fresh, sizeof list) == 0 && memcmp(img, sound, words * sizeof *img) == 0);
+    img[2 * PAGE + 16] = 1, img[1022] = 7;
+    done("used above given, and both high halves", nord_salvage(img, words, list, 2), 2);
+    told("the high half of unreserved", is_change(list[0], 0, 1022, 7, 0));
+    told("the high half of a used count", is_change(list[1], 2, 16, 1, 0));
+    told("the same volume again", memcmp(img, sound, words * sizeof *img) == 0);
+    told("16 pages need 515 changes at most", NORD_CHANGES(16) == 515 && NORD_CHANGES(16384) == 1538);
+    free(sound);
+    free(img);
+}
+
+/* Refused salvages: what is lent stays as it was. */
+static void salvages_not(void)
+{
+    size_t words = 16 * PAGE;
+    uint16_t *img = stale16(), *before = blank(16), *user = img + 2 * PAGE, *file = img + 4 * PAGE;
+    nord_change list[4], fresh[4];
+    unwritten(list, 4), unwritten(fresh, 4);
+    memcpy(before, img, words * sizeof *img);
+    refused("three words and two changes: 14", nord_salvage(img, words, list, 2), NORD_LIST);
+    refused("three words and no list: 14", nord_salvage(img, words, NULL, 0), NORD_LIST);
+    refused("7 pages: 1", nord_salvage(img, 7 * PAGE, list, 4), NORD_SIZE);
+    user[15] = 1;
+    refused("DOCK holds 2 pages and was given 1: 13", nord_salvage(img, words, list, 4), NORD_OVERDRAWN);
+    refused("and 13 comes before 14", nord_salvage(img, words, list, 0), NORD_OVERDRAWN);
+    user[15] = 11;
+    refused("16 pages less 11 given less 6 of the system: 13", nord_salvage(img, words, list, 4), NORD_OVERDRAWN);
+    file[29] = 1;
+    broken("wrong bytes are not salvage's: 3", nord_salvage(img, words, list, 0), NORD_RULE_SHAPES, 4, 28);
+    file[29] = 2048, user[15] = 5;
+    told("the list stays", memcmp(list, fresh, sizeof list) == 0);
+    told("and the image", memcmp(img, before, words * sizeof *img) == 0);
+    user[15] = 10;
+    done("16 pages less 10 less 6: unreserved is 0", nord_salvage(img, words, list, 4), 3);
+    told("which is told", is_change(list[0], 0, 1023, 9, 0) && unreserved(img) == 0);
+    free(before);
+    free(img);
+}
+
 /* The yard's steps as a list, up to one that is refused and one after it; names and types are parts of the text. */
 static const uint8_t script_text[] = "YARDDOCKREADSDATARUN";
 
@@ -656,6 +735,7 @@ static void nulls(void)
     refused("no image: 1", nord_check(NULL, 0), NORD_SIZE);
     refused("no image to change: 1", nord_give(NULL, 0, 0, 1), NORD_SIZE);
     refused("no image to convert: 1", nord_convert_to_zeros(NULL, 0), NORD_SIZE);
+    refused("no image to salvage, and no list: 1", nord_salvage(NULL, 0, NULL, 0), NORD_SIZE);
     refused("no name: 2", nord_create_user(img, words, NULL, 0), NORD_ARGUMENT);
     done("no type", nord_create_indexed(img, words, 0, TEXT("READS"), NULL, 0, 0), 0);
     done("find a file of no type", nord_find_file(img, words, 0, TEXT("READS"), NULL, 0), 0);
@@ -683,6 +763,8 @@ int main(void)
     names();
     there_and_back();
     neither_way();
+    salvages();
+    salvages_not();
     runs();
     converting_steps();
     nulls();

@@ -6,14 +6,14 @@
  *
  * What a caller owes
  *
- * Slices that are lent to one call must not overlap: what a call writes to (the image of a call that changes, `out`, `replies`) may share no
+ * Slices that are lent to one call must not overlap: what a call writes to (the image of a call that changes, `out`, `replies`, `list`) may share no
  * byte with anything else that is lent to it (`img`, `name`, `type`, `data`, `steps`, `text`). Only what is read alone may overlap what is read
  * alone. All that is proved of the calls is proved of slices apart, and no call can see that they are not. So nord_write_page with data that
  * lie partly in the page which it writes answers 0 and stores other words, and nord_create_user with a name that lies in the page which the
  * new user's entry takes answers 0 and leaves an unsound image. Copy such data out of the image first.
  *
- * A slice has all the elements that its length says, each at its type's alignment: words (uint16_t) begin at an even address, steps and
- * replies at one that four divides. Nothing is read or written outside a slice. A slice of length 0 is not looked at, so its pointer may be
+ * A slice has all the elements that its length says, each at its type's alignment: words (uint16_t) begin at an even address, steps,
+ * replies and changes at one that four divides. Nothing is read or written outside a slice. A slice of length 0 is not looked at, so its pointer may be
  * anything, null too: nord_list(img, words, NULL, 0) asks for a length, and a type of no bytes may be NULL, 0.
  *
  * Words in memory are this machine's own numbers. An image file has the high byte of each word first, so on a machine that has the low byte
@@ -51,7 +51,7 @@ extern "C" {
 /* The words of a page. */
 #define NORD_PAGE 1024
 
-/* The number that a call answers: the lowest that applies, where 12 stands right behind 3. */
+/* The number that a call answers: the lowest that applies, where 12, 13 and 14 stand right behind 3. */
 enum {
     NORD_DONE = 0,
     NORD_SIZE = 1,        /* the length is no whole number of pages, or there are fewer than 8 or more than 16,384 */
@@ -65,7 +65,9 @@ enum {
     NORD_ALLOWANCE = 9,   /* given less used is below the pages needed, or below the pages to be taken back */
     NORD_UNRESERVED = 10, /* unreserved is below the system pages needed, or the pages to be given */
     NORD_NO_RUN = 11,     /* no run for a contiguous file */
-    NORD_FILL = 12        /* convert: a short name or type is not in exactly the fill that it starts from; judged right after 3 */
+    NORD_FILL = 12,       /* convert: a short name or type is not in exactly the fill that it starts from; judged right after 3 */
+    NORD_OVERDRAWN = 13,  /* salvage: a user holds more than he was given, or unreserved would be below zero; judged right after 3 */
+    NORD_LIST = 14        /* salvage: the list is too short for the words that change; judged right after 13 */
 };
 
 /* The rules of a sound image, by what they speak of. */
@@ -131,7 +133,7 @@ typedef struct {
 } nord_holder;
 
 /* number: above. rule, place: with NORD_UNSOUND the lowest broken rule and its first place, else zeros. value: with NORD_DONE, of check the
- * pages visited, of find and create the index, of address and grow the data page's number; else 0. first, second: with NORD_RULE_HOLDERS the
+ * pages visited, of find and create the index, of address and grow the data page's number, of salvage the number of changed words; else 0. first, second: with NORD_RULE_HOLDERS the
  * two lowest holders of the page, in the order kind, user, file, position (a third is not told); else free. */
 typedef struct {
     uint32_t number;
@@ -194,8 +196,27 @@ nord_reply nord_note_open(uint16_t *img, size_t words, size_t user, size_t file)
 nord_reply nord_convert_to_apostrophe(uint16_t *img, size_t words);
 nord_reply nord_convert_to_zeros(uint16_t *img, size_t words);
 
-/* The calls of a step, with what each uses of it. Who holds a page (6) and reading a page (16) answer more than a reply has: they are no
- * steps. */
+/* One changed word: word 0 .. 1,023 of a page, its old and its new value. */
+typedef struct {
+    uint32_t page;
+    uint32_t word;
+    uint32_t old_value;
+    uint32_t new_value;
+} nord_change;
+
+/* So many changes are enough for a volume of so many pages: unreserved, a word for each 16 bits, two words for each of 256 users. */
+#define NORD_CHANGES(pages) (2 + ((size_t)(pages) + 15) / 16 + 512)
+
+/* Salvages a volume whose pointers are good and whose bits or counts are not. Where rules 1 to 8 hold, rule 4 without its comparison of used
+ * with given, the bits of all pages are rewritten from what the pointers hold, the used counts of all used users from what their files hold, and
+ * unreserved from the sum: P less the pages given to used users less the system pages. Every word that changes is told in `list`, in ascending
+ * place (by page, then by word), and `value` is their number; the changes past it stay. No other word changes, nor a bit from P on. What is
+ * left is sound, and a second salvage tells of nothing. Answers 1; 3, of these rules alone; 13; 14, if more words would change than `list` has
+ * changes (none is written then, and `value` is 0); or 0. A refusal changes neither the image nor the list. */
+nord_reply nord_salvage(uint16_t *img, size_t words, nord_change *list, size_t changes);
+
+/* The calls of a step, with what each uses of it. Who holds a page (6), reading a page (16) and salvage answer more than a reply has: they are
+ * no steps. */
 enum {
     NORD_CALL_FORMAT = 1,                 /* name, count: the bit page */
     NORD_CALL_CHECK = 2,                  /* nothing */

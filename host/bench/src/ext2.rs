@@ -10,24 +10,27 @@ use std::path::{Path, PathBuf};
 use std::process::{Command, Stdio};
 
 /// Debian has these in /usr/sbin, which is not on every PATH.
-fn tool(name: &str) -> PathBuf {
+pub fn tool(name: &str) -> PathBuf {
     let places = ["/usr/sbin", "/sbin", "/usr/bin"].map(|folder| Path::new(folder).join(name));
     places.into_iter().find(|path| path.exists()).unwrap_or_else(|| name.into())
 }
 
 fn quiet(command: &mut Command) -> io::Result<bool> {
-    Ok(command
-        .stdin(Stdio::null())
-        .stdout(Stdio::null())
-        .stderr(Stdio::null())
-        .status()?
-        .success())
+    Ok(quiet_status(command)? == Some(0))
 }
 
-/// The version that e2fsck tells, if it and mke2fs are there.
+/// Runs a process to its end without a word; gives its status, unless a signal ended it.
+pub fn quiet_status(command: &mut Command) -> io::Result<Option<i32>> {
+    let quiet = command.stdin(Stdio::null()).stdout(Stdio::null()).stderr(Stdio::null());
+    Ok(quiet.status()?.code())
+}
+
+/// The version that e2fsck tells, if it, mke2fs and debugfs are there.
 pub fn version() -> Option<String> {
     let output = Command::new(tool("e2fsck")).arg("-V").output().ok()?;
-    Command::new(tool("mke2fs")).arg("-V").output().ok()?;
+    for other in ["mke2fs", "debugfs"] {
+        Command::new(tool(other)).arg("-V").output().ok()?;
+    }
     let text = String::from_utf8_lossy(&output.stderr).into_owned();
     text.lines().next().map(str::to_string)
 }
@@ -45,7 +48,7 @@ fn populate(folder: &Path, volume: &Volume) -> io::Result<()> {
 }
 
 /// Makes the ext2 image. Its block is 2,048 bytes as a page is, so that both have the same number of data blocks; inodes are those needed.
-fn make_image(scratch: &Scratch, volume: &Volume) -> io::Result<PathBuf> {
+pub fn make_image(scratch: &Scratch, volume: &Volume) -> io::Result<PathBuf> {
     let (folder, image) = (scratch.path("tree"), scratch.path(&format!("{}.ext2", volume.name)));
     populate(&folder, volume)?;
     let (data, files) = (volume.data_bytes() / 2048, volume.file_count() as u64);
@@ -77,7 +80,8 @@ fn process<'a>(mut command: Command) -> Side<'a> {
     side(move || assert!(quiet(&mut command).unwrap_or(false), "a timed process failed: {command:?}"))
 }
 
-fn own_child(task: &str, image: &Path) -> io::Result<Command> {
+/// A process of this program that does one thing with an image.
+pub fn own_child(task: &str, image: &Path) -> io::Result<Command> {
     let mut command = Command::new(std::env::current_exe()?);
     command.arg(task).arg(image);
     Ok(command)

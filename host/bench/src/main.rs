@@ -11,10 +11,12 @@ use std::process::ExitCode;
 
 const USE: &str = "bench [--quick] [--output FILE.md]
 bench searches                   the part on volumes that are nearly full, alone
+bench salvage                    the part on salvage, alone
 bench machine                    the machine and the tools
 bench volumes FOLDER             writes the volumes there, for the next three
 bench check-file IMAGE           a process that reads and checks an image, high byte first
 bench check-mapped IMAGE         the same of an image in this machine's byte order, mapped
+bench salvage-mapped IMAGE       a process that salvages an image in this machine's byte order in place, mapped
 bench once CALL IMAGE proved|second N   asks a call N times (at most 11) of an image, for callgrind";
 
 /// Writes the measured volumes in both byte orders, with what is asked of them.
@@ -70,9 +72,11 @@ fn main() -> ExitCode {
             Ok(())
         }
         ["searches"] => parts::run_searches(Plan::thorough()).map(drop),
+        ["salvage"] => parts::run_salvage(Plan::thorough()).map(drop),
         ["volumes", folder] => write_volumes(folder),
         ["check-file", image] => children::check_file(Path::new(image)).and_then(verdict),
         ["check-mapped", image] => children::check_mapped(Path::new(image)).and_then(verdict),
+        ["salvage-mapped", image] => children::salvage_mapped(Path::new(image)).and_then(verdict),
         ["once", call, image, program, times] => once(call, image, program, times),
         [] | ["--quick"] | ["--output", _] | ["--quick", "--output", _] => measure(&arguments),
         _ => Err(io::Error::other(USE)),

@@ -3,7 +3,7 @@
 use crate::calls::Question;
 use crate::volumes::Volume;
 use memmap2::{Mmap, MmapMut, MmapOptions};
-use std::fs::{self, File};
+use std::fs::{self, File, OpenOptions};
 use std::io::{self, Read};
 use std::path::{Path, PathBuf};
 
@@ -21,6 +21,16 @@ impl Scratch {
         Ok(Scratch {
             folder: folder.canonicalize()?,
         })
+    }
+
+    /// A folder in memory, if there is one with room for so many bytes: what is written through there waits for no disk.
+    pub fn in_memory(bytes: usize) -> Option<Scratch> {
+        let folder = Path::new("/dev/shm").join(format!("nord-bench-{}", std::process::id()));
+        fs::create_dir(&folder).ok()?;
+        let scratch = Scratch { folder };
+        fs::write(scratch.path("room"), vec![0; bytes]).ok()?;
+        fs::remove_file(scratch.path("room")).ok()?;
+        Some(scratch)
     }
 
     pub fn path(&self, name: &str) -> PathBuf {
@@ -85,6 +95,11 @@ pub fn map_native(image: &Path) -> io::Result<Mmap> {
 /// Maps an image in this machine's order privately: what is written is not written to the file.
 pub fn map_private(image: &Path) -> io::Result<MmapMut> {
     unsafe { MmapOptions::new().map_copy(&File::open(image)?) }
+}
+
+/// Maps an image in this machine's order, to change the file.
+pub fn map_shared(image: &Path) -> io::Result<MmapMut> {
+    unsafe { MmapMut::map_mut(&OpenOptions::new().read(true).write(true).open(image)?) }
 }
 
 /// The words of mapped bytes; a mapping starts on a page of the machine, so its words are aligned.

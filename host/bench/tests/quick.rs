@@ -15,6 +15,8 @@ fn a_quick_run_prints_every_table() {
         "Searches for free pages",
         "Runs",
         "Check beside e2fsck",
+        "Salvage beside the check",
+        "Salvage beside e2fsck",
         "Growth of the check",
     ];
     let more = ["Hostile images: check", "Instructions", "Memory beyond the image", "The goals"];
@@ -25,7 +27,13 @@ fn a_quick_run_prints_every_table() {
         .lines()
         .filter(|line| line.starts_with("refusal of a hostile image, time over the full sound check "));
     assert_eq!(refusals.count(), 5, "the hostile images that are refused");
-    let searches = |goal: &str| text.lines().filter(|line| line.starts_with(goal)).count();
-    assert_eq!(searches("search, time over the check's"), 3, "the volumes that are nearly full");
-    assert_eq!(searches("search, time over bit after bit's"), 1, "the full volume");
+    let goals = |goal: &str| text.lines().filter(|line| line.starts_with(goal)).count();
+    assert_eq!(goals("search, time over the check's"), 3, "the volumes that are nearly full");
+    assert_eq!(goals("search, time over bit after bit's"), 1, "the full volume");
+    assert_eq!(goals("salvage, time over the check's"), 8, "four volumes, sound and stale");
+    let beside = goals("salvage, process over e2fsck's that mends");
+    assert!(
+        matches!(beside, 4 | 8) || text.contains("Left out: e2fsck"),
+        "four volumes, on the disk and in memory"
+    );
 }

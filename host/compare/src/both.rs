@@ -1,10 +1,12 @@
 //! One image in two copies: the proved library works on the one, the second program on the other, and after every step they are compared.
 
 use crate::calls::{Answer, Call};
+use crate::lists::{from_second, in_words, to_second};
 use crate::script::{Played, Script};
 use crate::tally::Tally;
 use crate::text::Step;
 use crate::words::PAGE;
+use proved::Change;
 use std::panic::{catch_unwind, AssertUnwindSafe};
 
 /// Stands for the answer of a program that panicked: no call answers so.
@@ -15,10 +17,10 @@ fn no_answer() -> Answer {
 /// The pages of the largest image that the listing program takes.
 const LISTED: usize = 32;
 
-/// What a step answered: the call itself, and the check after it.
-#[derive(Clone, Copy)]
+/// What a step answered: the call itself, with the list that was lent to it, and the check after it.
 pub struct Answered {
     pub call: Answer,
+    pub list: Vec<Change>,
     pub check: Answer,
 }
 
@@ -74,7 +76,15 @@ impl Both {
         }
     }
 
-    /// Makes a call of both and compares all answers and all words; then the same with the check, and the listings of a small image.
+    /// Sets all words in which another image differs from this one.
+    pub fn put_image(&mut self, other: &[u16]) {
+        let words = self.second.iter().zip(other).enumerate().filter(|(_, (old, new))| old != new);
+        let words: Vec<(usize, u16)> = words.map(|(at, (_, new))| (at, *new)).collect();
+        self.put(&words);
+    }
+
+    /// Makes a call of both and compares all answers, all words and all records of a list; then the same with the check, and the listings of
+    /// a small image.
     pub fn call(&mut self, call: Call, tally: &mut Tally) -> Result<Answered, Box<Disagreement>> {
         self.lend(None, call, tally)
     }
@@ -83,11 +93,11 @@ impl Both {
     pub fn lend(&mut self, lent: Option<usize>, call: Call, tally: &mut Tally) -> Result<Answered, Box<Disagreement>> {
         let words = lent.unwrap_or(self.start.len());
         self.steps.push(Step::Call { lent, call: call.clone() });
-        let answer = self.one_call("the call", &call, words)?;
-        let check = self.one_call("the check after the call", &Call::Check, self.start.len())?;
+        let (answer, list) = self.one_call("the call", &call, words)?;
+        let (check, _) = self.one_call("the check after the call", &Call::Check, self.start.len())?;
         self.same_listing(check)?;
         tally.called(call.which(), &answer, &check);
-        Ok(Answered { call: answer, check })
+        Ok(Answered { call: answer, list, check })
     }
 
     /// Plays a script three ways: by a run of each program, and by single calls of the proved library. The number of replies, all replies,
@@ -106,7 +116,7 @@ impl Both {
             Ok(second) => self.same_run("the runs", &proved, &second)?,
             Err(_) => return Err(self.disagreement("the run: the second program panicked".to_string(), no_answer(), no_answer())),
         }
-        let check = self.one_call("the check after the run", &Call::Check, self.start.len())?;
+        let (check, _) = self.one_call("the check after the run", &Call::Check, self.start.len())?;
         self.same_listing(check)?;
         tally.ran(&script, &proved);
         Ok(Ran { played: proved, check })
@@ -137,12 +147,27 @@ impl Both {
     }
 
     /// One call of both, and what they agree on. A panic of the second program is a disagreement, too.
-    fn one_call(&mut self, of: &str, call: &Call, words: usize) -> Result<Answer, Box<Disagreement>> {
-        let proved = call.on_proved(&mut self.proved[..words]);
+    fn one_call(&mut self, of: &str, call: &Call, words: usize) -> Result<(Answer, Vec<Change>), Box<Disagreement>> {
+        let mut list = call.list();
+        let mut other = to_second(&list);
+        let proved = call.on_proved_with(&mut self.proved[..words], &mut list);
         let part = &mut self.second[..words];
-        match catch_unwind(AssertUnwindSafe(|| call.on_second(part))) {
-            Ok(second) => self.agree(of, proved, second).map(|()| proved),
-            Err(_) => self.agree(&format!("{of}: the second program panicked"), proved, no_answer()).map(|()| proved),
+        match catch_unwind(AssertUnwindSafe(|| call.on_second_with(part, &mut other))) {
+            Ok(second) => self.agree(of, proved, second)?,
+            Err(_) => self.agree(&format!("{of}: the second program panicked"), proved, no_answer())?,
+        }
+        self.same_list(of, proved, &list, &from_second(&other))?;
+        Ok((proved, list))
+    }
+
+    /// All records of the two lists are the same, those that no call wrote, too, or the first difference is told.
+    fn same_list(&mut self, of: &str, answer: Answer, proved: &[Change], second: &[Change]) -> Result<(), Box<Disagreement>> {
+        match (0..proved.len()).find(|&n| proved[n] != second[n]) {
+            None => Ok(()),
+            Some(n) => {
+                let [one, two] = [proved, second].map(|list| in_words(&list[n]));
+                Err(self.disagreement(format!("{of}: change {n} of the lists differs: proved {one}, second {two}"), answer, answer))
+            }
         }
     }
 
@@ -162,6 +187,14 @@ impl Both {
     /// Both agree, and yet something is not as it must be: it is told as a disagreement is.
     pub fn wrong(&mut self, what: &str, answer: Answer) -> Box<Disagreement> {
         self.disagreement(what.to_string(), answer, answer)
+    }
+
+    /// What must be so, or it is told as a disagreement is.
+    pub fn demand(&mut self, is_so: bool, what: &str, answer: Answer) -> Result<(), Box<Disagreement>> {
+        if is_so {
+            return Ok(());
+        }
+        Err(self.wrong(what, answer))
     }
 
     /// What is told of a disagreement, with the first word that differs.
@@ -219,6 +252,17 @@ mod tests {
             (Answer { second: holder, ..one }, "position of the second holder"),
         ];
         others.into_iter().for_each(|(two, name)| assert_eq!(one.first_difference(&two), Some(name)));
+    }
+
+    /// A record that differs is seen, where answers and images are the same: the two had another bit set of a page that is free.
+    #[test]
+    fn a_list_that_differs_is_seen() {
+        let mut both = formatted();
+        both.proved[8 * PAGE] |= 1 << 5;
+        both.second[8 * PAGE] |= 1 << 6;
+        let seen = both.call(Call::Salvage { room: 3 }, &mut Tally::default()).err().expect("a disagreement");
+        assert_eq!((seen.word, seen.proved.value), (None, 1));
+        assert!(seen.what.contains("change 0 of the lists differs: proved 8 0 289 257, second 8 0 321 257"), "{}", seen.what);
     }
 
     /// A run that leaves another word, and one that gives another reply, are seen.

@@ -1,8 +1,10 @@
 //! The calls with their arguments, and how each is made of the proved library and of the second program.
 
-use proved::{Holder, Place};
+use crate::lists;
+use proved::{Change, Holder, Place};
 
-/// One call. `Format` without a bit page is the header's nord_format_default. Numbers are as wide as the header has them.
+/// One call. `Format` without a bit page is the header's nord_format_default; `Salvage` is lent a list with room for so many changes. Numbers
+/// are as wide as the header has them.
 #[derive(Clone, Debug, PartialEq)]
 pub enum Call {
     Check,
@@ -25,10 +27,11 @@ pub enum Call {
     NoteOpen { user: usize, file: usize },
     ConvertToApostrophe,
     ConvertToZeros,
+    Salvage { room: usize },
 }
 
 /// The names of the calls, in the order of `Call::which`.
-pub const NAMES: [&str; 21] = [
+pub const NAMES: [&str; 22] = [
     "check",
     "find_user",
     "find_file",
@@ -50,6 +53,7 @@ pub const NAMES: [&str; 21] = [
     "note_open",
     "convert_to_apostrophe",
     "convert_to_zeros",
+    "salvage",
 ];
 
 /// Page data that a line of text can hold: so many words, counting up from the first by 77.
@@ -153,9 +157,9 @@ fn place_of(part: &[u16], image: &[u16]) -> Answer {
     Answer { offset, length: part.len(), ..Answer::default() }
 }
 
-/// Makes a call of one of the two programs, whose functions have the same names and arguments.
+/// Makes a call of one of the two programs, whose functions have the same names and arguments. The changes are a salvage's list.
 macro_rules! made_of {
-    ($program:ident, $call:expr, $image:expr) => {{
+    ($program:ident, $call:expr, $image:expr, $changes:expr) => {{
         use $program::*;
         match $call {
             Call::Check => check($image).into(),
@@ -180,6 +184,7 @@ macro_rules! made_of {
             Call::NoteOpen { user, file } => note_open($image, *user, *file).into(),
             Call::ConvertToApostrophe => convert_to_apostrophe($image).into(),
             Call::ConvertToZeros => convert_to_zeros($image).into(),
+            Call::Salvage { .. } => salvage($image, $changes).into(),
         }
     }};
 }
@@ -209,16 +214,35 @@ impl Call {
             Call::NoteOpen { .. } => 18,
             Call::ConvertToApostrophe => 19,
             Call::ConvertToZeros => 20,
+            Call::Salvage { .. } => 21,
         }
     }
 
-    /// Makes the call of the proved library.
-    pub fn on_proved(&self, image: &mut [u16]) -> Answer {
-        made_of!(proved, self, image)
+    /// The list that is lent to the call; one that is no salvage has none.
+    pub fn list(&self) -> Vec<Change> {
+        match self {
+            Call::Salvage { room } => lists::lent(*room),
+            _ => Vec::new(),
+        }
     }
 
-    /// Makes the call of the second program.
+    /// Makes the call of the proved library, with its list.
+    pub fn on_proved_with(&self, image: &mut [u16], changes: &mut [Change]) -> Answer {
+        made_of!(proved, self, image, changes)
+    }
+
+    /// Makes the call of the second program, with its list.
+    pub fn on_second_with(&self, image: &mut [u16], changes: &mut [second::Change]) -> Answer {
+        made_of!(second, self, image, changes)
+    }
+
+    /// Makes the call of the proved library, for its answer and the image.
+    pub fn on_proved(&self, image: &mut [u16]) -> Answer {
+        self.on_proved_with(image, &mut self.list())
+    }
+
+    /// Makes the call of the second program, for its answer and the image.
     pub fn on_second(&self, image: &mut [u16]) -> Answer {
-        made_of!(second, self, image)
+        self.on_second_with(image, &mut lists::to_second(&self.list()))
     }
 }

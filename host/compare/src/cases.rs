@@ -1,12 +1,13 @@
 //! Cases: a folder for each image that is broken, or that a call refuses, with the answers that both programs must give.
 //! host/cases/README.md has the format.
 
-use crate::both::Both;
+use crate::both::{Answered, Both};
 use crate::calls::Answer;
+use crate::lists::written;
 use crate::report::told;
 use crate::script::Played;
 use crate::tally::Tally;
-use crate::text::{answer, replies, replies_in_words, step, Step};
+use crate::text::{answer_and_changes, answer_and_changes_in_words, replies, replies_in_words, step, Step};
 use crate::words::{to_bytes, PAGE};
 use std::fs;
 use std::path::{Path, PathBuf};
@@ -59,7 +60,7 @@ fn one_case(folder: &Path, tally: &mut Tally) -> Result<String, String> {
                 let ran = both.run(lent, script, tally).map_err(|seen| told(&seen))?;
                 expect_replies(asked, &ran.played, wanted)?;
             }
-            call => expect(&mut both, asked, call, &answer(wanted)?, tally)?,
+            call => expect(&mut both, asked, call, wanted, tally)?,
         }
     }
     Ok(name.trim().to_string())
@@ -107,18 +108,17 @@ fn repeated(line: &str) -> Result<(u32, &str), String> {
 }
 
 fn done(both: &mut Both, made: Step, tally: &mut Tally) -> Result<(), String> {
-    match ask(both, made, tally)? {
+    match ask(both, made, tally)?.call {
         Answer { number: 0, .. } => Ok(()),
         refused => Err(format!("was refused: {refused}")),
     }
 }
 
 /// A call of both programs, which must agree.
-fn ask(both: &mut Both, asked: Step, tally: &mut Tally) -> Result<Answer, String> {
+fn ask(both: &mut Both, asked: Step, tally: &mut Tally) -> Result<Answered, String> {
     let Step::Call { lent, call } = asked else { return Err("only calls are answered".to_string()) };
     lendable(both, lent)?;
-    let answered = both.lend(lent, call, tally).map_err(|seen| told(&seen))?;
-    Ok(answered.call)
+    both.lend(lent, call, tally).map_err(|seen| told(&seen))
 }
 
 /// So many words can be lent.
@@ -129,12 +129,14 @@ fn lendable(both: &Both, lent: Option<usize>) -> Result<(), String> {
     }
 }
 
-/// A line of expect: the answer is as wanted, and a refused call has changed nothing.
-fn expect(both: &mut Both, asked: &str, call: Step, wanted: &Answer, tally: &mut Tally) -> Result<(), String> {
+/// A line of expect: the answer is as wanted, so are the changes in a list, whose other records stay, and a refused call has changed nothing.
+fn expect(both: &mut Both, asked: &str, call: Step, wanted: &str, tally: &mut Tally) -> Result<(), String> {
     let before = both.image().to_vec();
-    let given = ask(both, call, tally)?;
-    if given != *wanted {
-        return Err(format!("`{asked}` gives {given}, {wanted} is expected"));
+    let (answer, changes) = answer_and_changes(wanted)?;
+    let Answered { call: given, list, .. } = ask(both, call, tally)?;
+    if given != answer || list.len() < changes.len() || list != written(list.len(), &changes) {
+        let told = list.get(..given.value as usize).unwrap_or_default();
+        return Err(format!("`{asked}` gives {},{wanted} is expected", answer_and_changes_in_words(&given, told)));
     }
     if given.number != 0 && both.image() != before {
         return Err(format!("`{asked}` was refused and changed the image"));

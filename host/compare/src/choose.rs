@@ -9,13 +9,13 @@ use crate::words::{ENDS, PAGE};
 /// What a sequence of calls is mostly about; each is a weight for every call in the order of `calls::NAMES`.
 pub type Profile = [u32; NAMES.len()];
 
-pub const MIXED: Profile = [1, 2, 2, 3, 4, 3, 0, 0, 4, 2, 6, 3, 6, 5, 14, 6, 4, 3, 2, 1, 1];
-pub const GROWING: Profile = [0, 1, 1, 1, 2, 1, 0, 0, 2, 0, 5, 1, 4, 2, 30, 3, 1, 1, 1, 0, 0];
-pub const SHRINKING: Profile = [0, 0, 1, 1, 2, 1, 0, 0, 1, 3, 1, 3, 1, 1, 3, 20, 6, 1, 1, 1, 1];
-pub const RUNS: Profile = [0, 0, 1, 2, 2, 1, 0, 0, 1, 0, 3, 1, 1, 14, 2, 1, 7, 1, 1, 0, 0];
-pub const USERS: Profile = [0, 2, 0, 0, 2, 0, 0, 0, 20, 6, 4, 2, 2, 1, 1, 0, 1, 0, 0, 1, 1];
-pub const FILES: Profile = [0, 0, 4, 1, 2, 1, 0, 0, 1, 1, 2, 1, 20, 4, 4, 1, 8, 1, 2, 1, 1];
-pub const ASKING: Profile = [1, 4, 4, 6, 8, 6, 0, 0, 1, 1, 1, 1, 1, 1, 1, 1, 1, 2, 6, 1, 1];
+pub const MIXED: Profile = [1, 2, 2, 3, 4, 3, 0, 0, 4, 2, 6, 3, 6, 5, 14, 6, 4, 3, 2, 1, 1, 1];
+pub const GROWING: Profile = [0, 1, 1, 1, 2, 1, 0, 0, 2, 0, 5, 1, 4, 2, 30, 3, 1, 1, 1, 0, 0, 0];
+pub const SHRINKING: Profile = [0, 0, 1, 1, 2, 1, 0, 0, 1, 3, 1, 3, 1, 1, 3, 20, 6, 1, 1, 1, 1, 1];
+pub const RUNS: Profile = [0, 0, 1, 2, 2, 1, 0, 0, 1, 0, 3, 1, 1, 14, 2, 1, 7, 1, 1, 0, 0, 1];
+pub const USERS: Profile = [0, 2, 0, 0, 2, 0, 0, 0, 20, 6, 4, 2, 2, 1, 1, 0, 1, 0, 0, 1, 1, 1];
+pub const FILES: Profile = [0, 0, 4, 1, 2, 1, 0, 0, 1, 1, 2, 1, 20, 4, 4, 1, 8, 1, 2, 1, 1, 1];
+pub const ASKING: Profile = [1, 4, 4, 6, 8, 6, 0, 0, 1, 1, 1, 1, 1, 1, 1, 1, 1, 2, 6, 1, 1, 1];
 pub const ANY: Profile = [1; NAMES.len()];
 
 pub const PROFILES: [Profile; 7] = [MIXED, GROWING, SHRINKING, RUNS, USERS, FILES, ASKING];
@@ -56,8 +56,15 @@ impl Choice<'_> {
             13 => self.create_contiguous(),
             19 => Call::ConvertToApostrophe,
             20 => Call::ConvertToZeros,
+            21 => Call::Salvage { room: self.room() },
             n => self.on_file(n),
         }
+    }
+
+    /// Room for changes: none, few, or as many as there can be.
+    fn room(&mut self) -> usize {
+        let few = self.random.below(6) as usize;
+        *self.random.pick(&[0, few, few, proved::most_changes(self.scene.pages as usize)])
     }
 
     /// How many words to lend: mostly all, seldom a length that is wrong or that cuts the volume.

@@ -1,5 +1,13 @@
 //! The plan of a run: a cycle has every kind of round, on volumes of every size that matters; a run is at least one cycle.
 
+/// The volume that a round of salvages damages: with entries on several pages, with a long file, or one that no calls give.
+#[derive(Clone, Copy)]
+pub enum Ground {
+    Entries,
+    LongFile,
+    Scattered,
+}
+
 /// What a round does.
 #[derive(Clone, Copy)]
 pub enum Kind {
@@ -47,6 +55,12 @@ pub enum Kind {
     Converts { scattered: bool },
     /// So many volumes converted there and back.
     ThereAndBack { volumes: u32 },
+    /// Salvages, with a damaged volume for each of their edges, so often.
+    Salvages { ground: Ground, times: u32 },
+    /// A few salvages of a volume on which each call takes long.
+    SalvagesLarge,
+    /// So many volumes, each damaged by chance several times and salvaged.
+    Salvaged { volumes: u32 },
 }
 
 /// How a round gets its volume's size: one of its own, or by chance between two.
@@ -112,6 +126,13 @@ pub const CYCLE: &[(u32, Kind, Size)] = &[
     (2, Kind::Converts { scattered: false }, Size::Between(33, 48)),
     (3, Kind::Converts { scattered: true }, Size::Between(26, 60)),
     (5, Kind::ThereAndBack { volumes: 50 }, Size::Between(16, 160)),
+    (3, Kind::Salvages { ground: Ground::Entries, times: 2 }, Size::Between(26, 64)),
+    (8, Kind::Salvages { ground: Ground::Scattered, times: 2 }, Size::Between(16, 160)),
+    (3, Kind::Salvages { ground: Ground::Scattered, times: 2 }, Size::Of(8)),
+    (3, Kind::Salvages { ground: Ground::Scattered, times: 2 }, Size::Of(32)),
+    (3, Kind::Salvages { ground: Ground::LongFile, times: 2 }, Size::Of(1_100)),
+    (1, Kind::SalvagesLarge, Size::Of(16_384)),
+    (10, Kind::Salvaged { volumes: 5 }, Size::Between(8, 160)),
 ];
 
 /// One round: its kind and size by its number in the cycle.

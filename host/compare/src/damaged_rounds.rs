@@ -126,9 +126,13 @@ impl Round<'_> {
         let (call, lent) = (choice.call(&ANY), choice.lent(30));
         let is_format = matches!(call, Call::Format { .. });
         let answered = both.lend(lent, call, self.tally)?;
-        if !is_format && answered.check.number == 3 {
+        let is_damaged = !is_format && answered.check.number == 3;
+        if is_damaged {
             self.tally.damaged(&answered.check);
             self.hit(&answered.check, aim);
+        }
+        if is_damaged && self.random.one_in(4) {
+            self.salvaged_as_checked(both, &answered.check)?;
         }
         both.restart();
         Ok(())

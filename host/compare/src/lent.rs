@@ -151,5 +151,6 @@ fn numbers_of(call: &Call) -> proved::Step {
         Call::NoteOpen { user, file: f } => file(number::NOTE_OPEN, user, f),
         Call::ConvertToApostrophe => of(number::CONVERT_TO_APOSTROPHE),
         Call::ConvertToZeros => of(number::CONVERT_TO_ZEROS),
+        Call::Salvage { room } => counted(room, of(22)),
     }
 }

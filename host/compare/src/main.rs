@@ -13,6 +13,7 @@ mod damaged_rounds;
 mod edges;
 mod fills;
 mod lent;
+mod lists;
 mod meets;
 mod name_rounds;
 mod names;
@@ -21,6 +22,9 @@ mod random;
 mod report;
 mod rounds;
 mod run;
+mod salvage_rounds;
+mod salvaged;
+mod salvages;
 mod scattered;
 mod scene;
 mod script;
@@ -28,6 +32,7 @@ mod script_rounds;
 mod search_rounds;
 mod searched;
 mod spots;
+mod stale;
 mod tally;
 mod text;
 mod there_and_back;
@@ -45,6 +50,7 @@ compare: the proved library against the second program, every answer and every w
     compare [--seed N] [--first N] [--seconds S | --rounds N | --damaged N]
     compare --short
     compare [--seed N] [--first N] --there-and-back N
+    compare [--seed N] [--first N] --salvaged N
     compare --cases FOLDER
     compare --replay FOLDER
 
@@ -57,6 +63,9 @@ compare: the proved library against the second program, every answer and every w
   --there-and-back N
                    no rounds, but so many volumes converted there and back: done both times, no other words changed between than those
                    of names and types, and the same words in the end; --first is the number of the first volume
+  --salvaged N     no rounds, but so many damaged images salvaged, bits and counts of theirs stale by chance: each changed word is told, no
+                   other changes, the image is sound then and as it was before the damage, and a second salvage tells of nothing; or it
+                   is refused as it must be, with nothing changed; --first is the number of the first volume, of which 20 images are made
   --cases FOLDER   run every case in the folder through both (host/cases/README.md)
   --replay FOLDER  go through a kept disagreement again
 
@@ -68,6 +77,7 @@ enum Asked {
     Help,
     Run(Plan),
     ThereAndBack { volumes: u64, seed: u64, first: u64 },
+    Salvaged { images: u64, seed: u64, first: u64 },
     Cases(String),
     Replay(String),
 }
@@ -87,6 +97,7 @@ fn main() -> ExitCode {
         }
         Asked::Run(plan) => Ok(run::run(&plan)),
         Asked::ThereAndBack { volumes, seed, first } => Ok(there_and_back::run(seed, first, volumes)),
+        Asked::Salvaged { images, seed, first } => Ok(salvaged::run(seed, first, images)),
         Asked::Cases(folder) => cases::run(&folder),
         Asked::Replay(folder) => report::replay(&folder),
     };
@@ -101,7 +112,8 @@ fn main() -> ExitCode {
 }
 
 fn read_arguments(mut arguments: impl Iterator<Item = String>) -> Result<Asked, String> {
-    let (mut seed, mut first, mut until, mut there_and_back) = (None, 0, Until::Cycles(1), None);
+    let (mut seed, mut first, mut until) = (None, 0, Until::Cycles(1));
+    let (mut there_and_back, mut salvaged) = (None, None);
     while let Some(argument) = arguments.next() {
         let mut value = || arguments.next().ok_or(format!("{argument} wants a value"));
         match argument.as_str() {
@@ -113,15 +125,17 @@ fn read_arguments(mut arguments: impl Iterator<Item = String>) -> Result<Asked, 
             "--rounds" => until = Until::Rounds(number(&value()?)?),
             "--damaged" => until = Until::Damaged(number(&value()?)?),
             "--there-and-back" => there_and_back = Some(number(&value()?)?),
+            "--salvaged" => salvaged = Some(number(&value()?)?),
             "--cases" => return Ok(Asked::Cases(value()?)),
             "--replay" => return Ok(Asked::Replay(value()?)),
             other => return Err(format!("{other} is no argument")),
         }
     }
     let seed = seed.unwrap_or_else(seed_by_clock);
-    Ok(match there_and_back {
-        Some(volumes) => Asked::ThereAndBack { volumes, seed, first },
-        None => Asked::Run(Plan { seed, first, until }),
+    Ok(match (there_and_back, salvaged) {
+        (Some(volumes), _) => Asked::ThereAndBack { volumes, seed, first },
+        (_, Some(images)) => Asked::Salvaged { images, seed, first },
+        _ => Asked::Run(Plan { seed, first, until }),
     })
 }
 

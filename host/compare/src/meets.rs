@@ -54,7 +54,12 @@ fn wide(call: &Call) -> Vec<Met> {
         }
         Call::WhoHolds { page } => pages = Some(*page),
         Call::Format { bit_page, .. } => pages = *bit_page,
-        Call::Check | Call::FindUser { .. } | Call::CreateUser { .. } | Call::ConvertToApostrophe | Call::ConvertToZeros => {}
+        Call::Check
+        | Call::FindUser { .. }
+        | Call::CreateUser { .. }
+        | Call::ConvertToApostrophe
+        | Call::ConvertToZeros
+        | Call::Salvage { .. } => {}
     }
     let all =
         [(Met::WideUser, users), (Met::WideFile, files), (Met::WidePosition, positions), (Met::WidePage, pages), (Met::WideCount, counts)];

@@ -91,7 +91,8 @@ fn again(both: &mut Both, step: text::Step) -> Result<String, Box<Disagreement>>
         }
         text::Step::Call { lent, call } => {
             let answered = both.lend(lent, call, tally)?;
-            format!("{}, then check {}", answered.call, answered.check)
+            let changes = answered.list.get(..answered.call.value as usize).unwrap_or_default();
+            format!("{}, then check {}", text::answer_and_changes_in_words(&answered.call, changes), answered.check)
         }
         text::Step::Run { lent, script } => {
             let ran = both.run(lent, script, tally)?;

@@ -8,6 +8,7 @@ use crate::cycle::{Kind, Size};
 use crate::fills::{refill, refilled};
 use crate::meets::{leaves, meets};
 use crate::random::Random;
+use crate::salvage_rounds::told_all;
 use crate::scattered::scattered;
 use crate::scene::Scene;
 use crate::tally::{Met, Tally};
@@ -52,6 +53,9 @@ impl Round<'_> {
             Kind::Names => self.names(pages),
             Kind::Converts { scattered } => self.converts(pages, scattered),
             Kind::ThereAndBack { volumes } => self.there_and_back(pages, volumes),
+            Kind::Salvages { ground, times } => self.salvages(ground, pages, times),
+            Kind::SalvagesLarge => self.salvages_large(pages),
+            Kind::Salvaged { volumes } => self.salvaged(pages, volumes),
         }
     }
 
@@ -72,7 +76,11 @@ impl Round<'_> {
     /// One call, and what it met.
     fn one(&mut self, both: &mut Both, scene: &Scene, lent: Option<usize>, call: Call) -> Result<Answered, Box<Disagreement>> {
         let met = meets(both.image(), scene, &call);
+        let before = matches!(call, Call::Salvage { .. }).then(|| both.image().to_vec());
         let answered = both.lend(lent, call, self.tally)?;
+        if let Some(before) = before {
+            told_all(both, &before, lent, &answered)?;
+        }
         for (what, number) in met {
             if answered.call.number == number && lent.is_none() {
                 self.tally.met(what);
@@ -184,6 +192,7 @@ impl Round<'_> {
         self.plain(&mut both, Call::Grow { user, file })?;
         self.calls(&mut both, &ASKING, 4)?;
         self.calls(&mut both, &MIXED, 4)?;
+        self.stale_by_chance(both.image(), 2)?;
         self.all_converted(both.image())
     }
 
@@ -265,7 +274,8 @@ impl Round<'_> {
         let circle = self.random.one_in(2);
         shared_blocks(&mut image, circle);
         let mut both = Both::new(image.clone());
-        both.call(Call::WhoHolds { page: 10_000 }, self.tally)?;
+        let check = both.call(Call::WhoHolds { page: 10_000 }, self.tally)?.check;
+        self.salvaged_as_checked(&mut both, &check)?;
         let last = 1_000 * PAGE + 32 * 65_535;
         both.put(&[(last + POINTER + 1, 16_384)]);
         both.call(Call::Grow { user: 255, file: 255 }, self.tally)?;

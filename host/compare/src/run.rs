@@ -32,7 +32,7 @@ pub fn run(plan: &Plan) -> bool {
     let mut tally = Tally::default();
     let mut round = plan.first;
     while !is_over(plan, round - plan.first, begun, &tally) {
-        progress(round, &tally, begun);
+        progress(&format!("round {round}, {} calls compared", tally.compared()), begun);
         if !one_round(plan.seed, round, &mut tally) {
             return false;
         }
@@ -102,15 +102,15 @@ fn enough(plan: &Plan, tally: &Tally) -> bool {
     short.is_empty()
 }
 
-/// How far the run is, on a terminal only.
-fn progress(round: u64, tally: &Tally, begun: Instant) {
+/// How far it is, on a terminal only.
+pub fn progress(words: &str, begun: Instant) {
     if std::io::stderr().is_terminal() {
-        eprint!("\r\x1b[Kround {round}, {} calls compared, {:.0} s", tally.compared(), begun.elapsed().as_secs_f64());
+        eprint!("\r\x1b[K{words}, {:.0} s", begun.elapsed().as_secs_f64());
         let _ = std::io::stderr().flush();
     }
 }
 
-fn clear_progress() {
+pub fn clear_progress() {
     if std::io::stderr().is_terminal() {
         eprint!("\r\x1b[K");
     }

@@ -120,7 +120,7 @@ impl Asked {
 /// Whether a run can make the call.
 pub fn is_step(call: &Call) -> bool {
     match call {
-        Call::WhoHolds { .. } | Call::ReadPage { .. } => false,
+        Call::WhoHolds { .. } | Call::ReadPage { .. } | Call::Salvage { .. } => false,
         Call::Check => second::CHECK_IS_A_STEP,
         _ => true,
     }

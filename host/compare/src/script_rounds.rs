@@ -13,7 +13,7 @@ use crate::tally::Met;
 use crate::volumes::*;
 
 /// All calls that a run can make, formats among them, and now and then one that it cannot.
-const SCRIPTED: Profile = [2, 2, 2, 3, 1, 1, 1, 1, 6, 2, 6, 2, 8, 4, 16, 5, 2, 6, 3, 2, 2];
+const SCRIPTED: Profile = [2, 2, 2, 3, 1, 1, 1, 1, 6, 2, 6, 2, 8, 4, 16, 5, 2, 6, 3, 2, 2, 1];
 
 /// Numbers that are no call's, and what is added to a call's for one: it is the call's if only its last byte or word is looked at.
 const NO_CALLS: [u32; 6] = [0, 6, 16, 22, u32::MAX - 1, u32::MAX];

@@ -5,14 +5,18 @@ use crate::calls::{Answer, NAMES};
 use crate::converts::ConvertEdges;
 use crate::edges::Edges;
 use crate::names::NameEdges;
+use crate::salvages::SalvageEdges;
 use crate::script::{is_step, Asked, Played, Script};
 use crate::spots::{Spot, SPOTS};
 use crate::twice::{pairs, FILE_SUBINDEX};
 use std::collections::BTreeMap;
 use std::fmt::Write;
 
-/// The numbers that a call can answer: 0 to 12.
-pub const NUMBERS: usize = 13;
+/// The numbers that a call can answer: 0 to 14.
+pub const NUMBERS: usize = 15;
+
+/// Those of salvage alone, which is no step.
+const OF_SALVAGE: [usize; 2] = [13, 14];
 
 /// How often at least each of them, each rule 1 to 10, and each rule by damage aimed at it.
 const EACH_NUMBER: u64 = 50;
@@ -70,9 +74,11 @@ pub enum Met {
     TwoUsers,
     FromZeros,
     FromApostrophe,
+    SalvageAsCheck,
+    SalvageNotAsCheck,
 }
 
-const MINIMUMS: [(Met, &str, u64); 38] = [
+const MINIMUMS: [(Met, &str, u64); 40] = [
     (Met::FilePast512, "files grown past 512 pages", 2),
     (Met::FilePast1024, "files grown past 1,024 pages", 2),
     (Met::BackTo512, "files shrunk back to 512 pages", 2),
@@ -111,6 +117,8 @@ const MINIMUMS: [(Met, &str, u64); 38] = [
     (Met::TwoUsers, "two holders of two users", 20),
     (Met::FromZeros, "volumes of old fill converted there and back", 100),
     (Met::FromApostrophe, "volumes of new fill converted there and back", 100),
+    (Met::SalvageAsCheck, "damaged images whose salvage told what the check tells", 1_000),
+    (Met::SalvageNotAsCheck, "damaged images that break rule 9 or 10 alone, not refused with 3 by salvage", 200),
 ];
 
 /// How often at least each number came to a step of a run, and each call that can be one was done as one.
@@ -144,6 +152,8 @@ pub struct Tally {
     pub names: NameEdges,
     /// The edges of the conversions.
     pub converts: ConvertEdges,
+    /// The edges of salvage.
+    pub salvages: SalvageEdges,
     met: BTreeMap<Met, u64>,
 }
 
@@ -228,7 +238,7 @@ impl Tally {
             }
         };
         (0..NUMBERS).for_each(|n| demand(format!("number {n}"), by_number(&self.calls, n), EACH_NUMBER));
-        (0..NUMBERS).for_each(|n| demand(format!("number {n} to a step"), by_number(&self.steps, n), EACH_STEP_NUMBER));
+        step_numbers().for_each(|n| demand(format!("number {n} to a step"), by_number(&self.steps, n), EACH_STEP_NUMBER));
         (1..11).for_each(|rule| demand(format!("rule {rule}"), self.rules[rule], EACH_RULE));
         (1..11).for_each(|rule| demand(format!("damage aimed at rule {rule}"), self.aimed[rule], EACH_AIMED));
         for (name, call) in NAMES.iter().zip(&self.calls) {
@@ -250,7 +260,7 @@ impl Tally {
             demand(words.to_string(), self.times(what), least);
         }
         let edges = self.edges.demands().into_iter().chain(self.names.demands()).chain(self.converts.demands());
-        edges.for_each(|(words, met, least)| demand(words, met, least));
+        edges.chain(self.salvages.demands()).for_each(|(words, met, least)| demand(words, met, least));
         short
     }
 
@@ -272,7 +282,14 @@ impl Tally {
         for (what, words, _) in MINIMUMS {
             let _ = writeln!(out, "{words}: {}", self.times(what));
         }
-        out + "\n" + &self.edges.summary() + "\n" + &self.names.summary() + "\n" + &self.converts.summary()
+        out + "\n"
+            + &self.edges.summary()
+            + "\n"
+            + &self.names.summary()
+            + "\n"
+            + &self.converts.summary()
+            + "\n"
+            + &self.salvages.summary()
     }
 
     /// How often each number was answered, and each rule was the lowest broken one: a line for a run of cases.
@@ -280,6 +297,13 @@ impl Tally {
         let numbers: Vec<String> = (0..NUMBERS).map(|n| format!("{n}: {}", by_number(&self.calls, n))).collect();
         let rules: Vec<String> = (1..11).map(|rule| format!("{rule}: {}", self.rules[rule])).collect();
         format!("by number {}; by lowest rule {}", numbers.join(", "), rules.join(", "))
+    }
+
+    /// How often a salvage was answered with each number.
+    pub fn salvaged_in_words(&self) -> String {
+        let row = NAMES.iter().position(|name| *name == "salvage").map_or([0; NUMBERS], |which| self.calls[which]);
+        let met = (0..NUMBERS).filter(|&number| row[number] > 0).map(|number| format!("{number}: {}", row[number]));
+        format!("salvages by number, second ones among them: {}", met.collect::<Vec<String>>().join(", "))
     }
 
     /// The sizes that every run has, each; the others together.
@@ -307,9 +331,14 @@ fn holders_met(check: &Answer) -> Option<Met> {
     })
 }
 
+/// The numbers that a step can answer.
+fn step_numbers() -> impl Iterator<Item = usize> {
+    (0..NUMBERS).filter(|number| !OF_SALVAGE.contains(number))
+}
+
 /// Whether a run can make the call of this name.
 fn can_be_a_step(name: &str) -> bool {
-    !["who_holds", "read_page"].contains(&name) && (name != "check" || second::CHECK_IS_A_STEP)
+    !["who_holds", "read_page", "salvage"].contains(&name) && (name != "check" || second::CHECK_IS_A_STEP)
 }
 
 fn by_number(rows: &[[u64; NUMBERS]], number: usize) -> u64 {
@@ -336,13 +365,14 @@ mod tests {
     use super::*;
 
     /// A run that met nothing is told so for each number, each rule twice, each call, each kind of place and pair of holders, each size,
-    /// each edge, and each edge of a search, of a name and of a conversion, most of them twice.
+    /// each edge, and each edge of a search, of a name and of a conversion, most of them twice, and each of salvage.
     #[test]
     fn nothing_is_too_little() {
         let steps = NAMES.into_iter().filter(|name| can_be_a_step(name)).count();
-        let wanted = 2 * NUMBERS + 10 + 10 + NAMES.len() + steps + SPOTS.len() + pairs().len() + SIZES.len() + MINIMUMS.len();
+        let wanted =
+            NUMBERS + step_numbers().count() + 10 + 10 + NAMES.len() + steps + SPOTS.len() + pairs().len() + SIZES.len() + MINIMUMS.len();
         let wanted = wanted + Edges::default().demands().len() + NameEdges::default().demands().len();
-        let wanted = wanted + ConvertEdges::default().demands().len();
+        let wanted = wanted + ConvertEdges::default().demands().len() + SalvageEdges::default().demands().len();
         assert_eq!(Tally::default().too_little().len(), wanted);
     }
 }

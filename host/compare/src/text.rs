@@ -2,9 +2,10 @@
 //! the forms.
 
 use crate::calls::{Answer, Call, Data};
+use crate::lists::in_words;
 use crate::script::{Asked, Part, Played, Script};
 use crate::words::PAGE;
-use proved::{Holder, Place};
+use proved::{Change, Holder, Place};
 use std::fmt;
 use std::str::FromStr;
 
@@ -103,6 +104,7 @@ fn call(name: &str, words: &mut Words) -> Result<Call, String> {
         "open" => Call::NoteOpen { user: words.number()?, file: words.number()? },
         "convert-to-apostrophe" => Call::ConvertToApostrophe,
         "convert-to-zeros" => Call::ConvertToZeros,
+        "salvage" => Call::Salvage { room: words.number()? },
         other => return Err(format!("{other} is no call")),
     })
 }
@@ -131,6 +133,26 @@ pub fn answer(line: &str) -> Result<Answer, String> {
 
 fn holder(words: &mut Words) -> Result<Holder, String> {
     Ok(Holder { kind: words.number()?, user: words.number()?, file: words.number()?, position: words.number()? })
+}
+
+/// An answer, and then, each behind a `;`, the changes that a salvage wrote to its list.
+pub fn answer_and_changes(line: &str) -> Result<(Answer, Vec<Change>), String> {
+    let mut parts = line.split(';');
+    let first = answer(parts.next().unwrap_or(""))?;
+    Ok((first, parts.map(change).collect::<Result<Vec<Change>, String>>()?))
+}
+
+fn change(line: &str) -> Result<Change, String> {
+    let mut words = Words::of(line)?;
+    let change = Change { page: words.number()?, word: words.number()?, old: words.number()?, new: words.number()? };
+    words.end()?;
+    Ok(change)
+}
+
+/// An answer and some changes, as `answer_and_changes` reads them.
+pub fn answer_and_changes_in_words(answer: &Answer, changes: &[Change]) -> String {
+    let changes: Vec<String> = changes.iter().map(|change| format!(" ; {}", in_words(change))).collect();
+    format!("{answer}{}", changes.concat())
 }
 
 /// The replies of a run: its answers with `;` between them, `none` where no step was made.
@@ -292,6 +314,7 @@ impl fmt::Display for Call {
             Call::NoteOpen { user, file } => write!(out, "open {user} {file}"),
             Call::ConvertToApostrophe => write!(out, "convert-to-apostrophe"),
             Call::ConvertToZeros => write!(out, "convert-to-zeros"),
+            Call::Salvage { room } => write!(out, "salvage {room}"),
         }
     }
 }
@@ -321,7 +344,7 @@ impl fmt::Display for Answer {
 
 #[cfg(test)]
 mod tests {
-    use super::{answer, replies, replies_in_words, step, Played};
+    use super::{answer, answer_and_changes, answer_and_changes_in_words, replies, replies_in_words, step, Played};
 
     /// What is kept of a disagreement is read again as it was.
     #[test]
@@ -349,6 +372,8 @@ mod tests {
             "open 0 0",
             "convert-to-apostrophe",
             "lend 8191 convert-to-zeros",
+            "salvage 520",
+            "lend 7168 salvage 0",
             "give 4294967297 1",
             "run 3",
             "run 3 user A\\x3B ; give 0 5 ; no-call 16 grow 0 0 ; outside name 1 find-user A ; write 0 0 0 5 1024",
@@ -362,7 +387,18 @@ mod tests {
 
     #[test]
     fn wrong_lines_are_no_steps() {
-        let calls = ["", "grow 0", "grow 0 0 0", "word 0 0 65536", "user A\\xG0", "user A\\x4", "nothing", "convert-to-zeros 0"];
+        let calls = [
+            "",
+            "grow 0",
+            "grow 0 0 0",
+            "word 0 0 65536",
+            "user A\\xG0",
+            "user A\\x4",
+            "nothing",
+            "convert-to-zeros 0",
+            "salvage",
+            "salvage 1 1",
+        ];
         for wrong in calls.into_iter().chain(["run", "run 1 ;", "run 1 outside"]) {
             assert!(step(wrong).is_err(), "{wrong}");
         }
@@ -373,6 +409,17 @@ mod tests {
         for line in ["none", "0", "0 ; 0 value 5 ; 3 rule 10 place 0 1022"] {
             let replies = replies(line).expect("replies");
             assert_eq!(replies_in_words(&Played { made: replies.len(), replies }), line);
+        }
+    }
+
+    #[test]
+    fn changes_are_read_as_they_are_written() {
+        for line in ["0", "14", "0 value 2 ; 2 17 3 2 ; 8 0 351 383"] {
+            let (answer, changes) = answer_and_changes(line).expect("an answer and changes");
+            assert_eq!(answer_and_changes_in_words(&answer, &changes), line);
+        }
+        for wrong in ["0 ;", "0 value 1 ; 2 17 3", "0 value 1 ; 2 17 3 2 1", ""] {
+            assert!(answer_and_changes(wrong).is_err(), "{wrong}");
         }
     }
 

@@ -1,7 +1,7 @@
 //! Volumes by chance, all in one fill, converted there and back: done both times, the words of names and types alone changed between, the
 //! volume sound at each point, and in the end the same words as at the start.
 
-use crate::both::{Both, Disagreement};
+use crate::both::Both;
 use crate::calls::{Answer, Call};
 use crate::converts::{all_filled, Aims, Edge, Way};
 use crate::fills::Fill;
@@ -55,18 +55,18 @@ impl Round<'_> {
         let mut both = Both::new(start.clone());
         let calls = [way.call(), way.back().call()];
         let first = both.call(Call::Check, self.tally)?.call;
-        demand(&mut both, first.number == 0, "the volume is unsound before the first conversion", first)?;
+        both.demand(first.number == 0, "the volume is unsound before the first conversion", first)?;
         for (call, wanted) in calls.iter().zip([&between, &start]) {
             let answered = both.call(call.clone(), self.tally)?;
-            demand(&mut both, answered.call == Answer::default(), "a conversion is not just done", answered.call)?;
-            demand(&mut both, answered.check == first, "the check after a conversion is another", answered.check)?;
+            both.demand(answered.call == Answer::default(), "a conversion is not just done", answered.call)?;
+            both.demand(answered.check == first, "the check after a conversion is another", answered.check)?;
             let right = both.image() == wanted.as_slice();
-            demand(&mut both, right, "a conversion left other words", answered.call)?;
+            both.demand(right, "a conversion left other words", answered.call)?;
         }
         let script = Script { room: 2, asked: calls.map(Asked::Call).to_vec() };
         let played = both.run(None, script, self.tally)?.played;
         let right = played.made == 2 && played.replies.iter().all(|reply| *reply == Answer::default()) && both.image() == start.as_slice();
-        demand(&mut both, right, "a run there and back is not just done, or left other words", Answer::default())?;
+        both.demand(right, "a run there and back is not just done, or left other words", Answer::default())?;
         self.tally.met(if way == Way::ToApostrophe { Met::FromZeros } else { Met::FromApostrophe });
         Ok(())
     }
@@ -99,14 +99,6 @@ impl Round<'_> {
             }
         }
     }
-}
-
-/// What must be so, or it is told as a disagreement is.
-fn demand(both: &mut Both, is_so: bool, words: &str, answer: Answer) -> Result<(), Box<Disagreement>> {
-    if is_so {
-        return Ok(());
-    }
-    Err(both.wrong(words, answer))
 }
 
 #[cfg(test)]

@@ -72,6 +72,7 @@ pub enum Call {
     Open,
     ToApostrophe,
     ToZeros,
+    Salvage,
 }
 
 impl Call {
@@ -196,6 +197,8 @@ fn why(number: u32, call: Call) -> &'static str {
             Call::ToZeros => "one apostrophe and then zeros are wanted behind every short name and type",
             _ => "zeros alone are wanted behind every short name and type",
         },
+        13 => "a user holds more than he was given, or unreserved would be below zero",
+        14 => "the list is too short for the words that change",
         _ => "no reason is known for this number",
     }
 }

@@ -17,7 +17,7 @@ const NAMES: &str =
 A name is 1 to 16 of A-Z, 0-9 and hyphen, a type 0 to 4 of them. The apostrophe that ends a short one in an image is no part of it: it is
 never shown, and a name given with it is refused (2).
 A file is a whole number of pages of 2,048 bytes. Images are high byte first, 8 to 16,384 pages.
-Exit status: 0 done; 1 to 12 the library's refusal; 64 wrong use; 74 input or output; 75 locked or changed by somebody else.
+Exit status: 0 done; 1 to 14 the library's refusal; 64 wrong use; 74 input or output; 75 locked or changed by somebody else.
 A refused or failed command leaves the image as it was. `nord help COMMAND` has an example for each command.";
 
 /// A command that asks an image and changes nothing.
@@ -41,6 +41,19 @@ pub struct Change {
     /// How long to wait for another writer of this image; 0 fails at once
     #[arg(long, value_name = "SECONDS", default_value_t = 60)]
     pub wait: u64,
+}
+
+/// A salvage, and what becomes of pages that nobody holds.
+#[derive(Args, Debug)]
+pub struct Salvage {
+    #[command(flatten)]
+    pub at: Change,
+    /// Say what would be changed, and leave the image as it is
+    #[arg(long)]
+    pub dry_run: bool,
+    /// First copy each page that is reserved and that nobody holds to a file page-NUMBER.bin in this folder; none is written over
+    #[arg(long, value_name = "FOLDER")]
+    pub orphans: Option<PathBuf>,
 }
 
 #[derive(Subcommand, Debug)]
@@ -78,6 +91,11 @@ pub enum Command {
         #[arg(long, value_enum, value_name = "FILL")]
         to: Ending,
     },
+    /// Mend the bits and counts of a volume whose pointers are good, as after a power cut, and say every word that changes
+    #[command(
+        after_help = "Example:\n  nord salvage disk.img --dry-run\n  nord salvage disk.img --orphans reads\n\nThe bits of all pages, the users' used counts and unreserved are written anew from what the pointers hold; nothing else is\nchanged. Pages that are reserved and that nobody holds become free: they keep their words until a file takes them, and --orphans\ncopies them out before. An image whose pointers, names or files' entries break a rule is refused (3), and one where a user holds\nmore than he was given, or where more is given than there is, too (13)."
+    )]
+    Salvage(Salvage),
     /// Add and delete users, give and take pages
     #[command(
         subcommand,
@@ -319,6 +337,7 @@ impl Command {
             Command::User(User::Add { at, .. } | User::Delete { at, .. } | User::Give { at, .. } | User::Take { at, .. }) => at.json,
             Command::File(File::Create { at, .. } | File::Grow { at, .. } | File::Shrink { at, .. }) => at.json,
             Command::File(File::Delete { at, .. } | File::Open { at, .. }) => at.json,
+            Command::Salvage(with) => with.at.json,
             Command::Manual | Command::Completions { .. } => false,
         }
     }

@@ -10,7 +10,7 @@ mod shapes;
 
 pub use asked::Expected;
 
-use crate::answers::{self, item};
+use crate::answers::{self, item, Refusal};
 use crate::volume::{meaning, number, Disk, Holder, Kind, Meaning};
 use crate::volume_json;
 use proved::{Place, Reply};
@@ -61,6 +61,17 @@ impl Broken<'_> {
         lines.extend(self.expected().map(|expected| item("expected", &expected)));
         lines.push(answers::look_at(path, self.place));
         lines
+    }
+
+    /// Number 3 with all that can be told of the place.
+    pub fn tell(&self, refusal: Refusal, path: &Path) -> Refusal {
+        let mut json = self.json();
+        json["number"] = refusal.number.into();
+        Refusal {
+            more: self.lines(path),
+            json,
+            ..refusal
+        }
     }
 
     /// What the place is: "used pages of user 0 DOCK, words 16-17 of his entry".

@@ -1,4 +1,4 @@
-//! What can go wrong, and the exit status of each: a refusal's own number 1 to 12, or one of the statuses below for what the host did.
+//! What can go wrong, and the exit status of each: a refusal's own number 1 to 14, or one of the statuses below for what the host did.
 
 use crate::answers::Refusal;
 use serde_json::{json, Value};

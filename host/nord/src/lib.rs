@@ -17,6 +17,7 @@ pub mod palette;
 mod pause;
 pub mod progress;
 pub mod replace;
+pub mod salvage;
 pub mod store;
 pub mod volume;
 pub mod volume_json;

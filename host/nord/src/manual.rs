@@ -26,6 +26,7 @@ pub fn page() -> String {
     page.push_str(FILES);
     page.push_str(STATUS);
     page.push_str(UNSOUND);
+    page.push_str(SALVAGE);
     page.push_str(".SH RULES OF A SOUND IMAGE\nRefusal 3 names the lowest broken rule of these. P is the number of pages.\n");
     for number in 1..=10 {
         let _ = write!(page, ".TP\n{number}\n{}\n", escape(answers::rule(number)));
@@ -116,7 +117,17 @@ adds "what" (what the words there are), "there" (what they are now, with "leftov
 (in words, and "from" and "to" where numbers of one range are right) and the holders' names. Of refusal 12 it has also "to", and of the first name
 or type in the way "field" ("volume", "user", "name" or "type"), "user" and "file" (their indexes, or null), "name", "fill" ("zeros", "apostrophe" or
 "leftovers"), "behind" (the bytes behind it, in hexadecimal), "leftovers" (as characters, or null), "page" and "word"; then "in_the_way", how many
-are, and "short", how many short names and types there are of each fill. Long work shows a bar on a terminal.
+are, and "short", how many short names and types there are of each fill. Of refusal 13 it has also "users", who hold more than they were given ("user",
+"name", "holds", "given"), then "pages", "given" and "system" of the whole volume, and "below_zero", by how much unreserved would be. Long work shows
+a bar on a terminal.
+.PP
+.B nord salvage
+answers with "changed" and "changes", every changed word ("page", "word", "old", "new") by page and word; "users", those whose used count changes ("user",
+"name", "old", "new"); "unreserved" ("old", "new"); "held", the pages marked free that are held; "orphans", the pages reserved that nobody holds;
+"dry_run", "replaced" (whether the image file was), "folder" and "written" (where the orphans are, and how many files were written; null without
+.BR \-\-orphans ).
+.B nord check
+of an unsound image has "salvage": "mends", and then "changed" and "orphans", how many, or else "number", "rule" and "why".
 .SH COMMANDS
 "#;
 
@@ -168,6 +179,26 @@ pages 1 to P\-1; where several hold it, the first two are told. Runs of equal wo
 broken begins with > and is followed by what was expected.
 "#;
 
+const SALVAGE: &str = r#".SH SALVAGE
+Where the power goes in the middle of work, a volume is left whose pointers are good and whose bits or counts are not. Rule 9 or 10 is broken then, or
+rule 4 where it compares used with given, and
+.B nord check
+says whether a salvage can mend it: one is tried on a copy in memory. A salvage writes the bits of all pages anew from what the pointers hold, the used
+counts of all users from what their files hold, and unreserved from the sum. It changes no other word, and a second one changes nothing. Pointers, names
+and files' entries are left alone: an image that breaks a rule there is refused with 3, as by every command. Where a user holds more than he was
+given, or where more is given than there is, it is refused with 13, and says who and by how much.
+.PP
+A page that is reserved and that no file and nothing else holds becomes free. Its words stay until a file takes it, and they may be somebody's reads: one
+that a pointer led to before another pointer was laid over it.
+.B \-\-orphans
+copies each such page to a file
+.I page\-NUMBER.bin
+of 2,048 bytes, the high byte of each word first, before the image is replaced. Where one of these files is there with other content, nothing is written and
+the image stays as it was. With
+.B \-\-dry\-run
+the pages are copied out and nothing is mended.
+"#;
+
 const STATUS: &str = r#".SH EXIT STATUS
 .TP
 0
@@ -208,6 +239,12 @@ There is no run for a contiguous file.
 .TP
 12
 A short name or type is not in exactly the fill that is converted. This is judged right after 3.
+.TP
+13
+Salvage: a user holds more than he was given, or unreserved would be below zero. This is judged right after 3.
+.TP
+14
+Salvage: the list is too short for the words that change. The command lends one that is long enough for any volume.
 .TP
 64
 The command was not used as its help says.

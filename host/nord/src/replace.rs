@@ -64,6 +64,13 @@ impl Fresh {
 
     /// Takes the target's place if nothing is there.
     pub fn put_new(self) -> Result<(), Failure> {
+        let target = self.target.clone();
+        self.place_new()?;
+        sync_folder(&target)
+    }
+
+    /// The same for one of many files: their folder is synced after the last.
+    pub fn place_new(self) -> Result<(), Failure> {
         match fs::hard_link(&self.path, &self.target) {
             Ok(()) => {}
             Err(error) if error.kind() == io::ErrorKind::AlreadyExists => return Err(is_there(&self.target)),
@@ -72,7 +79,7 @@ impl Fresh {
             Err(_) => fs::rename(&self.path, &self.target).map_err(not_written(&self.target))?,
         }
         pause::at("placed");
-        sync_folder(&self.target)
+        Ok(())
     }
 }
 
@@ -121,7 +128,8 @@ fn keep_owner(file: &File, old: &Metadata) {
     }
 }
 
-fn sync_folder(target: &Path) -> Result<(), Failure> {
+/// Syncs the folder that a new file is in.
+pub fn sync_folder(target: &Path) -> Result<(), Failure> {
     let synced = File::open(folder(target)).and_then(|folder| folder.sync_all());
     synced.map_err(|error| {
         Failure::Host(format!(

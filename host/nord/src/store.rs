@@ -21,8 +21,20 @@ pub fn read(path: &Path) -> Result<Vec<u16>, Failure> {
     Ok(words(&contents(&file, path)?))
 }
 
+/// What becomes of the image after work that is done.
+#[derive(Clone, Copy, Debug, PartialEq, Eq)]
+pub enum Then {
+    Replace,
+    Keep,
+}
+
 /// Lets the work change a copy of the image and, if it is done, replaces the image by that copy.
 pub fn change<T>(path: &Path, wait: u64, work: impl FnOnce(&mut [u16]) -> Result<T, Failure>) -> Result<T, Failure> {
+    change_or_keep(path, wait, |image| Ok((work(image)?, Then::Replace)))
+}
+
+/// The same for work that says whether there is anything to replace the image for.
+pub fn change_or_keep<T>(path: &Path, wait: u64, work: impl FnOnce(&mut [u16]) -> Result<(T, Then), Failure>) -> Result<T, Failure> {
     regular(path)?;
     // A link is followed, so that the image is replaced and not the link.
     let path = &fs::canonicalize(path).map_err(of_file(path))?;
@@ -32,7 +44,10 @@ pub fn change<T>(path: &Path, wait: u64, work: impl FnOnce(&mut [u16]) -> Result
     let before = contents(&file, path)?;
     pause::at("read");
     let mut image = words(&before);
-    let answer = work(&mut image)?;
+    let (answer, then) = work(&mut image)?;
+    if then == Then::Keep {
+        return Ok(answer);
+    }
     let mut fresh = Fresh::beside(path, Some(&file.metadata().map_err(of_file(path))?))?;
     fresh.fill(&bytes(&image))?;
     unchanged(&file, path, &before)?;

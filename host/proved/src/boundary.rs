@@ -43,6 +43,16 @@ pub struct HolderReply {
     pub second: Holder,
 }
 
+/// One changed word: word 0 .. 1,023 of a page, its old and its new value.
+#[repr(C)]
+#[derive(Clone, Copy, Debug, Default, PartialEq, Eq)]
+pub struct Change {
+    pub page: u32,
+    pub word: u32,
+    pub old: u32,
+    pub new: u32,
+}
+
 /// A step of a run: a call by its number (`call`) with its arguments. `count` is a page count, a position, or format's bit page; the name is
 /// the bytes `name_at .. name_at + name_bytes` of the text lent with the steps, the type likewise, and a page's data are the 1,024 words from
 /// `data_at` on of the words lent with them. What a call does not use is not looked at.
@@ -157,6 +167,7 @@ extern "C" {
     pub(crate) fn nord_note_open(image: *mut u16, words: usize, user: usize, file: usize) -> Reply;
     pub(crate) fn nord_convert_to_apostrophe(image: *mut u16, words: usize) -> Reply;
     pub(crate) fn nord_convert_to_zeros(image: *mut u16, words: usize) -> Reply;
+    pub(crate) fn nord_salvage(image: *mut u16, words: usize, list: *mut Change, changes: usize) -> Reply;
     pub(crate) fn nord_run(
         image: *mut u16,
         words: usize,

@@ -10,7 +10,7 @@
 
 mod boundary;
 
-pub use boundary::{call, Holder, HolderReply, Place, Reply, Step};
+pub use boundary::{call, Change, Holder, HolderReply, Place, Reply, Step};
 use boundary::{REPLY_NUMBERS, STEP_NUMBERS};
 
 /// The words of a page.
@@ -145,6 +145,16 @@ pub fn convert_to_apostrophe(image: &mut [u16]) -> Reply {
 /// And back to zeros.
 pub fn convert_to_zeros(image: &mut [u16]) -> Reply {
     unsafe { boundary::nord_convert_to_zeros(image.as_mut_ptr(), image.len()) }
+}
+
+/// The bits and counts anew from what the pointers hold: the changed words in `list`, in ascending place, and their number as the value.
+pub fn salvage(image: &mut [u16], list: &mut [Change]) -> Reply {
+    unsafe { boundary::nord_salvage(image.as_mut_ptr(), image.len(), list.as_mut_ptr(), list.len()) }
+}
+
+/// So many changes are enough for a volume of so many pages.
+pub const fn most_changes(pages: usize) -> usize {
+    2 + pages.div_ceil(16) + 512
 }
 
 /// Makes the steps in order, with one check of the image for all of them: a reply for each, up to the first refusal or to the end of `steps`

@@ -1,5 +1,5 @@
 //! The check: the ten rules in order, each judged only where all lower ones
-//! hold.
+//! hold, and where it is asked.
 
 use crate::bits::{bits_below, words_in_use};
 use crate::entry::{entry_words, file_pointer, is_used, object, stored_name, stored_type, user, EntryPlace, ENTRIES, ENTRIES_TO_A_PAGE};
@@ -8,6 +8,7 @@ use crate::name::Stored;
 use crate::place::broken;
 use crate::pointer::{pages_held, slot, Pointer, SLOTS};
 use crate::reply::{Outcome, Refusal, Reply};
+use crate::rules::Asked;
 use crate::volume::volume_name;
 use crate::walk::Walk;
 
@@ -19,15 +20,36 @@ pub fn check(image: &[u16]) -> Reply {
 /// Number 3, its rule and its place where the image is unsound, else the
 /// visits. The place is looked for only once a rule has failed.
 pub(crate) fn demand_sound(image: &[u16], pages: u32) -> Outcome {
-    let mut parts = Parts::new(image, pages);
-    parts.judge().map_err(|rule| Refusal::unsound(broken(image, pages, rule)))
+    judge(image, pages, Asked::All).map(|held| held.visits)
+}
+
+/// The same of the rules that speak of pointers; gives what these hold.
+pub(crate) fn demand_pointers(image: &[u16], pages: u32) -> Result<Held, Refusal> {
+    judge(image, pages, Asked::Pointers)
+}
+
+fn judge(image: &[u16], pages: u32, asked: Asked) -> Result<Held, Refusal> {
+    let parts = Parts::new(image, pages, asked);
+    parts.judge().map_err(|rule| Refusal::unsound(broken(image, pages, rule, asked)))
+}
+
+/// What the pointers of an image hold.
+pub(crate) struct Held {
+    /// A bit for each held page, laid out as the bit file is.
+    pub(crate) bits: Vec<u16>,
+    /// Held pages, each once.
+    visits: u32,
+    /// Pages that no file holds.
+    pub(crate) system: u64,
+    /// The used users, by their indexes.
+    pub(crate) users: Vec<Option<User>>,
 }
 
 /// What rule 4 learns of a used user, and what his files turn out to hold.
-struct User {
-    given: u32,
+pub(crate) struct User {
+    pub(crate) given: u32,
     used: u32,
-    held: u64,
+    pub(crate) held: u64,
 }
 
 /// What rule 6 learns of a used object.
@@ -43,6 +65,7 @@ struct File {
 struct Parts<'a> {
     image: &'a [u16],
     pages: u32,
+    asked: Asked,
     /// Pages no file holds, as often as they are held.
     system: Vec<u32>,
     users: Vec<Option<User>>,
@@ -69,10 +92,11 @@ fn all_differ<K: Ord>(mut keys: Vec<K>) -> bool {
 }
 
 impl<'a> Parts<'a> {
-    fn new(image: &'a [u16], pages: u32) -> Parts<'a> {
+    fn new(image: &'a [u16], pages: u32, asked: Asked) -> Parts<'a> {
         Parts {
             image,
             pages,
+            asked,
             system: vec![0],
             users: (0..ENTRIES).map(|_| None).collect(),
             object_pages: Vec::new(),
@@ -80,7 +104,7 @@ impl<'a> Parts<'a> {
         }
     }
 
-    fn judge(&mut self) -> Result<u32, u32> {
+    fn judge(mut self) -> Result<Held, u32> {
         let bit_page = self.rule_1()?;
         let (user_pointer, object_pointer) = self.rule_2()?;
         if let Pointer::Indexed(block) = user_pointer {
@@ -92,9 +116,16 @@ impl<'a> Parts<'a> {
         let mut walk = Walk::new(self.image, self.pages);
         self.rule_7(&mut walk)?;
         rule(8, !walk.met_twice())?;
-        self.rule_9(bit_page, walk.held())?;
-        self.rule_10()?;
-        Ok(walk.visits())
+        if self.asked.with_counts() {
+            self.rule_9(bit_page, walk.held())?;
+            self.rule_10()?;
+        }
+        Ok(Held {
+            visits: walk.visits(),
+            bits: walk.into_held(),
+            system: self.system.len() as u64,
+            users: self.users,
+        })
     }
 
     fn in_range(&self, page: u32) -> bool {
@@ -155,7 +186,8 @@ impl<'a> Parts<'a> {
             let (given, used) = (pair(entry, user::GIVEN), pair(entry, user::USED));
             let name = stored_name(entry);
             let own = u32::from(entry[user::OWN_INDEX]) == number;
-            rule(4, own && name.is_name() && used <= given)?;
+            let within = used <= given || !self.asked.with_counts();
+            rule(4, own && name.is_name() && within)?;
             names.push(name);
             self.users[number as usize] = Some(User { given, used, held: 0 });
         }

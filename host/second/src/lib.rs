@@ -7,6 +7,7 @@
 //! where the image is broken (document 02, T-01). Free pages are searched a word
 //! of the bit file at a step (T-02). Short names end in an apostrophe (T-03);
 //! what old volumes have behind them, zeros, is converted to it and back (T-04).
+//! Stale bits and counts are salvaged from what the pointers hold (T-05).
 
 #![forbid(unsafe_code)]
 
@@ -26,7 +27,9 @@ pub mod name;
 mod place;
 pub mod pointer;
 pub mod reply;
+mod rules;
 mod run;
+mod salvage;
 pub mod search;
 mod users;
 mod volume;
@@ -42,4 +45,5 @@ pub use length::{grow, shrink};
 pub use list::list;
 pub use reply::{kind, Holder, HolderReply, Place, Reply};
 pub use run::{run, Step, CHECK_IS_A_STEP};
+pub use salvage::{salvage, Change};
 pub use users::{create_user, delete_user, give, take};

@@ -97,6 +97,9 @@ pub(crate) const UNRESERVED_SHORT: Refusal = Refusal::of(10);
 pub(crate) const NO_RUN: Refusal = Refusal::of(11);
 /// Document 02, T-04; it is judged right after 3.
 pub(crate) const WRONG_FILL: Refusal = Refusal::of(12);
+/// T-05; they are judged right after 3, in this order.
+pub(crate) const OVERDRAWN: Refusal = Refusal::of(13);
+pub(crate) const LIST_SHORT: Refusal = Refusal::of(14);
 
 /// Goes on where the condition holds, refuses otherwise.
 pub(crate) fn demand(condition: bool, refusal: Refusal) -> Result<(), Refusal> {

@@ -35,6 +35,11 @@ impl<'a> Walk<'a> {
         &self.held
     }
 
+    /// The pages met, once no more are to be marked.
+    pub(crate) fn into_held(self) -> Vec<u16> {
+        self.held
+    }
+
     pub(crate) fn visits(&self) -> u32 {
         self.visits
     }

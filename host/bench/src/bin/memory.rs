@@ -1,9 +1,10 @@
 //! Memory that a call takes beyond the image: `bench-memory IMAGE [CALL]` tells the stack and the heap of each call, or of that one, and of
-//! each program, in bytes. A program of its own, since its allocator counts, which would cost time in the others.
+//! each program, in bytes; and of a salvage. A program of its own, since its allocator counts, which would cost time in the others.
 
 use bench::calls::{ask, Call, Program, Question, CALLS};
 use bench::scratch::{map_private, question_of, words_mut};
 use bench::stack::depth;
+use bench::stale::list;
 use std::alloc::{GlobalAlloc, Layout, System};
 use std::hint::black_box;
 use std::io;
@@ -56,6 +57,20 @@ fn tell(image: &Path, question: &Question, calls: &[Call]) -> io::Result<()> {
     Ok(())
 }
 
+/// The same of a salvage, done or refused, by the library alone; the list is the caller's.
+fn tell_salvage(image: &Path) -> io::Result<()> {
+    let (mut for_stack, mut for_heap) = (map_private(image)?, map_private(image)?);
+    let mut lent = list(words_mut(&mut for_stack));
+    let stack = depth(&mut || {
+        black_box(proved::salvage(words_mut(&mut for_stack), &mut lent));
+    });
+    let heap = heap(&mut || {
+        black_box(proved::salvage(words_mut(&mut for_heap), &mut lent));
+    });
+    println!("salvage {} {stack} {heap}", Program::Proved.name());
+    Ok(())
+}
+
 fn main() -> io::Result<()> {
     let wrong = || io::Error::other("bench-memory IMAGE [CALL]");
     let image = std::env::args().nth(1).ok_or_else(wrong)?;
@@ -64,5 +79,6 @@ fn main() -> io::Result<()> {
         Some(name) => vec![Call::by_name(&name).ok_or_else(wrong)?],
         None => CALLS.to_vec(),
     };
-    tell(image, &question_of(image)?, &calls)
+    tell(image, &question_of(image)?, &calls)?;
+    tell_salvage(image)
 }

@@ -18,7 +18,7 @@ pub fn measure(run: &mut Run, volumes: &[Volume]) -> io::Result<()> {
     if version().is_none() {
         run.report.add(Table::new(
             "Check beside e2fsck",
-            "Left out: e2fsck or mke2fs is not there (Debian's package e2fsprogs).",
+            "Left out: e2fsck, mke2fs or debugfs is not there (Debian's package e2fsprogs).",
             &[],
         ));
         return Ok(());

@@ -13,7 +13,7 @@ use std::process::Command;
 const NOTE: &str =
     "Bytes. Stack: the call runs in a thread whose stack was painted before; what is no longer paint was used, less what an empty \
     thread uses. Heap: the most that was out at once, by an allocator that counts. The library has no heap and no data of its own: its \
-    memory is its stack.";
+    memory is its stack. The most of any is that of the seven calls and of a salvage, which the library alone is asked for; its list is the caller's.";
 
 /// Below 256 KiB.
 const LIMIT: f64 = 262_143.0;
@@ -69,7 +69,7 @@ fn judge(run: &mut Run, goal: &'static str, on: &str, all: &[Used]) {
     run.goals.at_most(goal, on, bytes as f64, LIMIT, grouped(bytes));
 }
 
-/// The hostile images that are refused: all that is asked of them needs the check, and what is broken is looked for.
+/// The hostile images that are refused: all that is asked of them needs the check, or salvage's part of it, and what is broken is looked for.
 fn refusals(run: &mut Run, table: &mut Table) -> io::Result<()> {
     for image in hostile::all(LARGEST, run.plan.hostile_users) {
         if image.twice.is_none() {
@@ -78,7 +78,9 @@ fn refusals(run: &mut Run, table: &mut Table) -> io::Result<()> {
         progress::show(&format!("memory: {}", image.name));
         let path = write_native(&run.scratch.folder, image.name, &image.words, &hostile::question())?;
         let all = tell(&path, Some(Call::Check))?;
-        table.row(row(image.name, "check, refused", &all, false));
+        for (what, any) in [("check, refused", false), ("the most of check and salvage", true)] {
+            table.row(row(image.name, what, &all, any));
+        }
         judge(
             run,
             "memory beyond the image, bytes, a refusal of a hostile image",

@@ -7,6 +7,7 @@ mod hostile;
 mod instructions;
 mod memory;
 mod runs;
+mod salvage;
 mod searches;
 
 use crate::goals::Goals;
@@ -93,6 +94,15 @@ pub fn run_searches(plan: Plan) -> io::Result<Report> {
     Ok(run.ended())
 }
 
+/// Does the part on salvage alone; gives the report.
+pub fn run_salvage(plan: Plan) -> io::Result<Report> {
+    let mut run = Run::new(plan)?;
+    let volumes = volumes(run.plan.large);
+    run.report.add(contents(volumes.iter()));
+    salvage::measure(&mut run, &volumes)?;
+    Ok(run.ended())
+}
+
 /// Does all parts; gives the report.
 pub fn run(plan: Plan) -> io::Result<Report> {
     let mut run = Run::new(plan)?;
@@ -103,6 +113,7 @@ pub fn run(plan: Plan) -> io::Result<Report> {
     searches::measure(&mut run, &nearly_full);
     runs::measure(&mut run);
     beside::measure(&mut run, &volumes)?;
+    salvage::measure(&mut run, &volumes)?;
     growth::measure(&mut run);
     hostile::measure(&mut run);
     instructions::measure(&mut run, &volumes)?;

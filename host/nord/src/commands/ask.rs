@@ -1,10 +1,11 @@
 //! Commands that ask an image: check, list, find, address, who.
 
-use crate::answers::{done, Answer, Call, Refusal};
+use crate::answers::{done, Answer, Call};
 use crate::args::Ask;
 use crate::broken::Broken;
 use crate::failure::Failure;
 use crate::names::{FileName, UserName, Within};
+use crate::salvage::CanMend;
 use crate::volume::{Disk, Holder};
 use crate::{store, volume, volume_json};
 use proved::{HolderReply, Reply};
@@ -14,7 +15,10 @@ pub fn check(at: &Ask) -> Result<Answer, Failure> {
     let image = store::read(&at.image)?;
     let reply = proved::check(&image);
     let visits = done(reply, Call::Check, "").map_err(|refusal| match refusal.number {
-        3 => told(refusal, &Broken::of(&image, reply), at),
+        3 => {
+            let told = Broken::of(&image, reply).tell(refusal, &at.image);
+            CanMend::of(&image, reply).tell(told, &at.image)
+        }
         _ => refusal,
     })?;
     let pages = image.len() / proved::PAGE;
@@ -22,17 +26,6 @@ pub fn check(at: &Ask) -> Result<Answer, Failure> {
         format!("sound: {visits} of {pages} pages are held"),
         json!({ "sound": true, "visits": visits, "pages": pages }),
     ))
-}
-
-/// Number 3 with all that can be told of the place.
-fn told(refusal: Refusal, broken: &Broken, at: &Ask) -> Refusal {
-    let mut json = broken.json();
-    json["number"] = refusal.number.into();
-    Refusal {
-        more: broken.lines(&at.image),
-        json,
-        ..refusal
-    }
 }
 
 pub fn list(at: &Ask) -> Result<Answer, Failure> {

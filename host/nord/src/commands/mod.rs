@@ -6,6 +6,7 @@ mod files;
 mod format;
 mod map;
 mod page;
+mod salvage;
 mod transfer;
 mod users;
 
@@ -24,6 +25,7 @@ pub fn run(command: Command) -> Result<Answer, Failure> {
         Command::Who { at, page } => ask::who(&at, page),
         Command::Format { at, name, pages, bit_page } => format::format(&at, &name, pages, bit_page),
         Command::Convert { at, to } => convert::convert(&at, to),
+        Command::Salvage(with) => salvage::salvage(&with),
         Command::Sample(at) => format::sample(&at),
         Command::User(command) => users::run(command),
         Command::File(command) => files::run(command),

@@ -1,7 +1,7 @@
 //! The image as pages of words: numbers, pointers and entries where document 01 puts them. What lies outside the image reads as zeros.
 
 use super::stored::Stored;
-use proved::PAGE;
+use proved::{Place, PAGE};
 
 /// Pointers in a block.
 pub const SLOTS: u32 = 512;
@@ -20,6 +20,8 @@ const USED: u16 = 1 << 15;
 /// The first words of an entry's name, and of a file's type.
 pub const ENTRY_NAME: u32 = 1;
 pub const ENTRY_TYPE: u32 = 9;
+/// The first word of the pages that a user was given.
+const GIVEN: u32 = 14;
 
 /// Words of the directory entry in page 0.
 pub const VOLUME_NAME: u32 = 1008;
@@ -82,6 +84,19 @@ impl<'a> Disk<'a> {
 
     pub fn unreserved(&self) -> u32 {
         self.number(0, UNRESERVED)
+    }
+
+    /// Where unreserved stands.
+    pub fn unreserved_place(&self) -> Place {
+        Place { page: 0, word: UNRESERVED }
+    }
+
+    /// Where the pages stand that a user was given.
+    pub fn given_place(&self, user: u32) -> Place {
+        Place {
+            page: self.user_page(user / ENTRIES_TO_A_PAGE),
+            word: ENTRY_WORDS * (user % ENTRIES_TO_A_PAGE) + GIVEN,
+        }
     }
 
     /// The bit file's page.
@@ -226,7 +241,7 @@ impl Entry<'_> {
 
     /// A user's given pages.
     pub fn given(&self) -> u32 {
-        pair(self.words, 14)
+        pair(self.words, GIVEN as usize)
     }
 
     /// A user's used pages.

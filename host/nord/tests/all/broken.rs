@@ -12,6 +12,9 @@ struct Case {
     says: [&'static str; 3],
 }
 
+/// More than there is, which no salvage mends.
+const GIVEN_TOO_MUCH: (usize, usize, u16) = (2, 14, 0xffff);
+
 const CASES: [Case; 26] = [
     Case {
         words: &[(0, 1008, 0)],
@@ -264,7 +267,7 @@ const CASES: [Case; 26] = [
         ],
     },
     Case {
-        words: &[(2, 14, 0xffff)],
+        words: &[GIVEN_TOO_MUCH],
         rule: 10,
         place: (0, 1022),
         says: [
@@ -299,7 +302,15 @@ fn check_says_where_each_rule_is_broken() {
              look at   nord page {} {page} {word}\n",
             image.display()
         );
-        assert_eq!(fails(&image, "check IMAGE", 3), wanted);
+        let said = fails(&image, "check IMAGE", 3);
+        let salvage = said.strip_prefix(&wanted).unwrap_or_else(|| panic!("{said}"));
+        let mends = (matches!(rule, 9 | 10) && words[0] != GIVEN_TOO_MUCH) || (rule, place) == (4, (2, 16));
+        let can = if mends {
+            "can mend this by changing 1 word: nord salvage "
+        } else {
+            "cannot mend this: "
+        };
+        assert!(salvage.starts_with(&format!("  salvage   {can}")), "{said}");
     }
 }
 
@@ -358,6 +369,7 @@ fn json_has_all_numbers() {
         "expected": { "words": "at most 100, the pages he is given", "from": 0, "to": 100 },
         "first": free,
         "second": free,
+        "salvage": { "mends": true, "changed": 1, "orphans": 0 },
     });
     assert_eq!((check.status, check.json()), (3, wanted));
     let list = run(&image, "list IMAGE --json");

@@ -14,16 +14,33 @@ pub struct Case {
 }
 
 impl Case {
-    /// Runs the line once undisturbed, to know the new image.
+    /// Runs the line once undisturbed, to know the new image. Both are sound.
     pub fn new(folder: Folder, line: String) -> Case {
+        let case = Case::of(folder, line);
+        assert_eq!(proved::check(&nord::store::words(&case.old)).number, 0, "{}", case.line);
+        case
+    }
+
+    /// A salvage of the image, whose first bits, last bits and unreserved are made wrong: of its last pages some are reserved that nobody holds.
+    pub fn salvage(folder: Folder) -> Case {
+        let image = folder.path("disk.img");
+        let mut words = nord::store::words(&std::fs::read(&image).unwrap());
+        let (bits, last) = (1024 * usize::from(words[1021]), words.len() / 1024 / 16 - 1);
+        (words[1023], words[bits], words[bits + last]) = (1, 1, 0xa5a5);
+        words[1024 * 16 * last..][..1024].fill(0x4577);
+        std::fs::write(&image, nord::store::bytes(&words)).unwrap();
+        let case = Case::of(folder, "salvage IMAGE".to_string());
+        assert_eq!(proved::check(&words).rule, 9);
+        case
+    }
+
+    fn of(folder: Folder, line: String) -> Case {
         let image = folder.path("disk.img");
         let old = std::fs::read(&image).unwrap();
         done(&image, &line);
         let new = std::fs::read(&image).unwrap();
         assert!(old != new, "{line} changes nothing");
-        for bytes in [&old, &new] {
-            assert_eq!(proved::check(&nord::store::words(bytes)).number, 0, "{line}");
-        }
+        assert_eq!(proved::check(&nord::store::words(&new)).number, 0, "{line}");
         std::fs::write(&image, &old).unwrap();
         Case { folder, line, old, new }
     }
@@ -88,6 +105,11 @@ fn other_change(line: &str) -> Case {
     Case::new(folder, line.to_string())
 }
 
+/// A salvage of an image that has a large file.
+fn salvage() -> Case {
+    Case::salvage(other_change("user delete IMAGE FLOCK").folder)
+}
+
 /// How long a run takes that is not killed.
 fn undisturbed(case: &Case) -> Duration {
     let start = Instant::now();
@@ -136,6 +158,8 @@ fn other_changes_killed_at_many_moments() {
         let (old, new) = kill_at_moments(&other_change(line), 16);
         println!("{line}: {old} old images, {new} new ones");
     }
+    let (old, new) = kill_at_moments(&salvage(), 16);
+    println!("salvage: {old} old images, {new} new ones");
 }
 
 /// Runs that are killed exactly between two steps.
@@ -170,7 +194,7 @@ mod staged {
             "file create IMAGE DOCK/NEW --contiguous 9",
             "format IMAGE BERTH",
         ];
-        for case in lines.map(other_change).iter().chain([&large_write()]) {
+        for case in lines.map(other_change).iter().chain([&large_write(), &salvage()]) {
             for (stage, new) in STAGES {
                 kill_at_stage(case, stage);
                 assert_eq!(case.is_new(stage), new, "{} killed when {stage}", case.line);
@@ -217,6 +241,32 @@ mod staged {
             assert_eq!(done(&image, "check IMAGE"), "sound: 2 of 200 pages are held\n");
             done(&image, "user add IMAGE DOCK");
             assert_eq!(case.folder.names(), ["disk.img"], "{stage}");
+        }
+    }
+
+    /// Pages that nobody holds are copied out whole or not at all, each of them, and before the image is the new one.
+    #[test]
+    fn a_salvage_killed_while_pages_are_copied_out() {
+        let case = salvage();
+        let (old, out) = (case.folder.path("disk.img"), case.folder.path("out"));
+        let old = std::fs::read(old).unwrap();
+        let case = Case {
+            line: format!("{} --orphans {}", case.line, out.display()),
+            ..case
+        };
+        for stage in ["half", "written", "synced", "placed"] {
+            kill_at_stage(&case, stage);
+            assert!(!case.is_new(stage), "{stage}");
+            case.next_run_is_done();
+            let mut pages = 0;
+            for file in std::fs::read_dir(&out).unwrap().map(|entry| entry.unwrap().path()) {
+                let name = file.file_name().unwrap().to_str().unwrap();
+                let page: usize = name["page-".len()..][..5].parse().unwrap();
+                assert!(std::fs::read(&file).unwrap() == old[2048 * page..][..2048], "{name}");
+                pages += 1;
+            }
+            assert!(pages > 1, "{stage}: {pages} pages");
+            std::fs::remove_dir_all(&out).unwrap();
         }
     }
 

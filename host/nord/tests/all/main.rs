@@ -13,6 +13,7 @@ mod names;
 mod page;
 mod readme;
 mod refusals;
+mod salvage;
 mod stored;
 mod terminal;
 mod traced;

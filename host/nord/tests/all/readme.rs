@@ -6,11 +6,12 @@ use std::process::Command;
 
 const README: &str = include_str!("../../../../README.md");
 
-/// The lines of the block that is fenced as `console` under the heading "First use".
-fn first_use() -> &'static str {
+/// The lines of the blocks that are fenced as `console` under the heading "First use": the first use itself, and a salvage after it.
+fn first_use() -> String {
     let after = README.split_once("\n## First use\n").expect("the heading").1;
-    let block = after.split_once("```console\n").expect("the block").1;
-    block.split_once("```").expect("its end").0
+    let section = after.split_once("\n## ").expect("the next heading").0;
+    let blocks = section.split("```console\n").skip(1);
+    blocks.map(|block| block.split_once("```").expect("its end").0).collect()
 }
 
 /// Each command, and the lines that follow it.
@@ -30,8 +31,9 @@ fn steps(block: &str) -> Vec<(&str, String)> {
 fn the_first_use_says_what_the_readme_says() {
     let folder = Folder::new();
     let path = format!("{}:{}", Path::new(NORD).parent().unwrap().display(), std::env::var("PATH").unwrap());
-    let steps = steps(first_use());
-    assert!(steps.len() > 8, "{} steps", steps.len());
+    let block = first_use();
+    let steps = steps(&block);
+    assert!(steps.len() > 20, "{} steps", steps.len());
     for (command, output) in steps {
         let run = Command::new("bash")
             .args(["-c", &format!("exec 2>&1; {command}")])

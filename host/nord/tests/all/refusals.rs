@@ -1,4 +1,4 @@
-//! Every refusal but 3 and 12 (broken.rs and convert.rs have those): its number as exit status, its words, the image unchanged.
+//! Every refusal but 3, 12, 13 and 14 (broken.rs, convert.rs and salvage.rs have those; 14 no command can meet): its number as exit status, its words, the image unchanged.
 
 use crate::common::{disk, done, fails, noise, run, sample, Folder};
 use serde_json::json;

@@ -122,9 +122,12 @@ fn killed_at_each_system_call() {
         "user delete IMAGE FLOCK",
         "file grow IMAGE DOCK/READS:DATA 3",
         "format IMAGE BERTH",
+        "salvage IMAGE",
     ] {
-        if !line.is_empty() {
-            case = Case::new(case.folder, line.to_string());
+        match line {
+            "" => {}
+            "salvage IMAGE" => case = Case::salvage(case.folder),
+            _ => case = Case::new(case.folder, line.to_string()),
         }
         let Some((old, new)) = kill_at_each_call(&case) else { return };
         println!("{}: {old} old images, {new} new ones", case.line);

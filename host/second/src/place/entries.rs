@@ -7,6 +7,7 @@ use crate::entry::{entry_words, is_used, object, stored_name, stored_type, user,
 use crate::image::pair;
 use crate::pointer::SLOTS;
 use crate::reply::Place;
+use crate::rules::Asked;
 use crate::volume::{object_page, user_entry, user_page};
 use std::collections::HashSet;
 
@@ -49,8 +50,8 @@ fn used_on(image: &[u16], position: u32, page: u32) -> impl Iterator<Item = Entr
     entries.filter(|entry| is_used(entry.words))
 }
 
-/// Used users: name, used pages, own index.
-pub(super) fn rule_4(image: &[u16]) -> Option<Place> {
+/// Used users: name, used pages (where counts are asked), own index.
+pub(super) fn rule_4(image: &[u16], asked: Asked) -> Option<Place> {
     let mut names = HashSet::new();
     users(image).find_map(|entry| {
         let name = stored_name(entry.words);
@@ -58,7 +59,7 @@ pub(super) fn rule_4(image: &[u16]) -> Option<Place> {
         let (given, used) = (pair(entry.words, user::GIVEN), pair(entry.words, user::USED));
         let own_index = u32::from(entry.words[user::OWN_INDEX]);
         wrong(!name.is_name() || !is_new, entry.place(NAME))
-            .or_else(|| wrong(used > given, entry.place(user::USED)))
+            .or_else(|| wrong(used > given && asked.with_counts(), entry.place(user::USED)))
             .or_else(|| wrong(own_index != entry.number, entry.place(user::OWN_INDEX)))
     })
 }

@@ -11,14 +11,15 @@ mod master;
 mod shapes;
 
 use crate::reply::{Break, Holder, Place};
+use crate::rules::Asked;
 
-/// What is broken, this rule being the lowest broken one.
-pub(crate) fn broken(image: &[u16], pages: u32, rule: u32) -> Break {
+/// What is broken, this rule being the lowest broken one of those asked.
+pub(crate) fn broken(image: &[u16], pages: u32, rule: u32, asked: Asked) -> Break {
     let found = match rule {
         1 => master::rule_1(image, pages),
         2 => master::rule_2(image, pages),
         3 => blocks::rule_3(image, pages),
-        4 => entries::rule_4(image),
+        4 => entries::rule_4(image, asked),
         5 => blocks::rule_5(image, pages),
         6 => entries::rule_6(image),
         7 => shapes::rule_7(image, pages),
