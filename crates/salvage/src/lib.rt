@@ -48,8 +48,9 @@ fn mend_sure(
             why: Refusal::ShortList,
         };
     }
+    let value = n as u32;
     apply::apply(img, row, n);
-    Answer::Done { value: n as u32 }
+    Answer::Done { value }
 }
 
 // Number 13, then the words. A walk has marked the held pages and visited so many.
