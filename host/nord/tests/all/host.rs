@@ -29,11 +29,10 @@ fn run_as_nobody(folder: &Folder, image: &Path, line: &str) -> Run {
     Run::of(command.args(words_of(image, line)).stdin(Stdio::null()).output().unwrap())
 }
 
-#[test]
-fn a_limit_of_file_sizes_is_a_clear_error() {
-    let (folder, image) = sample();
-    let before = fs::read(&image).unwrap();
-    let script = format!("trap '' XFSZ; ulimit -f 100; exec {NORD} user add {} FLOCK", image.display());
+/// A command that would replace the image where no file may be so large: it says so, and the image is as it was.
+pub fn meets_a_limit_of_file_sizes(folder: &Folder, image: &Path, line: &str) {
+    let before = fs::read(image).unwrap();
+    let script = format!("trap '' XFSZ; ulimit -f 100; exec {NORD} {line}");
     let run = Run::of(Command::new("bash").args(["-c", &script]).output().unwrap());
     assert_eq!(run.status, 74);
     assert!(
@@ -41,8 +40,14 @@ fn a_limit_of_file_sizes_is_a_clear_error() {
         "{}",
         run.err
     );
-    assert!(fs::read(&image).unwrap() == before);
+    assert!(fs::read(image).unwrap() == before);
     assert_eq!(folder.names(), ["disk.img"]);
+}
+
+#[test]
+fn a_limit_of_file_sizes_is_a_clear_error() {
+    let (folder, image) = sample();
+    meets_a_limit_of_file_sizes(&folder, &image, &format!("user add {} FLOCK", image.display()));
     done(&image, "user add IMAGE FLOCK");
 }
 

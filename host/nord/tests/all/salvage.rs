@@ -2,6 +2,7 @@
 
 use crate::broken::with;
 use crate::common::{disk, done, fails, run, sample, Folder, Run, NORD};
+use crate::host::meets_a_limit_of_file_sizes;
 use serde_json::{json, Value};
 use std::fs;
 use std::os::unix::fs::MetadataExt;
@@ -300,17 +301,7 @@ fn a_page_that_cannot_be_copied_out_leaves_the_image() {
 #[test]
 fn an_image_that_cannot_be_written_is_left() {
     let (folder, image, _) = damaged(DAMAGE);
-    let before = fs::read(&image).unwrap();
-    let script = format!("trap '' XFSZ; ulimit -f 100; exec {NORD} salvage {}", image.display());
-    let run = Run::of(Command::new("bash").args(["-c", &script]).output().unwrap());
-    assert_eq!(run.status, 74);
-    assert!(
-        run.err.contains("disk.img: not replaced, the old one is as it was: File too large"),
-        "{}",
-        run.err
-    );
-    assert!(fs::read(&image).unwrap() == before);
-    assert_eq!(folder.names(), ["disk.img"]);
+    meets_a_limit_of_file_sizes(&folder, &image, &format!("salvage {}", image.display()));
 }
 
 /// A file of 512 reads, each on a page of its own, and read 513 written on a free page whose pointer is laid over pointer 1. Gives the page of the
