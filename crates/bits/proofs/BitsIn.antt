@@ -6,6 +6,7 @@ use native.Mathlib.Omega.{arith}
 use Rattle.book.specs.Words.{Vol}
 use Rattle.book.specs.Bits.{bit, digit}
 use Rattle.book.specs.Written.{digit-le}
+use Rattle.page.specs.Parts.{wordFrom}
 use Rattle.bits.specs.File.{BitsAt}
 use Rattle.bits.specs.Search.{BitsIn}
 use Rattle.bits.proofs.Digits.{digit-low, digit-high}
@@ -14,16 +15,16 @@ use Rattle.bits.proofs.Runs.{full-digit, full-pair}
 
 -- a whole word below P, and the word that holds P
 module _ (P : ℕ) (v : Vol) (b : ℕ) (f : BitsAt P v b) where
-  pub word-whole : (i w : ℕ) → w ≡ v b i → i * 16 + 16 ≤ P → BitsIn P v i 16 w
+  pub word-whole : (i w : ℕ) → w ≡ wordFrom v b i → i * 16 + 16 ≤ P → BitsIn P v i 16 w
   word-whole i w e h = record {
     below = λ j l q. ap (digit j) e ∙ sym (bit-in P v b f i j l q);
     past = λ j l q. absurd (let r : ⊥ = omega arith in r);
   }
 
-  pub word-last : (w : ℕ) → ((j : ℕ) → j < 16 → digit j w ≡ max (digit j (v b (P / 16))) (1 - (P % 16 - j))) → BitsIn P v (P / 16) 16 w
+  pub word-last : (w : ℕ) → ((j : ℕ) → j < 16 → digit j w ≡ max (digit j (wordFrom v b (P / 16))) (1 - (P % 16 - j))) → BitsIn P v (P / 16) 16 w
   word-last w d = record {
     below = λ j l q. omega (arith, d j l, bit-in P v b f (P / 16) j l q);
-    past = λ j l q. omega (arith, d j l, digit-le j (v b (P / 16)));
+    past = λ j l q. omega (arith, d j l, digit-le j (wordFrom v b (P / 16)));
   }
 
 module _ (P : ℕ) (v : Vol) where

@@ -3,13 +3,13 @@ use mathlib.Core.Path.{_≡_, refl, sym, ap, _∙_, subst}
 use mathlib.Core.Logic.{_≢_}
 use mathlib.Core.List.{List}
 use mathlib.Core.Bool.{Bool, true, false, not}
-use Prim.Native.Nat.{ℕ, zero, suc, _+_, _/_, _%_, _≤_, _<_}
+use Prim.Native.Nat.{ℕ, zero, suc, _+_, _*_, _/_, _%_, _≤_, _<_}
 use native.Mathlib.Decide.{ℕ-discrete}
 use native.Mathlib.Omega.{arith}
 use lib.ListN.{length, getD, set, replicate, length-set, length-replicate}
 use lib.Seq.{getD-set-same, getD-set-other}
 use Rattle.sums.specs.Sum.{sum, is, is-same, is-other, sum-ext, sum-add, sum-is, sum-le-at, sum-const}
-use Rattle.book.specs.Bits.{digit, toDigit, pageBits}
+use Rattle.book.specs.Bits.{digit, toDigit}
 use Rattle.book.specs.Written.{digit-le, digit-same, digit-other}
 use Rattle.bits.specs.Marks.{marked, Unmarked, Newly, Marking}
 
@@ -29,13 +29,17 @@ zero-at zero i = refl
 zero-at (suc n) zero = refl
 zero-at (suc n) (suc i) = zero-at n i
 
-pub no-marks : (n : ℕ) → n ≡ 1024 → Unmarked (replicate n 0)
+pub no-marks : (P n : ℕ) → P ≤ 16 * n → Unmarked P (replicate n 0)
 unfolding marked
-no-marks n e = record { size = length-replicate n 0 ∙ e; none = λ p. ap (digit (p % 16)) (zero-at n (p / 16)) ∙ digit-zero (p % 16) }
+no-marks P n e = record { room = omega (arith, length-replicate {A = ℕ} n 0); none = λ p. ap (digit (p % 16)) (zero-at n (p / 16)) ∙ digit-zero (p % 16) }
+
+-- marks for more pages are marks for fewer
+pub unmarked-for : (P N : ℕ) → P ≤ N → (m : List ℕ) → Unmarked N m → Unmarked P m
+unmarked-for P N h m u = record { room = omega (arith, h, u .room); none = u .none }
 
 -- ---- one mark
 
-module _ (m : List ℕ) (p w : ℕ) (size : length m ≡ 1024) (small : p < pageBits) (new : marked m p ≡ 0) (made : w ≡ toDigit (p % 16) (getD m (p / 16) 0) 1) where
+module _ (m : List ℕ) (p w : ℕ) (fits : p < 16 * length m) (new : marked m p ≡ 0) (made : w ≡ toDigit (p % 16) (getD m (p / 16) 0) 1) where
   room : p / 16 < length m
   room = omega arith
 

@@ -1,4 +1,4 @@
--- The bit file as one page: where each page's bit stands. Assumes nothing.
+-- The bit file as one part of the volume: where each page's bit stands. Assumes nothing.
 use mathlib.Core.Path.{_≡_, refl, sym, ap, ap₂, _∙_, subst}
 use mathlib.Core.Logic.{inl, inr}
 use Prim.Native.Nat.{ℕ, zero, suc, _+_, _-_, _*_, _/_, _%_, _^_, _≤_, _<_}
@@ -11,63 +11,69 @@ use Rattle.sums.specs.Search.{every-yes, every-at, highest-at, highest-none}
 use Rattle.book.specs.Words.{Vol, word, put, wipe}
 use Rattle.book.specs.Pointers.{page, bitPointer, flagsAbove}
 use Rattle.book.specs.Trees.{pageAt, upto}
-use Rattle.book.specs.Bits.{digit, toDigit, pageBits, bitPageOf, bitWord, bitPages, bitFile, bitPage, bit, mark, claim, claimRun, freeRun, highestRun}
-use Rattle.book.specs.Image.{mostPages}
+use Rattle.book.specs.Bits.{digit, toDigit, bitPageOf, bitWord, bitPages, bitFile, bitPage, bit, mark, claim, claimRun, freeRun, highestRun}
 use Rattle.book.specs.Rules.{Rule1}
 use Rattle.book.specs.Written.{digit-le, word-pos, put-page, wipe-page}
+use Rattle.page.specs.Parts.{wordFrom}
 use Rattle.bits.specs.File.{BitsAt}
 use Rattle.bits.proofs.Digits.{ones-more, ones-none}
 
 -- ---- where a bit stands
 
 module _ (P : ℕ) (v : Vol) (b : ℕ) (f : BitsAt P v b) where
-  pub bit-page : (p : ℕ) → p < P → bitPage P v p ≡ b
-  unfolding bitPage bitFile bitPages pageAt upto
+  pub bit-page : (p : ℕ) → p < P → bitPage P v p ≡ b + p / 16 / 1024
+  unfolding bitPage bitFile pageAt upto
   bit-page p h =
-      let e : 1 - (suc (bitPageOf p) - (P + (pageBits - 1)) / pageBits) ≡ 1 = omega (arith, f .most) in
-      ap (λ (x : ℕ). x * (page (v 0) bitPointer + bitPageOf p)) e ∙ omega (arith, f .at, f .most)
+      let e : 1 - (suc (bitPageOf p) - bitPages P) ≡ 1 = omega arith in
+      ap (λ (x : ℕ). x * (page (v 0) bitPointer + bitPageOf p)) e ∙ omega (arith, f .at)
 
-  pub bit-at : (p : ℕ) → p < P → bit P v p ≡ digit (p % 16) (v b (p / 16))
+  bit-word : (p : ℕ) → bitWord p ≡ p / 16 % 1024
+  bit-word p = omega arith
+
+  word-there : (i : ℕ) → word v (b + i / 1024) (i % 1024) ≡ wordFrom v b i
+  word-there i = word-pos v (b + i / 1024) (i % 1024) (omega (arith, f .some))
+
+  pub bit-at : (p : ℕ) → p < P → bit P v p ≡ digit (p % 16) (wordFrom v b (p / 16))
   unfolding bit
-  bit-at p h =
-      ap (digit (p % 16)) (ap₂ (word v) (bit-page p h) (let e : bitWord p ≡ p / 16 = omega (arith, f .most) in e) ∙ word-pos v b (p / 16) (f .some))
+  bit-at p h = ap (digit (p % 16)) (ap₂ (word v) (bit-page p h) (bit-word p) ∙ word-there (p / 16))
 
-  pub mark-at : (p x : ℕ) → p < P → mark P v p x ≡ put v b (p / 16) (toDigit (p % 16) (v b (p / 16)) x)
+  pub mark-at : (p x : ℕ) → p < P → mark P v p x ≡ put v (b + p / 16 / 1024) (p / 16 % 1024) (toDigit (p % 16) (wordFrom v b (p / 16)) x)
   unfolding mark
   mark-at p x h =
-      ap₂ (λ (q k : ℕ). put v q k (toDigit (p % 16) (word v q k) x)) (bit-page p h) (let e : bitWord p ≡ p / 16 = omega (arith, f .most) in e)
-      ∙ ap (λ (w : ℕ). put v b (p / 16) (toDigit (p % 16) w x)) (word-pos v b (p / 16) (f .some))
+      ap₂ (λ (q k : ℕ). put v q k (toDigit (p % 16) (word v q k) x)) (bit-page p h) (bit-word p)
+      ∙ ap (λ (w : ℕ). put v (b + p / 16 / 1024) (p / 16 % 1024) (toDigit (p % 16) w x)) (word-there (p / 16))
 
   -- bit n of word i
-  pub bit-in : (i n : ℕ) → n < 16 → i * 16 + n < P → bit P v (i * 16 + n) ≡ digit n (v b i)
+  pub bit-in : (i n : ℕ) → n < 16 → i * 16 + n < P → bit P v (i * 16 + n) ≡ digit n (wordFrom v b i)
   bit-in i n l h =
       bit-at (i * 16 + n) h
-      ∙ ap₂ (λ (x y : ℕ). digit x (v b y)) (let e : (i * 16 + n) % 16 ≡ n = omega arith in e) (let e : (i * 16 + n) / 16 ≡ i = omega arith in e)
+      ∙ ap₂ (λ (x y : ℕ). digit x (wordFrom v b y)) (let e : (i * 16 + n) % 16 ≡ n = omega arith in e) (let e : (i * 16 + n) / 16 ≡ i = omega arith in e)
 
   -- ---- counting, word by word
 
   -- n bits of word i more
-  pub sum-word : (i n : ℕ) → n ≤ 16 → i * 16 + n ≤ P → sum (i * 16 + n) (bit P v) ≡ sum (i * 16) (bit P v) + ones (v b i % 2 ^ n)
-  sum-word i zero l h = ap (λ (k : ℕ). sum k (bit P v)) (add-zero (i * 16)) ∙ omega (arith, ones-none (v b i))
+  pub sum-word : (i n : ℕ) → n ≤ 16 → i * 16 + n ≤ P → sum (i * 16 + n) (bit P v) ≡ sum (i * 16) (bit P v) + ones (wordFrom v b i % 2 ^ n)
+  sum-word i zero l h = ap (λ (k : ℕ). sum k (bit P v)) (add-zero (i * 16)) ∙ omega (arith, ones-none (wordFrom v b i))
   sum-word i (suc n) l h =
       ap (λ (k : ℕ). sum k (bit P v)) (add-suc (i * 16) n)
-      ∙ omega (arith, sum-suc (i * 16 + n) (bit P v), sum-word i n (omega arith) (omega arith), bit-in i n (omega arith) (omega arith), ones-more (v b i) n)
+      ∙ omega (arith, sum-suc (i * 16 + n) (bit P v), sum-word i n (omega arith) (omega arith), bit-in i n (omega arith) (omega arith), ones-more (wordFrom v b i) n)
 
   -- all of word i, and the last word of the count
-  pub sum-full : (i : ℕ) → v b i < 65536 → (i + 1) * 16 ≤ P → sum ((i + 1) * 16) (bit P v) ≡ sum (i * 16) (bit P v) + ones (v b i)
+  pub sum-full : (i : ℕ) → wordFrom v b i < 65536 → (i + 1) * 16 ≤ P → sum ((i + 1) * 16) (bit P v) ≡ sum (i * 16) (bit P v) + ones (wordFrom v b i)
   sum-full i l h =
       ap (λ (k : ℕ). sum k (bit P v)) (let e : (i + 1) * 16 ≡ i * 16 + 16 = omega arith in e)
       ∙ sum-word i 16 (omega arith) (omega arith) ∙ ap (λ (w : ℕ). sum (i * 16) (bit P v) + ones w) (mod-eq-of-lt l)
 
-  pub sum-last : sum P (bit P v) ≡ sum (P / 16 * 16) (bit P v) + ones (v b (P / 16) % 2 ^ (P % 16))
+  pub sum-last : sum P (bit P v) ≡ sum (P / 16 * 16) (bit P v) + ones (wordFrom v b (P / 16) % 2 ^ (P % 16))
   sum-last =
       ap (λ (k : ℕ). sum k (bit P v)) (let e : P ≡ P / 16 * 16 + P % 16 = omega arith in e)
       ∙ sum-word (P / 16) (P % 16) (omega arith) (omega arith)
 
 -- ---- a bit written as the code writes it: the word read, the bit made x, the word put back
 
-pub mark-is : (P : ℕ) (v w : Vol) (b p x y z : ℕ) → BitsAt P v b → p < P → y ≡ v b (p / 16) → z ≡ toDigit (p % 16) y x → w ≡ put v b (p / 16) z → w ≡ mark P v p x
-mark-is P v w b p x y z f h ey ez ew = ew ∙ ap (λ (r : ℕ). put v b (p / 16) r) (ez ∙ ap (λ (r : ℕ). toDigit (p % 16) r x) ey) ∙ sym (mark-at P v b f p x h)
+pub mark-is : (P : ℕ) (v w : Vol) (b p x y z : ℕ) → BitsAt P v b → p < P → y ≡ wordFrom v b (p / 16) → z ≡ toDigit (p % 16) y x → w ≡ put v (b + p / 16 / 1024) (p / 16 % 1024) z
+    → w ≡ mark P v p x
+mark-is P v w b p x y z f h ey ez ew = ew ∙ ap (λ (r : ℕ). put v (b + p / 16 / 1024) (p / 16 % 1024) r) (ez ∙ ap (λ (r : ℕ). toDigit (p % 16) r x) ey) ∙ sym (mark-at P v b f p x h)
 
 -- ---- bits of any bit file
 
@@ -107,18 +113,18 @@ module _ (P : ℕ) (v : Vol) where
 pub bits-kept : (P : ℕ) (v v′ : Vol) (b : ℕ) → v′ 0 bitPointer ≡ v 0 bitPointer → v′ 0 (suc bitPointer) ≡ v 0 (suc bitPointer) → BitsAt P v b → BitsAt P v′ b
 unfolding page
 bits-kept P v v′ b h l f = record {
-  most = f .most;
   at = ap₂ (λ (x y : ℕ). x % flagsAbove * 65536 + y) h l ∙ f .at;
   some = f .some;
-  below = f .below;
+  fits = f .fits;
 }
 
 pub bits-mark : (P : ℕ) (v : Vol) (b p x : ℕ) → p < P → BitsAt P v b → BitsAt P (mark P v p x) b
 bits-mark P v b p x h f =
-    let put-it : Vol = put v b (p / 16) (toDigit (p % 16) (v b (p / 16)) x) in
-    let n : 0 ≡ b → ⊥ = λ e. omega (arith, f .some) in
+    let q : ℕ = b + p / 16 / 1024 in
+    let put-it : Vol = put v q (p / 16 % 1024) (toDigit (p % 16) (wordFrom v b (p / 16)) x) in
+    let n : 0 ≡ q → ⊥ = λ e. omega (arith, f .some) in
     subst (λ (w : Vol). BitsAt P w b) (sym (mark-at P v b f p x h))
-    (bits-kept P v put-it b (put-page v b _ _ 0 bitPointer n) (put-page v b _ _ 0 (suc bitPointer) n) f)
+    (bits-kept P v put-it b (put-page v q _ _ 0 bitPointer n) (put-page v q _ _ 0 (suc bitPointer) n) f)
 
 pub bits-wipe : (P : ℕ) (v : Vol) (b d : ℕ) → 0 < d → BitsAt P v b → BitsAt P (wipe v d) b
 bits-wipe P v b d h f =
@@ -135,9 +141,8 @@ bits-run P v b s zero h l f = f
 bits-run P v b s (suc n) h l f = bits-claim P (claimRun P v s n) b (s + n) (omega arith) (omega arith) (bits-run P v b s n h (omega arith) f)
 
 -- of a volume that keeps rule 1
-pub bits-at : (P : ℕ) (v : Vol) → P ≤ mostPages → Rule1 P v → BitsAt P v (page (v 0) bitPointer)
-unfolding bitPages
-bits-at P v m r = record { most = m; at = refl; some = r .start; below = omega (arith, r .start, r .fits) }
+pub bits-at : (P : ℕ) (v : Vol) → Rule1 P v → BitsAt P v (page (v 0) bitPointer)
+bits-at P v r = record { at = refl; some = r .start; fits = r .fits }
 
 -- ---- a run, page by page
 

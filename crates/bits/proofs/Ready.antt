@@ -1,4 +1,4 @@
--- What an image that is ready gives: its bit file is one page. Assumes nothing.
+-- What an image that is ready gives: its bit file is there. Assumes nothing.
 use mathlib.Core.Path.{_≡_, sym, subst}
 use mathlib.Core.List.{List}
 use Prim.Native.Nat.{ℕ}
@@ -9,4 +9,4 @@ use Rattle.bits.specs.File.{BitsAt}
 use Rattle.bits.proofs.Places.{bits-at}
 
 pub ready-bits : (img : List ℕ) → Ready img → (b : ℕ) → b ≡ page (vol img 0) bitPointer → BitsAt (pages img) (vol img) b
-ready-bits img d b e = subst (λ (x : ℕ). BitsAt (pages img) (vol img) x) (sym e) (bits-at (pages img) (vol img) (d .whole .most) (d .sound .r1))
+ready-bits img d b e = subst (λ (x : ℕ). BitsAt (pages img) (vol img) x) (sym e) (bits-at (pages img) (vol img) (d .sound .r1))

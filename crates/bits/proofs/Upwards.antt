@@ -6,6 +6,7 @@ use native.Mathlib.Omega.{arith}
 use Rattle.sums.specs.Search.{lowest, lowest-at, lowest-none, lowest-is}
 use Rattle.book.specs.Words.{Vol}
 use Rattle.book.specs.Bits.{bit, digit, lowestFree}
+use Rattle.page.specs.Parts.{wordFrom}
 use Rattle.bits.specs.File.{BitsAt}
 use Rattle.bits.specs.Search.{freeFrom}
 use Rattle.bits.specs.Word.{FirstClear}
@@ -41,7 +42,7 @@ pub record Upwards (P : ℕ) (v : Vol) (s i w : ℕ) : Type 0 where
   pub word : (j : ℕ) → j < 16 → i * 16 + j < P → digit j w ≡ max (bit P v (i * 16 + j)) (1 - (suc (i * 16 + j) - s))
 
 module _ (P : ℕ) (v : Vol) (b : ℕ) (f : BitsAt P v b) (s : ℕ) where
-  pub up-start : s < P → (w : ℕ) → w < 65536 → ((j : ℕ) → digit j w ≡ max (digit j (v b (s / 16))) (1 - (suc j - s % 16))) → Upwards P v s (s / 16) w
+  pub up-start : s < P → (w : ℕ) → w < 65536 → ((j : ℕ) → digit j w ≡ max (digit j (wordFrom v b (s / 16))) (1 - (suc j - s % 16))) → Upwards P v s (s / 16) w
   up-start h w small d = record {
     small = small;
     start = omega arith;
@@ -68,7 +69,7 @@ module _ (P : ℕ) (v : Vol) (b : ℕ) (f : BitsAt P v b) (s : ℕ) where
     full e j l = ap (digit j) e ∙ full-digit j l
 
     -- a full word, and the next; or the end
-    pub up-next : w ≡ 65535 → (x : ℕ) → x < 65536 → x ≡ v b (i + 1) → (i + 1) * 16 < P → Upwards P v s (i + 1) x
+    pub up-next : w ≡ 65535 → (x : ℕ) → x < 65536 → x ≡ wordFrom v b (i + 1) → (i + 1) * 16 < P → Upwards P v s (i + 1) x
     up-next e x small ex h = record {
       small = small;
       start = omega (arith, U .start);

@@ -2,7 +2,7 @@
 use mathlib.Core.Path.{_≡_}
 use mathlib.Core.Bool.{Bool, true, false}
 use mathlib.Core.List.{List}
-use Prim.Native.Nat.{ℕ, _+_, _/_, _%_}
+use Prim.Native.Nat.{ℕ, _+_, _*_, _/_, _%_, _≤_}
 use lib.ListN.{length, getD}
 use Rattle.sums.specs.Sum.{is}
 use Rattle.book.specs.Bits.{digit}
@@ -11,9 +11,9 @@ use Rattle.book.specs.Bits.{digit}
 unfoldable pub marked : List ℕ → ℕ → ℕ
 marked m p = digit (p % 16) (getD m (p / 16) 0)
 
--- marks for 16,384 pages, none of which is marked
-pub record Unmarked (m : List ℕ) : Type 0 where
-  pub size : length m ≡ 1024
+-- marks for P pages, none of which is marked
+pub record Unmarked (P : ℕ) (m : List ℕ) : Type 0 where
+  pub room : P ≤ 16 * length m
   pub none : (p : ℕ) → marked m p ≡ 0
 
 -- page p was not marked in m, and is in m′, and no other differs

@@ -1,4 +1,4 @@
-// The bit file, one page b: page p is bit p % 16, from the right, of word p / 16; 1 is reserved.
+// The bit file, the run of pages from page b on, read as one part: page p is bit p % 16, from the right, of its word p / 16; 1 is reserved.
 pub mod marks;
 pub mod pair;
 pub mod run;
@@ -8,8 +8,8 @@ pub mod word;
 use page::BITS;
 use page::WORDS;
 use page::read::page_at;
-use page::read::word_at;
-use page::write::put_word;
+use page::read::word_from;
+use page::write::put_from;
 use page::write::zero_page;
 use search::lowest_free;
 use word::digit_in;
@@ -18,16 +18,16 @@ use word::ones_low;
 use word::with_one;
 use word::with_zero;
 ghost use mathlib.Core.Path.{_≡_};
-ghost use Prim.Native.Nat.{ℕ, _+_, _*_, _≤_, _<_};
+ghost use Prim.Native.Nat.{ℕ, _+_, _*_, _/_, _≤_, _<_};
 ghost use lib.ListN.{length};
 ghost use Rattle.book.specs.Words.{vol};
-ghost use Rattle.book.specs.Bits.{bit, mark, reserved as reservedOf, claim as claimOf, claimRun, pageBits, bitPages};
+ghost use Rattle.book.specs.Bits.{bit, mark, reserved as reservedOf, claim as claimOf, claimRun, bitPages};
 ghost use Rattle.book.specs.Image.{pages as pagesOf, mostPages, Ready};
 ghost use Rattle.bits.specs.File.{BitsAt};
 ghost use Rattle.bits.specs.Taken.{CanTake, Took};
 
 // The pages that the bits of one page serve.
-const PAGE_BITS: usize = 16384;
+pub const PAGE_BITS: usize = 16384;
 
 // How many bit pages so many pages ask for.
 pub fn bit_pages(pages: usize) -> usize
@@ -37,7 +37,7 @@ pub fn bit_pages(pages: usize) -> usize
     (pages + (PAGE_BITS - 1)) / PAGE_BITS
 }
 
-// The page of the bit file.
+// The page at which the bit file begins.
 pub fn bit_page(img: &[u16]) -> usize
     requires { ⌜ Ready (now img) ⌝ }
     ensures { λ r. ⌜ BitsAt (pagesOf (now (img .entry))) (vol (now (img .entry))) r ⌝ }
@@ -47,33 +47,33 @@ pub fn bit_page(img: &[u16]) -> usize
 
 // Page p's bit.
 pub fn test(img: &[u16], b: usize, p: usize) -> u16
-    requires { ⌜ (1024 * b + 1024 ≤ length (now img)) × (p < pageBits) ⌝ }
+    requires { ⌜ 1024 * b + p / 16 < length (now img) ⌝ }
     ensures { λ r. ⌜ ((P : ℕ) → BitsAt P (vol (now (img .entry))) b → p < P → r ≡ bit P (vol (now (img .entry))) p) × (r < 2) ⌝ }
 {
-    digit_in(word_at(img, b, p / 16), p % 16)
+    digit_in(word_from(img, b, p / 16), p % 16)
 }
 
 // Page p is reserved.
 pub fn set(img: &mut [u16], b: usize, p: usize)
-    requires { ⌜ (1024 * b + 1024 ≤ length (now img)) × (p < pageBits) ⌝ }
+    requires { ⌜ 1024 * b + p / 16 < length (now img) ⌝ }
     ensures { λ _. ⌜ ((P : ℕ) → BitsAt P (vol (now (img .entry))) b → p < P → vol (now (img .exit)) ≡ mark P (vol (now (img .entry))) p 1) ⌝ }
 {
-    let w = word_at(img, b, p / 16);
-    put_word(img, b, p / 16, with_one(w, p % 16));
+    let w = word_from(img, b, p / 16);
+    put_from(img, b, p / 16, with_one(w, p % 16));
 }
 
 // Page p is freed.
 pub fn clear(img: &mut [u16], b: usize, p: usize)
-    requires { ⌜ (1024 * b + 1024 ≤ length (now img)) × (p < pageBits) ⌝ }
+    requires { ⌜ 1024 * b + p / 16 < length (now img) ⌝ }
     ensures { λ _. ⌜ ((P : ℕ) → BitsAt P (vol (now (img .entry))) b → p < P → vol (now (img .exit)) ≡ mark P (vol (now (img .entry))) p 0) ⌝ }
 {
-    let w = word_at(img, b, p / 16);
-    put_word(img, b, p / 16, with_zero(w, p % 16));
+    let w = word_from(img, b, p / 16);
+    put_from(img, b, p / 16, with_zero(w, p % 16));
 }
 
 // Page p is taken: reserved, and made zeros.
 pub fn claim(img: &mut [u16], b: usize, p: usize)
-    requires { ⌜ (1024 * b + 1024 ≤ length (now img)) × (1024 * p + 1024 ≤ length (now img)) × (p < pageBits) ⌝ }
+    requires { ⌜ (1024 * b + p / 16 < length (now img)) × (1024 * p + 1024 ≤ length (now img)) ⌝ }
     ensures { λ _. ⌜ ((P : ℕ) → BitsAt P (vol (now (img .entry))) b → p < P → vol (now (img .exit)) ≡ claimOf P (vol (now (img .entry))) p) ⌝ }
 {
     set(img, b, p);
@@ -82,7 +82,7 @@ pub fn claim(img: &mut [u16], b: usize, p: usize)
 
 // The n pages from s on are taken.
 pub fn claim_run(img: &mut [u16], b: usize, s: usize, n: usize)
-    requires { ⌜ (1024 * b + 1024 ≤ length (now img)) × (1024 * (s + n) ≤ length (now img)) × (s + n ≤ pageBits) × (0 < s) ⌝ }
+    requires { ⌜ (1024 * b + (s + n + 15) / 16 ≤ length (now img)) × (1024 * (s + n) ≤ length (now img)) × (0 < s) ⌝ }
     ensures { λ _. ⌜ ((P : ℕ) → BitsAt P (vol (now (img .entry))) b → s + n ≤ P → vol (now (img .exit)) ≡ claimRun P (vol (now (img .entry))) s n) ⌝ }
 {
     let mut i: usize = 0;
@@ -94,7 +94,7 @@ pub fn claim_run(img: &mut [u16], b: usize, s: usize, n: usize)
 
 // The reserved count: the ones of each word, the last masked.
 pub fn reserved(img: &[u16], b: usize, pages: usize) -> usize
-    requires { ⌜ (1024 * b + 1024 ≤ length (now img)) × BitsAt pages (vol (now img)) b ⌝ }
+    requires { ⌜ (1024 * pages ≤ length (now img)) × BitsAt pages (vol (now img)) b ⌝ }
     ensures { λ r. ⌜ r ≡ reservedOf pages (vol (now (img .entry))) ⌝ }
 {
     let full = pages / 16;
@@ -102,13 +102,13 @@ pub fn reserved(img: &[u16], b: usize, pages: usize) -> usize
     let mut n: usize = 0;
     let mut i: usize = 0;
     while i < full {
-        n += ones_in(word_at(img, b, i));
+        n += ones_in(word_from(img, b, i));
         i += 1;
     }
     if rest == 0 {
         return n;
     }
-    n + ones_low(word_at(img, b, full), rest)
+    n + ones_low(word_from(img, b, full), rest)
 }
 
 // The lowest free page is taken.

@@ -2,6 +2,7 @@
 use crate::word::zeros_above;
 use crate::word::zeros_below;
 ghost use Prim.Native.Nat.{_≤_, _<_};
+ghost use Rattle.book.specs.Image.{mostPages};
 ghost use Rattle.bits.specs.Run.{RunIn, LeftIn};
 
 // A word from here on has its highest bit set.
@@ -24,7 +25,7 @@ pub(crate) fn run_in(w: u16, run: usize, n: usize) -> usize
 
 // The free pages in a row from the start of w on, where `run` follow on the word.
 pub(crate) fn left_in(w: u16, run: usize) -> usize
-    requires { ⌜ run < 65536 ⌝ }
+    requires { ⌜ run ≤ mostPages ⌝ }
     ensures { λ r. ⌜ LeftIn w run r ⌝ }
 {
     if w % 2 == 1 {

@@ -1,6 +1,6 @@
--- The bit file: page p is bit p % 16, from the right, of word p / 16; 1 is reserved. Assumes nothing.
+-- The bit file, a run of pages: page p is bit p % 16, from the right, of its word p / 16; 1 is reserved. Assumes nothing.
 use Prim.Native.Nat.{ℕ, zero, suc, _+_, _-_, _*_, _/_, _%_}
-use Rattle.sums.specs.Sum.{sum, is}
+use Rattle.sums.specs.Sum.{sum}
 use Rattle.sums.specs.Search.{every, lowest, highest}
 use Rattle.book.specs.Words.{Vol, word, put, wipe}
 use Rattle.book.specs.Pointers.{page, bitPointer}
@@ -29,7 +29,7 @@ abbrev pub bitPlace : ℕ → ℕ
 bitPlace p = p % 16
 
 -- how many bit pages P pages ask for: one, while P is at most 16,384
-unfoldable pub bitPages : ℕ → ℕ
+abbrev pub bitPages : ℕ → ℕ
 bitPages P = (P + (pageBits - 1)) / pageBits
 
 -- the bit file is a run of that many pages

@@ -15,7 +15,7 @@ unfoldable pub markRun : ℕ → Vol → ℕ → ℕ → Vol
 markRun P v s zero = v
 markRun P v s (suc n) = mark P (markRun P v s n) (s + n) 1
 
--- the default bit page
+-- where the bit file begins by default
 abbrev pub middle : ℕ → ℕ
 middle P = P / 2
 

@@ -11,14 +11,15 @@ use Rattle.book.specs.Rules.{Sound}
 abbrev pub pages : List ℕ → ℕ
 pages img = length img / 1024
 
+-- the largest pack
 abbrev pub mostPages : ℕ
-mostPages = 16384
+mostPages = 140733
 
 -- an image is of 16-bit words
 abbrev pub Sixteen : List ℕ → Type 0
 Sixteen img = (i : ℕ) → getD img i 0 < 65536
 
--- whole pages, 8 to 16,384 of them
+-- whole pages, 8 to 140,733 of them
 pub record Whole (img : List ℕ) : Type 0 where
   pub even : length img % 1024 ≡ 0
   pub least : 8 ≤ pages img
@@ -43,7 +44,7 @@ CountArg n = (0 < n) × (n ≤ mostPages)
 abbrev pub PageArg : ℕ → ℕ → Type 0
 PageArg P p = p < P
 
--- a format's bit page: all of the bit file in 1..P-1
+-- where a format's bit file begins: all of it in 1..P-1
 abbrev pub BitArg : ℕ → ℕ → Type 0
 BitArg P b = (0 < b) × (b + bitPages P ≤ P)
 

@@ -14,7 +14,7 @@ use Rattle.book.specs.Outcome.{Call, call, Outcome}
 use Rattle.book.specs.Calls.{checkCall, findUserCall, findFileCall, addressCall, formatCall, formatDefaultCall, createUserCall, deleteUserCall}
 use Rattle.book.specs.Calls.{giveCall, takeCall, createIndexedCall, createContiguousCall, growCall, shrinkCall, deleteFileCall, writeCall, openCall, toApostropheCall, toZerosCall}
 
--- a step is ten numbers: 0 the call; 1 the user; 2 the file; 3 the page count, the position or a format's bit page; 4 the time of creation;
+-- a step is ten numbers: 0 the call; 1 the user; 2 the file; 3 the page count, the position or where a format's bit file begins; 4 the time of creation;
 -- 5 and 6 where the name lies in the text, and its length; 7 and 8 the same of the type; 9 where a page's data lies in the words
 abbrev pub stepOf : List ℕ → ℕ → List ℕ
 stepOf steps k = take 10 (drop (k * 10) steps)

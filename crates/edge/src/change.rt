@@ -5,7 +5,7 @@ ghost use Rattle.edge.specs.Replied.{Replied};
 ghost use Rattle.book.specs.Calls.{formatCall, formatDefaultCall, createUserCall, deleteUserCall, giveCall, takeCall, writeCall, openCall};
 ghost use Rattle.book.specs.Calls.{createIndexedCall, createContiguousCall, growCall, shrinkCall, deleteFileCall, toApostropheCall, toZerosCall};
 
-// Makes a new volume with its bit page at `at`.
+// Makes a new volume whose bit file begins at page `at`.
 #[no_mangle]
 pub extern "C" fn nord_format(img: &mut [u16], name: &[u8], at: usize) -> Reply
     ensures { λ r. ⌜ Replied (formatCall (now (img .entry)) (now (name .entry)) at) (now (img .entry)) r (now (img .exit)) ⌝ }
@@ -13,7 +13,7 @@ pub extern "C" fn nord_format(img: &mut [u16], name: &[u8], at: usize) -> Reply
     reply_of(nord::change::format(img, name, at))
 }
 
-// The same with the bit page in the middle.
+// The same with the bit file from the middle page on.
 #[no_mangle]
 pub extern "C" fn nord_format_default(img: &mut [u16], name: &[u8]) -> Reply
     ensures { λ r. ⌜ Replied (formatDefaultCall (now (img .entry)) (now (name .entry))) (now (img .entry)) r (now (img .exit)) ⌝ }

@@ -10,7 +10,7 @@ ghost use Rattle.salvage.specs.Row.{rowSize};
 ghost use Rattle.edge.specs.Salvages.{Mended, Salvages};
 
 // Salvages the volume; the row begins with the changes, as many as the reply's value says.
-pub fn mended(img: &mut [u16], room: usize, row: &mut [u64; 1539]) -> Reply
+pub fn mended(img: &mut [u16], room: usize, row: &mut [u64; 9311]) -> Reply
     requires { ⌜ length (now row) ≡ rowSize ⌝ }
     ensures { λ r. ⌜ Mended (now (img .entry)) room r (now (img .exit)) (now (row .exit)) ⌝ }
 {

@@ -2,7 +2,7 @@
 use mathlib.Core.Path.{_≡_, sym, ap, ap₂, _∙_, subst₂, fun-ext}
 use mathlib.Core.Logic.{_≢_, inl, inr}
 use mathlib.Core.List.{List}
-use Prim.Native.Nat.{ℕ, zero, suc, _+_, _-_, _/_, _<_}
+use Prim.Native.Nat.{ℕ, zero, suc, _+_, _-_, _*_, _/_, _<_}
 use native.Mathlib.Omega.{arith}
 use lib.ListN.{length}
 use Rattle.sums.specs.Sum.{sum}
@@ -10,7 +10,7 @@ use Rattle.book.specs.Words.{Vol, vol, put2, zeros}
 use Rattle.book.specs.Written.{word-ext, put2-page, putWords-page}
 use Rattle.book.specs.Pointers.{page, bitPointer}
 use Rattle.book.specs.Trees.{Root, tree, run, weighR, blocksR, rootBy}
-use Rattle.book.specs.Bits.{bitPage, freed}
+use Rattle.book.specs.Bits.{pageBits, bitPages, bitPage, freed}
 use Rattle.book.specs.Delete.{deleteFile}
 use Rattle.book.specs.Entries.{user, userPage, objectPage, putEntry, entryWord, entryPage, usedPages, fileEntry}
 use Rattle.book.specs.Files.{fileAt, Shape}
@@ -24,12 +24,13 @@ use Rattle.laws.specs.Frame.Edit.{obj-page, user-page}
 use Rattle.laws.specs.Frame.Renewed.{master-words, rule1}
 use Rattle.laws.specs.Frame.Rest.{rest, file-le}
 use Rattle.laws.specs.Frame.Roots.{blocksR-add, blocksR-frame, blocksR-le, weighR-frame}
+use Rattle.laws.specs.Salvage.Apart.{blocks-hits}
 use Rattle.laws.specs.Tree.Pointer.{page-ext}
 use Rattle.laws.specs.Tree.Slot.{Agree, pair-zero}
 use Rattle.laws.specs.Tree.Weigh.{Below-frame, BelowR}
 use Rattle.growth.specs.declared.entries.Head.{Head}
 use Rattle.growth.specs.Head.{FileHead, heldBy}
-use Rattle.growth.specs.Freeing.{Freeing, RootApart}
+use Rattle.growth.specs.Freeing.{bitHits, Freeing, RootApart}
 use Rattle.tree.proofs.Ready.{ready-some}
 use Rattle.growth.proofs.Files.{file-shape, file-root, file-held, file-entry-pos, file-owner-pos}
 
@@ -71,7 +72,7 @@ module _ {img : List ℕ} {u f : ℕ} {h : Head} (a : FileHead img u f h) where
   pos : 0 < P
   pos = ready-some img (a .ready)
 
-  -- ---- no block of the file is an entry's page or the bit page
+  -- ---- no block of the file is an entry's page or one of the bit file
 
   -- a page that no file holds
   unheld : (q : ℕ) → sum 256 (λ u. mine v u (hit q)) ≡ 0 → blocksR v r (hit q) ≡ 0
@@ -85,12 +86,13 @@ module _ {img : List ℕ} {u f : ℕ} {h : Head} (a : FileHead img u f h) where
   unfolding userPage
   unheld-owner = unheld (h .owner) (ap (λ (q : ℕ). sum 256 (λ u. mine v u (hit q))) (a .head .ownerAt) ∙ user-page P v (λ p. 0) G pos (entryPage u) .3)
 
-  unheld-bits : blocksR v r (hit (h .bits)) ≡ 0
+  unheld-bits : blocksR v r (bitHits P (h .bits)) ≡ 0
   unfolding rest
-  unheld-bits = unheld (h .bits) (ap (λ (q : ℕ). sum 256 (λ u. mine v u (hit q))) (sym at) ∙ omega (arith, bitPage-rest P v (λ p. 0) G 0 pos .0))
+  unheld-bits = blocks-hits v r (λ i. h .bits + i) (bitPages P) (λ i l. unheld (h .bits + i)
+      (ap (λ (q : ℕ). sum 256 (λ u. mine v u (hit q))) (sym (at i l)) ∙ omega (arith, bitPage-rest P v (λ p. 0) G (pageBits * i) (omega arith) .0)))
     where
-      at : bitPage P v 0 ≡ h .bits
-      at = bitPage-is P v (a .ready .sound .r1) 0 pos ∙ omega (arith, a .head .bitsAt .at)
+      at : (i : ℕ) → i < bitPages P → bitPage P v (pageBits * i) ≡ h .bits + i
+      at i l = bitPage-is P v (a .ready .sound .r1) (pageBits * i) (omega arith) ∙ omega (arith, a .head .bitsAt .at)
 
   -- ---- the entry is cleared, and its owner has used y
 
@@ -132,7 +134,7 @@ module _ {img : List ℕ} {u f : ℕ} {h : Head} (a : FileHead img u f h) where
       erased-apart = subst₂ (λ (N : ℕ) (x : Vol). RootApart N x (h .bits) (h .flags) (h .top) (h .count)) (sym same) (sym i) record {
         known = shape-known P v (h .flags) (h .top) (h .count) (file-shape a);
         below = below-frame P v w C agree r quiet (below-shape P v (h .flags) (h .top) (h .count) (file-shape a));
-        apart = blocksR-frame v w C agree r quiet (hit (h .bits)) ∙ unheld-bits;
+        apart = blocksR-frame v w C agree r quiet (bitHits P (h .bits)) ∙ unheld-bits;
         start = shape-start P v (h .flags) (h .top) (h .count) (file-shape a);
       }
 

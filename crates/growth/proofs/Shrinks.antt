@@ -18,7 +18,7 @@ use Rattle.growth.proofs.Files.{file-owner-pos, file-entry-pos, file-to
 use Rattle.growth.proofs.Phases.{phase-onward, phase-first, phase-raise, phase-block}
 use Rattle.growth.proofs.Places.{bits-slot, bits-finish}
 
--- page d was freed of v, which left w; b is the bit page
+-- page d was freed of v, which left w; b is where the bit file begins
 abbrev pub Freed : ℕ → Vol → ℕ → Vol → Type 0
 Freed b v d w = (N : ℕ) → BitsAt N v b → d < N → w ≡ mark N v d 0
 

@@ -12,9 +12,9 @@ use Rattle.book.specs.Words.{Vol, vol}
 use Rattle.book.specs.Written.{word-ext}
 use Rattle.book.specs.Pointers.{page, slot, bitPointer}
 use Rattle.book.specs.Trees.{Root, tree, run, weigh, blocks, Below, weighR, blocksR, rootBy}
-use Rattle.book.specs.Bits.{bitPage, mark, freed}
+use Rattle.book.specs.Bits.{pageBits, bitPages, bitPage, mark, freed}
 use Rattle.book.specs.Holders.{hit}
-use Rattle.book.specs.Image.{pages, mostPages}
+use Rattle.book.specs.Image.{pages}
 use Rattle.book.specs.Rules.{Rule1}
 use Rattle.laws.specs.Bits.Claim.{bitPage-is}
 use Rattle.laws.specs.Bits.Freed.{freed-rule, freed-page, freed-master, freed-none, freed-one, freed-more, freed-ext}
@@ -23,16 +23,19 @@ use Rattle.laws.specs.Tree.Slot.{Agree, hit-zero, hit-same, slot-same}
 use Rattle.laws.specs.Tree.Weigh.{Below-frame, BelowR, blocks-frame, weigh-frame, weigh-none}
 use Rattle.bits.specs.File.{BitsAt}
 use Rattle.bits.proofs.Places.{bits-at}
-use Rattle.growth.specs.Freeing.{Freeing, Apart, RootApart}
+use Rattle.growth.specs.Freeing.{bitHits, Freeing, Apart, RootApart}
 
--- what is freed of v under g, where b is its bit page
-module _ (P : ℕ) (v : Vol) (b : ℕ) (most : P ≤ mostPages) (r : Rule1 P v) (at : page (v 0) bitPointer ≡ b) where
-  pub freed-agree : (g : ℕ → ℕ) → Agree (hit b) v (freed P v g)
+-- what is freed of v under g, where b is where its bit file begins
+module _ (P : ℕ) (v : Vol) (b : ℕ) (r : Rule1 P v) (at : page (v 0) bitPointer ≡ b) where
+  pub freed-agree : (g : ℕ → ℕ) → Agree (bitHits P b) v (freed P v g)
   unfolding Agree
-  freed-agree g q z k = word-ext v (freed P v g) q k (λ h. freed-page P v r g q k (λ p i e. omega (arith, z, hit-same q h, subst (λ (x : ℕ). hit x q ≡ hit q q) (e ∙ one p i) refl)))
+  freed-agree g q z k = word-ext v (freed P v g) q k (λ h. freed-page P v r g q k (λ p i e. omega (arith, missed p i, hit-same q h, subst (λ (x : ℕ). hit x q ≡ hit q q) (e ∙ one p i) refl)))
     where
-      one : (p : ℕ) → p < P → bitPage P v p ≡ b
+      one : (p : ℕ) → p < P → bitPage P v p ≡ b + p / pageBits
       one p i = bitPage-is P v r p i ∙ omega (arith, at)
+
+      missed : (p : ℕ) → p < P → hit (b + p / pageBits) q ≡ 0
+      missed p i = sum-at-zero (bitPages P) (λ j. hit (b + j) q) z (p / pageBits) (omega arith)
 
 -- ---- what a walk has freed so far, as a weight of page p
 
@@ -47,7 +50,7 @@ runOf s i p = sum i (λ k. hit p (s + k))
 -- a block's pointers
 pub apart-slot : (P : ℕ) (v : Vol) (b l t : ℕ) → Apart P v b (suc l) t → (k : ℕ) → k < 512 → Apart P v b l (slot v t k)
 unfolding Below blocks
-apart-slot P v b l t A k h = record { below = A .below .1 k h; apart = sum-at-zero 512 (λ k. blocks v l (slot v t k) (hit b)) (omega (arith, A .apart)) k h }
+apart-slot P v b l t A k h = record { below = A .below .1 k h; apart = sum-at-zero 512 (λ k. blocks v l (slot v t k) (bitHits P b)) (omega (arith, A .apart)) k h }
 
 pub apart-top : (P : ℕ) (v : Vol) (b l t : ℕ) → Apart P v b l t → t < P
 unfolding Below
@@ -62,7 +65,7 @@ module _ (img : List ℕ) (b : ℕ) (F : Freeing img b) where
   v = vol img
 
   pub freeing-bits : BitsAt P v b
-  freeing-bits = subst (λ (x : ℕ). BitsAt P v x) (F .at) (bits-at P v (F .whole .most) (F .rule))
+  freeing-bits = subst (λ (x : ℕ). BitsAt P v x) (F .at) (bits-at P v (F .rule))
 
   -- one page
   pub clear-is : (w : Vol) (t : ℕ) → 0 < t → t < P → ((N : ℕ) → BitsAt N v b → t < N → w ≡ mark N v t 0) → w ≡ freed P v (λ p. hit p t)
@@ -89,8 +92,8 @@ module _ (img : List ℕ) (b : ℕ) (F : Freeing img b) where
     same : pages img′ ≡ P
     same = ap (λ (n : ℕ). n / 1024) len
 
-    agree : Agree (hit b) v (vol img′)
-    agree = subst (λ (w : Vol). Agree (hit b) v w) (sym i) (freed-agree P v b (F .whole .most) (F .rule) (F .at) g)
+    agree : Agree (bitHits P b) v (vol img′)
+    agree = subst (λ (w : Vol). Agree (bitHits P b) v w) (sym i) (freed-agree P v b (F .rule) (F .at) g)
 
     pub freeing-next : Freeing img′ b
     freeing-next = record {
@@ -103,9 +106,9 @@ module _ (img : List ℕ) (b : ℕ) (F : Freeing img b) where
         master k = ap (λ (w : Vol). w 0 k) i ∙ freed-master P v (F .rule) g k
 
     pub apart-next : (l t : ℕ) → Apart P v b l t → Apart (pages img′) (vol img′) b l t
-    apart-next l t A = record {
-      below = subst (λ (N : ℕ). Below (vol img′) N l t) (sym same) (Below-frame v (vol img′) (hit b) agree P l t (A .apart) (A .below));
-      apart = blocks-frame v (vol img′) (hit b) agree l t (A .apart) (hit b) ∙ A .apart;
+    apart-next l t A = subst (λ (N : ℕ). Apart N (vol img′) b l t) (sym same) record {
+      below = Below-frame v (vol img′) (bitHits P b) agree P l t (A .apart) (A .below);
+      apart = blocks-frame v (vol img′) (bitHits P b) agree l t (A .apart) (bitHits P b) ∙ A .apart;
     }
 
     -- of a level that code has one lower
@@ -128,7 +131,7 @@ module _ (img : List ℕ) (b : ℕ) (F : Freeing img b) where
     slots-more l t k A h eg x ex w e =
         more w (λ p. weigh (vol img′) l x (hit p)) e
         ∙ freed-ext P v (F .rule) _ _ (λ p j. ap₂ (λ (a c : ℕ). a + c) (eg p)
-        (ap (λ (y : ℕ). weigh (vol img′) l y (hit p)) (ex ∙ slot-next l t A k) ∙ weigh-frame v (vol img′) (hit b) agree l (slot v t k) (apart-slot P v b l t A k h .apart) (hit p))
+        (ap (λ (y : ℕ). weigh (vol img′) l y (hit p)) (ex ∙ slot-next l t A k) ∙ weigh-frame v (vol img′) (bitHits P b) agree l (slot v t k) (apart-slot P v b l t A k h .apart) (hit p))
         ∙ sym (ap (λ (m : ℕ). slotsOf v l t m p) (add-one k) ∙ sum-suc k (λ q. weigh v l (slot v t q) (hit p))))
 
     -- the pointer read there
@@ -141,7 +144,7 @@ module _ (img : List ℕ) (b : ℕ) (F : Freeing img b) where
     pointer-block l m t q A eg w e =
         let A′ : Apart P v b (suc m) t = subst (λ (x : ℕ). Apart P v b x t) q A in
         more w (slotsOf (vol img′) m t 512) e
-        ∙ freed-ext P v (F .rule) _ (λ p. weigh v (suc m) t (hit p)) (λ p j. ap (λ (x : ℕ). x + slotsOf (vol img′) m t 512 p) (eg p) ∙ weigh-frame v (vol img′) (hit b) agree (suc m) t (A′ .apart) (hit p))
+        ∙ freed-ext P v (F .rule) _ (λ p. weigh v (suc m) t (hit p)) (λ p j. ap (λ (x : ℕ). x + slotsOf (vol img′) m t 512 p) (eg p) ∙ weigh-frame v (vol img′) (bitHits P b) agree (suc m) t (A′ .apart) (hit p))
         ∙ ap (λ (x : ℕ). freed P v (λ p. weigh v x t (hit p))) (sym q)
 
 -- ---- a root, by the flags x of its pointer
@@ -166,7 +169,7 @@ module _ (P : ℕ) (v : Vol) (b x t n : ℕ) (R : RootApart P v b x t n) where
   unfolding BelowR blocksR
   tree-apart z =
       let e : rootBy x t n ≡ tree x t = root-tree x t n (omega arith) (R .known) in
-      record { below = subst (λ (r : Root). BelowR v P r) e (R .below); apart = subst (λ (r : Root). blocksR v r (hit b) ≡ 0) e (R .apart) }
+      record { below = subst (λ (r : Root). BelowR v P r) e (R .below); apart = subst (λ (r : Root). blocksR v r (bitHits P b) ≡ 0) e (R .apart) }
 
   pub run-is : x ≡ 0 → (w : Vol) → w ≡ freed P v (runOf t n) → w ≡ freed P v (λ p. weighR v (rootBy x t n) (hit p))
   unfolding weighR

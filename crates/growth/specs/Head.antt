@@ -12,7 +12,7 @@ use Rattle.book.specs.Calls.{Grows, Shrinks}
 use Rattle.bits.specs.File.{BitsAt}
 use Rattle.growth.specs.declared.entries.Head.{Head}
 
--- h is what the entries of user u and of file e say, and where they and the bit page are
+-- h is what the entries of user u and of file e say, and where they are and the bit file begins
 pub record HeadOf (P : ℕ) (v : Vol) (u e : ℕ) (h : Head) : Type 0 where
   pub ownerAt : h .owner ≡ userPage v u
   pub ownerIn : h .owner < P

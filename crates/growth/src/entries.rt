@@ -25,7 +25,7 @@ ghost use Rattle.book.specs.Image.{pages, Ready};
 ghost use Rattle.book.specs.Grow.{finish as finishOf, indexOf};
 ghost use Rattle.growth.specs.Head.{HeadOf};
 
-// What a step knows of its file: the pages of the two entries, the bit page, the flags and the page of the file's pointer, the file's pages and its owner's used pages.
+// What a step knows of its file: the pages of the two entries, where the bit file begins, the flags and the page of the file's pointer, the file's pages and its owner's used pages.
 pub struct Head {
     pub owner: usize,
     pub entry: usize,

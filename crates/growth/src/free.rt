@@ -1,4 +1,4 @@
-// Freeing the pages of a file: the page of a pointer and all below it, by the level, or a run. b is the bit page.
+// Freeing the pages of a file: the page of a pointer and all below it, by the level, or a run. b is where the bit file begins.
 use page::read::slot_at;
 ghost use mathlib.Core.Path.{_≡_};
 ghost use Prim.Native.Nat.{suc, _+_, _≤_, _<_};

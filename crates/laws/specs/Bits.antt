@@ -5,6 +5,7 @@ pub mod Claims
 pub mod Freed
 pub mod Mark
 pub mod Marked
+pub mod OnePage
 pub mod Painted
 pub mod Runs
 pub mod Taking

@@ -9,9 +9,9 @@ use native.Mathlib.Omega.{arith}
 use lib.Arith.{digits-div, digits-mod}
 use lib.ListN.{length, getD, take, length-append}
 use lib.Seq.{length-take-le, getD-take, ext-getD}
-use Rattle.sums.specs.Sum.{sum, sum-zero, sum-suc, sum-ext, sum-none, sum-add, sum-le, sum-const, sum-mul}
+use Rattle.sums.specs.Sum.{sum, sum-zero, sum-suc, sum-ext, sum-add, sum-le, sum-const, sum-mul}
 use Rattle.sums.specs.Search.{pick, pick-yes, pick-no}
-use Rattle.book.specs.Words.{Words, Vol, vol, word}
+use Rattle.book.specs.Words.{Vol, vol, word}
 use Rattle.book.specs.Pointers.{slot}
 use Rattle.book.specs.Trees.{Root, tree, run, weigh, weighR, leaf, upto, pageAt}
 use Rattle.book.specs.Bits.{bitPages, bitFile}
@@ -187,7 +187,7 @@ module _ (v : Vol) where
 
 -- the pages of users and objects are system pages, beside the master and the bit file
 entry-pages : (P : ℕ) (v : Vol) → Sound P v → weighR v (userFile v) some + weighR v (objectFile v) some + 2 ≤ P
-unfolding Rule10 systemPages system bitFile bitPages
+unfolding Rule10 systemPages system bitFile
 entry-pages P v S =
     let b : weighR v (bitFile P v) some ≡ bitPages P = run-count v _ (bitPages P) (S .r1 .start) in
     omega (arith, b, S .r10 .1, S .r1 .start, S .r1 .fits)

@@ -15,7 +15,7 @@ use Rattle.book.specs.Entries.{userFile, objectFile, unreserved, objectPage, en
 use Rattle.book.specs.Holders.{hit}
 use Rattle.book.specs.Rules.{Sound}
 use Rattle.book.specs.Create.{extend, objectIndex, fileNeed, filePlace}
-use Rattle.book.specs.Image.{mostPages, pages, Ready}
+use Rattle.book.specs.Image.{pages, Ready}
 use Rattle.laws.specs.Bits.Choose.{lowest-stock}
 use Rattle.laws.specs.Bits.Claim.{FreePage, bitPage-rest, claim-bit, claim-bit-other}
 use Rattle.laws.specs.Create.Join.{pay-page}
@@ -23,6 +23,7 @@ use Rattle.laws.specs.Create.Placed.{extend-free, extend-pos, extend-master}
 use Rattle.laws.specs.Create.Vacant.{Reached, Vacant, index-vacant, object-none, top-vacant}
 use Rattle.laws.specs.Frame.Rest.{rest}
 use Rattle.laws.specs.Frame.Roots.{blocksR-le}
+use Rattle.page.specs.Parts.{wordFrom}
 use Rattle.bits.specs.File.{BitsAt}
 use Rattle.bits.specs.Search.{freeFrom}
 use Rattle.tree.proofs.Ready.{ready-some}
@@ -107,7 +108,7 @@ module _ (P : ℕ) (v w : Vol) (s : ℕ) (S : Spent P v w s) where
 
 -- ---- a page taken for a place
 
-module _ (P : ℕ) (most : P ≤ mostPages) (v : Vol) (S : Sound P v) (pos : 0 < P) (X k : ℕ) (N : Vacant P v X k) (have : 1 ≤ unreserved v) where
+module _ (P : ℕ) (v : Vol) (S : Sound P v) (pos : 0 < P) (X k : ℕ) (N : Vacant P v X k) (have : 1 ≤ unreserved v) where
   abbrev d : ℕ
   d = lowestFree P v
 
@@ -124,7 +125,7 @@ module _ (P : ℕ) (most : P ≤ mostPages) (v : Vol) (S : Sound P v) (pos : 0 <
   free = extend-free (lowest-stock S pos) N have
 
   B₀ : BitsAt P v b
-  B₀ = bits-at P v most (S .r1)
+  B₀ = bits-at P v (S .r1)
 
   B₁ : BitsAt P v₁ b
   B₁ = bits-claim P v b d (extend-pos (lowest-stock S pos) N have) (free .below) B₀
@@ -133,19 +134,20 @@ module _ (P : ℕ) (most : P ≤ mostPages) (v : Vol) (S : Sound P v) (pos : 0 <
   B₂ = bits-kept P v v′ b (extend-master (lowest-stock S pos) N have bitPointer (omega arith))
       (extend-master (lowest-stock S pos) N have (suc bitPointer) (omega arith)) B₀
 
-  -- the bit page is no block
-  apart : b ≢ X
+  -- no page of the bit file is a block
+  apart : (p : ℕ) → p < P → b + p / 16 / 1024 ≢ X
   unfolding rest
-  apart e =
-      let z : rest v (hit b) ≡ 0 = subst (λ (q : ℕ). rest v (hit q) ≡ 0) (bit-page P v b B₀ d (free .below)) (bitPage-rest P v (λ p. 0) (free .good) d (free .below) .0) in
+  apart p h e =
+      let z : rest v (hit (b + p / 16 / 1024)) ≡ 0 = subst (λ (q : ℕ). rest v (hit q) ≡ 0) (bit-page P v b B₀ p h) (bitPage-rest P v (λ p. 0) (free .good) p h .0) in
       omega (arith, N .block, blocksR-le v (userFile v) (hit X), blocksR-le v (objectFile v) (hit X), subst (λ (q : ℕ). rest v (hit q) ≡ 0) e z)
 
-  same : (j : ℕ) → v′ b j ≡ v₁ b j
+  same : (p : ℕ) → p < P → wordFrom v′ b (p / 16) ≡ wordFrom v₁ b (p / 16)
   unfolding extend setSlot
-  same j = pay-page (setSlot v₁ X k d) 1 b j (B₀ .some) ∙ put2-page v₁ X (2 * k) d b j apart
+  same p h =
+      pay-page (setSlot v₁ X k d) 1 (b + p / 16 / 1024) (p / 16 % 1024) (omega (arith, B₀ .some)) ∙ put2-page v₁ X (2 * k) d (b + p / 16 / 1024) (p / 16 % 1024) (apart p h)
 
   bits : (p : ℕ) → p < P → bit P v′ p ≡ bit P v₁ p
-  bits p h = bit-at P v′ b B₂ p h ∙ ap (digit (p % 16)) (same (p / 16)) ∙ sym (bit-at P v₁ b B₁ p h)
+  bits p h = bit-at P v′ b B₂ p h ∙ ap (digit (p % 16)) (same p h) ∙ sym (bit-at P v₁ b B₁ p h)
 
   extend-spent : (u : Vol) (s : ℕ) → Spent P u v s → Spent P u (extend (lowestFree P) P v X k) (suc (freeFrom P u s))
   extend-spent u s A =
@@ -182,7 +184,7 @@ module _ {img : List ℕ} {e : ℕ} (d : Ready img) (R : Reached (pages img) (vo
       let q : objectPage v e ≡ 0 = omega arith in
       subst (λ (w : Vol). Spent P v w (suc (freeFrom P v 0)))
       (file-place-is P v e v _ (index-kept P v e p) P (object-new P v e q (objectIndex v e) (entryPage e % 512) refl refl _ refl) refl)
-      (extend-spent P (d .whole .most) v (d .sound) pos (objectIndex v e) (entryPage e % 512) (index-vacant P v (d .sound) e R p q) (omega (arith, have, z)) v 0 (spent-none P v))
+      (extend-spent P v (d .sound) pos (objectIndex v e) (entryPage e % 512) (index-vacant P v (d .sound) e R p q) (omega (arith, have, z)) v 0 (spent-none P v))
 
   -- two pages
   module _ (two : 1 < fileNeed v e) where
@@ -200,7 +202,7 @@ module _ {img : List ℕ} {e : ℕ} (d : Ready img) (R : Reached (pages img) (vo
     w = extend (lowestFree P) P v o i
 
     first : Spent P v w (suc (freeFrom P v 0))
-    first = extend-spent P (d .whole .most) v (d .sound) pos o i (top-vacant P v (d .sound) e R none) (need-one P v e (d .sound) pos R have none) v 0 (spent-none P v)
+    first = extend-spent P v (d .sound) pos o i (top-vacant P v (d .sound) e R none) (need-one P v e (d .sound) pos R have none) v 0 (spent-none P v)
 
     I : Indexed P v e w
     I = index-made P v e (d .sound) pos R have none
@@ -212,7 +214,7 @@ module _ {img : List ℕ} {e : ℕ} (d : Ready img) (R : Reached (pages img) (vo
     two-spent =
         subst (λ (z : Vol). Spent P v z (suc (freeFrom P v (suc (freeFrom P v 0)))))
         (file-place-is P v e w _ (index-new P v e none o i refl refl w refl) P (object-new P w e q (objectIndex w e) (entryPage e % 512) refl refl _ refl) refl)
-        (extend-spent P (d .whole .most) w (I .sound) pos (objectIndex w e) (entryPage e % 512) (index-vacant P w (I .sound) e (I .reached) (I .index) q) (omega (arith, I .room, q)) v _ first)
+        (extend-spent P w (I .sound) pos (objectIndex w e) (entryPage e % 512) (index-vacant P w (I .sound) e (I .reached) (I .index) q) (omega (arith, I .room, q)) v _ first)
 
   most-two : fileNeed v e ≤ 2
   unfolding fileNeed

@@ -5,7 +5,7 @@ use page::WORDS;
 use seek::files::entry_number;
 use seek::needs::file_need;
 ghost use mathlib.Core.Path.{_≡_};
-ghost use Prim.Native.Nat.{_+_, _*_, _≤_, _<_};
+ghost use Prim.Native.Nat.{_*_, _≤_, _<_};
 ghost use lib.ListN.{length};
 ghost use Rattle.book.specs.Words.{vol};
 ghost use Rattle.book.specs.Bits.{lowestFree, highestRun};
@@ -17,7 +17,7 @@ ghost use Rattle.making.specs.Spent.{afterLowest};
 
 // The page after the n lowest free ones.
 fn after_lowest(img: &[u16], b: usize, count: usize, n: u32) -> usize
-    requires { ⌜ (1024 * b + 1024 ≤ length (now img)) × BitsAt count (vol (now img)) b ⌝ }
+    requires { ⌜ (1024 * count ≤ length (now img)) × BitsAt count (vol (now img)) b ⌝ }
     ensures { λ r. ⌜ r ≡ afterLowest count (vol (now (img .entry))) n ⌝ }
 {
     let mut s: usize = 0;

@@ -1,12 +1,11 @@
 -- How format comes back: refused with 1 or 2, or done. Assumes nothing.
-use mathlib.Core.Path.{_≡_, refl}
+use mathlib.Core.Path.{_≡_, refl, sym, subst}
 use mathlib.Core.Logic.{inl, inr}
 use mathlib.Core.List.{List}
-use Prim.Native.Nat.{ℕ, _<_}
+use Prim.Native.Nat.{ℕ}
 use native.Mathlib.Omega.{arith}
 use lib.ListN.{length}
 use Rattle.book.specs.Words.{vol}
-use Rattle.book.specs.Bits.{bitPages}
 use Rattle.book.specs.Names.{NameText}
 use Rattle.book.specs.Format.{format}
 use Rattle.book.specs.Image.{pages, Whole, BitArg}
@@ -16,15 +15,9 @@ use Rattle.book.specs.Outcome.{Outcome, BrokenFor}
 use Rattle.book.specs.Calls.{formatCall}
 use Rattle.book.specs.declared.Refusal.the-variants.{Size, Argument}
 
--- the bit file is one page
-module _ (img : List ℕ) (b : ℕ) (W : Whole img) (P : ℕ) (p : P ≡ pages img) where
-  pub bit-arg : 0 < b → b < P → BitArg (pages img) b
-  unfolding bitPages
-  bit-arg h k = (h, omega (arith, W .most, W .least, p, k))
-
-  bit-low : BitArg (pages img) b → b < P
-  unfolding bitPages
-  bit-low a = omega (arith, W .most, W .least, p, a .1)
+-- the bit file lies in a volume of as many pages
+pub bit-arg : (P Q b : ℕ) → P ≡ Q → BitArg P b → BitArg Q b
+bit-arg P Q b e = subst (λ (n : ℕ). BitArg n b) e
 
 module _ (img name : List ℕ) (b : ℕ) where
   pub format-size : (Whole img → ⊥) → Outcome (formatCall img name b) img (refusedWith 0 Size) img
@@ -32,17 +25,17 @@ module _ (img name : List ℕ) (b : ℕ) where
   format-size h = inl record { number = inl (refl, h); value = refl; broken = (λ e. let z : ⊥ = omega (arith, e) in absurd z, λ e. refl); image = refl }
 
   module _ (W : Whole img) (P : ℕ) (p : P ≡ pages img) where
-    pub format-argument : (NameText name × (0 < b) × (b < P) → ⊥) → Outcome (formatCall img name b) img (refusedWith 0 Argument) img
+    pub format-argument : (NameText name × BitArg P b → ⊥) → Outcome (formatCall img name b) img (refusedWith 0 Argument) img
     unfolding Outcome BrokenFor formatCall Lowest
     format-argument h =
         inl record {
-          number = inr (W, inl (refl, λ a. h (a .0, a .1 .0, bit-low img b W P p (a .1))));
+          number = inr (W, inl (refl, λ a. h (a .0, bit-arg (pages img) P b (sym p) (a .1))));
           value = refl;
           broken = (λ e. let z : ⊥ = omega (arith, e) in absurd z, λ e. refl);
           image = refl;
         }
 
     pub format-done :
-        NameText name × (0 < b) × (b < P) → (img′ : List ℕ) → vol img′ ≡ format (pages img) (vol img) name b → length img′ ≡ length img → Outcome (formatCall img name b) img (doneWith 0) img′
+        NameText name × BitArg P b → (img′ : List ℕ) → vol img′ ≡ format (pages img) (vol img) name b → length img′ ≡ length img → Outcome (formatCall img name b) img (doneWith 0) img′
     unfolding Outcome formatCall Clear
-    format-done a img′ e l = inr record { number = refl; clear = (W, ((a .0, bit-arg img b W P p (a .1) (a .2)), tt)); value = refl; broken = refl; image = e; size = l }
+    format-done a img′ e l = inr record { number = refl; clear = (W, ((a .0, bit-arg P (pages img) b p (a .1)), tt)); value = refl; broken = refl; image = e; size = l }

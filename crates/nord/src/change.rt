@@ -8,11 +8,10 @@ use book::Answer;
 use book::Gate;
 use book::Refusal;
 use seek::files::entry_number;
-ghost use mathlib.Core.Path.{_≡_};
-ghost use Prim.Native.Nat.{_<_};
+ghost use Prim.Native.Nat.{_≤_};
 ghost use Rattle.book.specs.Decides.{Decides};
 ghost use Rattle.book.specs.Names.{NameText};
-ghost use Rattle.book.specs.Image.{IndexArg, CountArg, DataArg};
+ghost use Rattle.book.specs.Image.{mostPages, IndexArg, CountArg, BitArg, DataArg};
 ghost use Rattle.book.specs.Answers.{numbers};
 ghost use Rattle.book.specs.Outcome.{Outcome};
 ghost use Rattle.book.specs.Calls.{giveCall, takeCall, deleteUserCall, openCall, writeCall, formatCall, formatDefaultCall};
@@ -172,9 +171,10 @@ pub fn write_page(
     write_page_open(img, user, file, n, data)
 }
 
-// Whether a name and a bit page are right for a format of so many pages.
+// Whether a name is right for a format of so many pages, and all of a bit file that begins at page `at` lies in 1..total-1.
 fn format_args(total: usize, name: &[u8], at: usize) -> bool
-    ensures { λ r. ⌜ Decides r (NameText (now (name .entry)) × (0 < at) × (at < total)) ⌝ }
+    requires { ⌜ total ≤ mostPages ⌝ }
+    ensures { λ r. ⌜ Decides r (NameText (now (name .entry)) × BitArg total at) ⌝ }
 {
     if !page::names::text(name, 1, 16) {
         return false;
@@ -185,10 +185,13 @@ fn format_args(total: usize, name: &[u8], at: usize) -> bool
     if total <= at {
         return false;
     }
+    if total - at < bits::bit_pages(total) {
+        return false;
+    }
     true
 }
 
-// Makes a new volume with its bit page at `at`. The image need not be sound.
+// Makes a new volume whose bit file begins at page `at`. The image need not be sound.
 pub fn format(img: &mut [u16], name: &[u8], at: usize) -> Answer
     ensures { λ r. ⌜ Outcome (formatCall (now (img .entry)) (now (name .entry)) at) (now (img .entry)) (numbers r) (now (img .exit)) ⌝ }
 {
@@ -205,7 +208,7 @@ pub fn format(img: &mut [u16], name: &[u8], at: usize) -> Answer
     Answer::Done { value: 0 }
 }
 
-// The same with the bit page in the middle.
+// The same with the bit file from the middle page on.
 pub fn format_default(img: &mut [u16], name: &[u8]) -> Answer
     ensures { λ r. ⌜ Outcome (formatDefaultCall (now (img .entry)) (now (name .entry))) (now (img .entry)) (numbers r) (now (img .exit)) ⌝ }
 {

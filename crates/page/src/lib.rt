@@ -24,7 +24,7 @@ pub const INDEXED: u16 = 1;
 pub const SUBINDEXED: u16 = 2;
 
 // The most pages that an image has.
-pub const MOST_PAGES: usize = 16384;
+pub const MOST_PAGES: usize = 140733;
 
 // The pages of the object file: 65,536 entries, 32 to a page.
 pub const OBJECT_PAGES: usize = 2048;

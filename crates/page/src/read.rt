@@ -5,6 +5,7 @@ ghost use Prim.Native.Nat.{_+_, _*_, _%_, _≤_, _<_};
 ghost use lib.ListN.{length, getD};
 ghost use Rattle.book.specs.Words.{vol, two};
 ghost use Rattle.book.specs.Pointers.{page, flags, slot};
+ghost use Rattle.page.specs.Parts.{wordFrom};
 
 fn wide(x: u16) -> u32
     ensures { λ r. ⌜ (r ≡ x) × (r < 65536) ⌝ }
@@ -34,6 +35,14 @@ pub fn word_at(img: &[u16], p: usize, k: usize) -> u16
     ensures { λ r. ⌜ r ≡ vol (now (img .entry)) p k ⌝ }
 {
     img[WORDS * p + k]
+}
+
+// Word i of the pages from page p on.
+pub fn word_from(img: &[u16], p: usize, i: usize) -> u16
+    requires { ⌜ 1024 * p + i < length (now img) ⌝ }
+    ensures { λ r. ⌜ r ≡ wordFrom (vol (now (img .entry))) p i ⌝ }
+{
+    img[WORDS * p + i]
 }
 
 // The two-word number at word k of page p.

@@ -27,6 +27,14 @@ pub fn put_word(img: &mut [u16], p: usize, k: usize, x: u16)
     img[WORDS * p + k] = x;
 }
 
+// Word i of the pages from page p on becomes x.
+pub fn put_from(img: &mut [u16], p: usize, i: usize, x: u16)
+    requires { ⌜ 1024 * p + i < length (now img) ⌝ }
+    ensures { λ _. ⌜ vol (now (img .exit)) ≡ put (vol (now (img .entry))) (p + i / 1024) (i % 1024) x ⌝ }
+{
+    img[WORDS * p + i] = x;
+}
+
 // The two-word number at word k of page p becomes x.
 pub fn put_two(img: &mut [u16], p: usize, k: usize, x: u32)
     requires { ⌜ (1024 * p + 1024 ≤ length (now img)) × (k < 1023) ⌝ }

@@ -2,15 +2,15 @@
 use mathlib.Core.Path.{_≡_, refl, sym, ap, ap₂, _∙_, subst}
 use mathlib.Core.List.{List}
 use mathlib.Core.Bool.{Bool}
-use Prim.Native.Nat.{ℕ, zero, suc, _+_, _-_, _*_, _≤_, _<_}
+use Prim.Native.Nat.{ℕ, _+_, _-_, _*_, _≤_, _<_}
 use native.Mathlib.Omega.{arith}
-use lib.ListN.{length, getD, replicate, length-replicate}
+use lib.ListN.{length, replicate, length-replicate}
 use Rattle.sums.specs.Sum.{sum, is, is-sym, sum-none, sum-zero}
 use Rattle.book.specs.Words.{Vol, vol}
 use Rattle.book.specs.Pointers.{page, bitPointer}
 use Rattle.book.specs.Trees.{Root, run, weighR}
 use Rattle.book.specs.Bits.{bitPages, bitFile}
-use Rattle.book.specs.Entries.{userFile, objectFile, object}
+use Rattle.book.specs.Entries.{userFile, objectFile}
 use Rattle.book.specs.Files.{fileAt}
 use Rattle.book.specs.Holders.{hit, mine, system, all, holders}
 use Rattle.book.specs.Image.{pages}
@@ -20,17 +20,17 @@ use Rattle.tree.specs.Ends.{Ends}
 use Rattle.tree.proofs.Absent.{ends-unused}
 use Rattle.bits.specs.Marks.{Unmarked, Marking}
 use Rattle.walk.specs.Held.{Volume}
-use Rattle.bits.proofs.Marked.{marked-le}
+use Rattle.bits.proofs.Marked.{marked-le, no-marks}
 use Rattle.walk.proofs.Holding.{first-mark}
 use Rattle.book.specs.declared.Place.{Place}
 use Rattle.book.specs.Spots.{at, AllHold, First}
 use Rattle.book.specs.Places.{spots8}
-use Rattle.places.specs.Low.{under, Seen, Met, Room, Meets, Meets₂, Index, Unopened, Meeting}
+use Rattle.places.specs.Low.{marksSize, openedSize, under, Seen, Met, Room, Meets, Meets₂, Index, Unopened, Meeting}
 use Rattle.places.proofs.Steps.{same₂, from-marks, then₂}
 
 -- ---- what is given on
 
-pub room-of : (img m a b : List ℕ) (c : ℕ) → Meeting img m a b c → Room m c × Index img a × (length b ≡ 16384)
+pub room-of : (img m a b : List ℕ) (c : ℕ) → Meeting img m a b c → Room m c × Index img a × (length b ≡ openedSize)
 room-of img m a b c d = (d .room, record { size = d .index; few = d .volume .whole .most; some = omega (arith, d .volume .whole .least) }, d .subindex)
 
 pub meeting-on : (img m a b : List ℕ) (c : ℕ) → Meeting img m a b c → (P : ℕ) (v : Vol) (w : ℕ → ℕ) (m′ a′ b′ : List ℕ) (c′ : ℕ) → Meets₂ P v m a b c w m′ a′ b′ c′ → Meeting img m′ a′ b′ c′
@@ -38,7 +38,7 @@ meeting-on img m a b c d P v w m′ a′ b′ c′ k = record { volume = d .volu
 
 -- ---- one file
 
-pub root-same : (P : ℕ) (v : Vol) (m a b : List ℕ) (c : ℕ) → length a ≡ 16384 → length b ≡ 16384 → (r s : Root) → r ≡ s → (m′ a′ b′ : List ℕ) (c′ : ℕ) → Meets₂ P v m a b c (λ p. weighR v s (hit p)) m′ a′ b′ c′ → Meets₂ P v m a b c (λ p. weighR v r (hit p)) m′ a′ b′ c′
+pub root-same : (P : ℕ) (v : Vol) (m a b : List ℕ) (c : ℕ) → length a ≡ openedSize → length b ≡ openedSize → (r s : Root) → r ≡ s → (m′ a′ b′ : List ℕ) (c′ : ℕ) → Meets₂ P v m a b c (λ p. weighR v s (hit p)) m′ a′ b′ c′ → Meets₂ P v m a b c (λ p. weighR v r (hit p)) m′ a′ b′ c′
 root-same P v m a b c one two r s e m′ a′ b′ c′ k = same₂ P v m a b c one two (λ p. weighR v s (hit p)) (λ p. weighR v r (hit p)) (λ p. ap (λ (x : Root). weighR v x (hit p)) (sym e)) m′ a′ b′ c′ k
 
 pub run-none : (v : Vol) (r : Root) → r ≡ run 0 0 → (g : ℕ → ℕ) → weighR v r g ≡ 0
@@ -78,17 +78,12 @@ all-is img ends d P g = ap (λ (x : ℕ). system P (vol img) g + x) (files-all i
 
 -- ---- from no marks and no opened blocks on
 
-pub zero-at : (n t : ℕ) → _≡_ {A = ℕ} (getD (replicate n 0) t 0) 0
-zero-at zero t = refl
-zero-at (suc n) zero = refl
-zero-at (suc n) (suc t) = zero-at n t
+pub unopened : (n : ℕ) → n ≡ openedSize → Unopened (replicate n 0)
+unopened n e = let d = no-marks 0 n (omega arith) in record { size = length-replicate n 0 ∙ e; none = λ t. omega (arith, d .none (2 * t), d .none (2 * t + 1)) }
 
-pub unopened : (n : ℕ) → n ≡ 16384 → Unopened (replicate n 0)
-unopened n e = record { size = length-replicate n 0 ∙ e; none = zero-at n }
-
-module _ (P : ℕ) (v : Vol) (m₀ : List ℕ) (u : Unmarked m₀) (m : List ℕ) (r : Bool) (k : Marking m₀ 0 m r) (a b : List ℕ) (da : Unopened a) (db : Unopened b) where
+module _ (P : ℕ) (v : Vol) (N : ℕ) (m₀ : List ℕ) (u : Unmarked N m₀) (m : List ℕ) (r : Bool) (k : Marking m₀ 0 m r) (a b : List ℕ) (da : Unopened a) (db : Unopened b) where
   pub started : Seen P v m a b P (λ p. is p 0)
-  started = let d = first-mark m₀ u m r k in record {
+  started = let d = first-mark N m₀ u m r k in record {
     below = λ p h. omega (arith, d .more p, u .none p, is-sym 0 p);
     twice = λ h. absurd (omega arith);
     index = λ t p h. omega (arith, ap (λ (y : ℕ). y * under v 0 t p) (da .none t));
@@ -113,7 +108,7 @@ module _ (P : ℕ) (v : Vol) (m₀ : List ℕ) (u : Unmarked m₀) (m : List ℕ
 
 -- ---- the three parts of the system, and the system and the files
 
-module _ (P : ℕ) (v : Vol) (m a b : List ℕ) (c : ℕ) (one : length a ≡ 16384) (two : length b ≡ 16384) where
+module _ (P : ℕ) (v : Vol) (m a b : List ℕ) (c : ℕ) (one : length a ≡ openedSize) (two : length b ≡ openedSize) where
   pub bits-met : (s n : ℕ) → s ≡ page (v 0) bitPointer → n ≡ bitPages P → (m′ : List ℕ) (c′ : ℕ) → Meets m c (λ p. sum n (λ i. hit p (s + i))) m′ c′ → Meets₂ P v m a b c (λ p. weighR v (bitFile P v) (hit p)) m′ a b c′
   bits-met s n e f m′ c′ k = same₂ P v m a b c one two (λ p. sum n (λ i. hit p (s + i))) (λ p. weighR v (bitFile P v) (hit p)) (λ p. bits-run P v s n e f (hit p)) m′ a b c′ (from-marks P v m a b c one two _ m′ c′ k)
 
@@ -124,7 +119,7 @@ module _ (P : ℕ) (v : Vol) (m a b : List ℕ) (c : ℕ) (one : length a ≡ 16
       (then₂ P v m a b c (λ p. weighR v (bitFile P v) (hit p) + weighR v (userFile v) (hit p)) (λ p. weighR v (objectFile v) (hit p)) m₂ a₂ b₂ c₂ m₃ a₃ b₃ c₃
       (then₂ P v m a b c (λ p. weighR v (bitFile P v) (hit p)) (λ p. weighR v (userFile v) (hit p)) m₁ a₁ b₁ c₁ m₂ a₂ b₂ c₂ x y) z)
 
-pub all-met : (img : List ℕ) (ends : ℕ) → Ends img ends → (P : ℕ) (m a b : List ℕ) (c : ℕ) → length a ≡ 16384 → length b ≡ 16384 → (m₁ a₁ b₁ : List ℕ) (c₁ : ℕ) (m₂ a₂ b₂ : List ℕ) (c₂ : ℕ) → Meets₂ P (vol img) m a b c (λ p. system P (vol img) (hit p)) m₁ a₁ b₁ c₁
+pub all-met : (img : List ℕ) (ends : ℕ) → Ends img ends → (P : ℕ) (m a b : List ℕ) (c : ℕ) → length a ≡ openedSize → length b ≡ openedSize → (m₁ a₁ b₁ : List ℕ) (c₁ : ℕ) (m₂ a₂ b₂ : List ℕ) (c₂ : ℕ) → Meets₂ P (vol img) m a b c (λ p. system P (vol img) (hit p)) m₁ a₁ b₁ c₁
     → Meets₂ P (vol img) m₁ a₁ b₁ c₁ (λ p. sum (32 * ends) (λ e. weighR (vol img) (fileAt (vol img) e) (hit p))) m₂ a₂ b₂ c₂ → Meets₂ P (vol img) m a b c (λ p. all P (vol img) (hit p)) m₂ a₂ b₂ c₂
 all-met img ends d P m a b c one two m₁ a₁ b₁ c₁ m₂ a₂ b₂ c₂ x y =
     same₂ P (vol img) m a b c one two (λ p. system P (vol img) (hit p) + sum (32 * ends) (λ e. weighR (vol img) (fileAt (vol img) e) (hit p))) (λ p. all P (vol img) (hit p)) (λ p. all-is img ends d P (hit p)) m₂ a₂ b₂ c₂
@@ -133,5 +128,5 @@ all-met img ends d P m a b c one two m₁ a₁ b₁ c₁ m₂ a₂ b₂ c₂ x y
 pub met-total : (P : ℕ) (v : Vol) (m a b : List ℕ) (c : ℕ) → c ≡ P → (w : ℕ → ℕ) (m′ a′ b′ : List ℕ) (c′ : ℕ) → Meets₂ P v m a b c w m′ a′ b′ c′ → Meets₂ P v m a b P w m′ a′ b′ c′
 met-total P v m a b c e w m′ a′ b′ c′ k = subst (λ (x : ℕ). Meets₂ P v m a b x w m′ a′ b′ c′) e k
 
-pub begun : (img m₀ a b : List ℕ) (c : ℕ) → Volume img → c ≡ pages img → Unmarked m₀ → (m : List ℕ) (r : Bool) → Marking m₀ 0 m r → Unopened a → Unopened b → Meeting img m a b c
-begun img m₀ a b c w e u m r k da db = record { volume = w; room = record { size = first-mark m₀ u m r k .kept ∙ u .size; most = omega (arith, w .whole .most) }; index = da .size; subindex = db .size }
+pub begun : (img : List ℕ) (N : ℕ) (m₀ a b : List ℕ) (c : ℕ) → Volume img → c ≡ pages img → length m₀ ≡ marksSize → Unmarked N m₀ → (m : List ℕ) (r : Bool) → Marking m₀ 0 m r → Unopened a → Unopened b → Meeting img m a b c
+begun img N m₀ a b c w e z u m r k da db = record { volume = w; room = record { size = first-mark N m₀ u m r k .kept ∙ z; most = omega (arith, w .whole .most) }; index = da .size; subindex = db .size }

@@ -1,12 +1,12 @@
 -- One bit against one mark. Assumes nothing.
-use mathlib.Core.Path.{_≡_, sym, ap₂, _∙_}
+use mathlib.Core.Path.{_≡_, ap, _∙_}
 use mathlib.Core.Logic.{inl, inr}
 use mathlib.Core.List.{List}
-use Prim.Native.Nat.{ℕ, _/_, _%_, _<_}
+use Prim.Native.Nat.{ℕ, _+_, _<_}
 use native.Mathlib.Nat.{eq-zero-or-pos}
 use native.Mathlib.Omega.{arith}
 use Rattle.book.specs.Words.{vol}
-use Rattle.book.specs.Bits.{bit}
+use Rattle.book.specs.Bits.{bit, bitPage, bitPageOf, bitWord}
 use Rattle.book.specs.Holders.{holders}
 use Rattle.book.specs.Image.{pages}
 use Rattle.laws.specs.Count.Good.{bit-le}
@@ -30,9 +30,9 @@ module _ (img : List ℕ) (total b : ℕ) (m : List ℕ) (d : Reserved img total
     | inr q ↦ omega (arith, q, r .1 q, d .held p h, marked-le m p)
   ]
 
-  pub bit-wrong : (q : Place) → q ≡ at b (p / 16) → (bit (pages img) (vol img) p ≡ marked m p → ⊥) → First (bitRow (pages img) (vol img) p) q
+  pub bit-wrong : (q : Place) → q ≡ at (b + bitPageOf p) (bitWord p) → (bit (pages img) (vol img) p ≡ marked m p → ⊥) → First (bitRow (pages img) (vol img) p) q
   unfolding First AllHold
   bit-wrong q e n = (
-    e ∙ ap₂ at (sym (bit-page (pages img) (vol img) b (d .bits) p h)) (let w : p / 16 ≡ p % 16384 / 16 = omega (arith, d .bits .most) in w),
+    e ∙ ap (λ (x : ℕ). at x (bitWord p)) (let w : b + bitPageOf p ≡ bitPage (pages img) (vol img) p = omega (arith, bit-page (pages img) (vol img) b (d .bits) p h) in w),
     λ a. n (bit-same a),
   )

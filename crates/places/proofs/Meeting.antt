@@ -1,19 +1,18 @@
 -- Pages met, one after the other. Assumes nothing.
 use mathlib.Core.Path.{_≡_, refl, sym, ap, _∙_, subst}
+use mathlib.Core.Bool.{Bool, true, false}
 use mathlib.Core.List.{List}
 use Prim.Native.Nat.{ℕ, zero, suc, _+_, _*_, _≤_, _<_}
 use native.Mathlib.Decide.{ℕ-discrete}
 use native.Mathlib.Numerals.{add-one}
 use native.Mathlib.Omega.{arith}
-use lib.ListN.{length, getD, set}
-use lib.Seq.{getD-set-same, getD-set-other}
-use Rattle.sums.specs.Sum.{sum, is, sum-suc}
+use Rattle.sums.specs.Sum.{sum, is, is-same, is-other, sum-suc}
 use Rattle.book.specs.Words.{Vol}
 use Rattle.book.specs.Holders.{hit}
 use Rattle.laws.specs.Tree.Slot.{hit-same, hit-other}
-use Rattle.bits.specs.Marks.{marked, Newly}
+use Rattle.bits.specs.Marks.{marked, Newly, Marking}
 use Rattle.bits.proofs.Marked.{marked-le}
-use Rattle.places.specs.Low.{under, Seen, Met}
+use Rattle.places.specs.Low.{under, opened, Opens, Opening, Seen, Met}
 
 -- ---- products
 
@@ -29,6 +28,52 @@ hit-is : (p x : ℕ) → 0 < x → hit p x ≡ is x p
 unfolding hit
 hit-is p zero l = absurd (omega arith)
 hit-is p (suc x) l = refl
+
+-- ---- opened blocks
+
+is-at : (x y : ℕ) → x ≡ y → is x y ≡ 1
+is-at x y e = ap (is x) (sym e) ∙ is-same x
+
+-- one of block t's two marks is new
+pub opens-by : (a : List ℕ) (t i : ℕ) (a′ : List ℕ) → i ≤ 1 → Newly a (2 * t + i) a′ → Opens a t a′
+opens-by a t i a′ h d = record {
+  more = λ u. omega (arith, d .more (2 * u), d .more (2 * u + 1), two-marks t i u h);
+  kept = d .kept;
+}
+  where
+    two-marks : (t i u : ℕ) → i ≤ 1 → is (2 * t + i) (2 * u) + is (2 * t + i) (2 * u + 1) ≡ is t u
+    two-marks t zero u h = elim (ℕ-discrete t u) [
+      | yes e ↦ subst (λ (x : ℕ). is (2 * t + 0) (2 * x) + is (2 * t + 0) (2 * x + 1) ≡ is t x) e (omega (arith, is-same t, is-at (2 * t + 0) (2 * t) (omega arith), is-other (2 * t + 0) (2 * t + 1) (λ q. omega arith)))
+      | no ne ↦ omega (arith, is-other t u ne, is-other (2 * t + 0) (2 * u) (λ q. ne (omega arith)), is-other (2 * t + 0) (2 * u + 1) (λ q. omega arith))
+    ]
+    two-marks t (suc i) u h = elim (ℕ-discrete t u) [
+      | yes e ↦ subst (λ (x : ℕ). is (2 * t + suc i) (2 * x) + is (2 * t + suc i) (2 * x + 1) ≡ is t x) e (omega (arith, is-same t, is-other (2 * t + suc i) (2 * t) (λ q. omega arith), is-at (2 * t + suc i) (2 * t + 1) (omega arith)))
+      | no ne ↦ omega (arith, is-other t u ne, is-other (2 * t + suc i) (2 * u) (λ q. omega arith), is-other (2 * t + suc i) (2 * u + 1) (λ q. ne (omega arith)))
+    ]
+
+-- block t's first mark was made, or its second where the first was there; where both were, nothing is done
+pub opening-first : (a : List ℕ) (t : ℕ) (a′ : List ℕ) (r : Bool) → Marking a (2 * t) a′ r → r ≡ true → Opening a t a′ true
+opening-first a t a′ true d e = opens-by a t 0 a′ (omega arith) (subst (λ (p : ℕ). Newly a p a′) (let q : 2 * t ≡ 2 * t + 0 = omega arith in q) d)
+opening-first a t a′ false d e = let z : _≡_ {A = ℕ} 0 1 = cc in absurd (omega arith)
+
+pub opening-second : (a : List ℕ) (t : ℕ) (a′ : List ℕ) (r : Bool) → Marking a (2 * t) a′ r → r ≡ false → (a″ : List ℕ) (s : Bool) → Marking a′ (2 * t + 1) a″ s → Opening a t a″ s
+opening-second a t a′ true d e a″ s j = let z : _≡_ {A = ℕ} 0 1 = cc in absurd (omega arith)
+opening-second a t a′ false d e a″ s j = go s (subst (λ (x : List ℕ). Marking x (2 * t + 1) a″ s) (d .1) j)
+  where
+    go : (s : Bool) → Marking a (2 * t + 1) a″ s → Opening a t a″ s
+    go true n = opens-by a t 1 a″ (omega arith) n
+    go false o = (omega (arith, d .0, o .0), o .1)
+
+-- where block t is opened once more, what was weighed for each opening is weighed for one more
+opens-bound : (a : List ℕ) (t : ℕ) (a′ : List ℕ) → Opens a t a′ → (w : ℕ → ℕ) (n : ℕ) → opened a t * w t ≤ n → (u : ℕ) → opened a u * w u ≤ n + w t → opened a′ u * w u ≤ n + w t
+opens-bound a t a′ o w n h u l = elim (ℕ-discrete u t) [
+  | yes e ↦
+      let q : opened a′ t ≡ opened a t + 1 = omega (arith, o .more t, is-same t) in
+      subst (λ (x : ℕ). opened a′ x * w x ≤ n + w t) (sym e) (subst (λ (y : ℕ). y * w t ≤ n + w t) (sym q) (omega (arith, more-mul (opened a t) (w t), h)))
+  | no ne ↦
+      let q : opened a′ u ≡ opened a u = omega (arith, o .more u, is-other t u (λ e. ne (sym e))) in
+      subst (λ (y : ℕ). y * w u ≤ n + w t) (sym q) l
+]
 
 -- ---- steps
 
@@ -96,37 +141,27 @@ module _ (P : ℕ) (v : Vol) where
     -- ---- blocks
 
     -- one that was opened twice: what is below it is not below c
-    pub met-skip : (t : ℕ) → t < P → 2 ≤ getD a t 0 → Met P v m a b c (under v 0 t) m a b c
-    met-skip t h n = met-past (under v 0 t) (λ f s p l. twice-none (getD a t 0) (under v 0 t p) n (omega (arith, s .index t p h, s .below p l, marked-le m p)))
+    pub met-skip : (t : ℕ) → t < P → 2 ≤ opened a t → Met P v m a b c (under v 0 t) m a b c
+    met-skip t h n = met-past (under v 0 t) (λ f s p l. twice-none (opened a t) (under v 0 t p) n (omega (arith, s .index t p h, s .below p l, marked-le m p)))
 
-    pub met-skip₂ : (t : ℕ) → t < P → 2 ≤ getD b t 0 → Met P v m a b c (under v 1 t) m a b c
-    met-skip₂ t h n = met-past (under v 1 t) (λ f s p l. twice-none (getD b t 0) (under v 1 t p) n (omega (arith, s .subindex t p h, s .below p l, marked-le m p)))
+    pub met-skip₂ : (t : ℕ) → t < P → 2 ≤ opened b t → Met P v m a b c (under v 1 t) m a b c
+    met-skip₂ t h n = met-past (under v 1 t) (λ f s p l. twice-none (opened b t) (under v 1 t p) n (omega (arith, s .subindex t p h, s .below p l, marked-le m p)))
 
     -- one that is opened
-    pub met-open : (t n : ℕ) → n ≡ getD a t 0 → t < P → t < length a → (m′ : List ℕ) (c′ : ℕ) → Met P v m a b c (under v 0 t) m′ a b c′ → Met P v m a b c (under v 0 t) m′ (set a t (n + 1)) b c′
+    pub met-open : (t : ℕ) (a′ : List ℕ) → Opens a t a′ → t < P → (m′ : List ℕ) (c′ : ℕ) → Met P v m a b c (under v 0 t) m′ a b c′ → Met P v m a b c (under v 0 t) m′ a′ b c′
     unfolding Met
-    met-open t n e h room m′ c′ k f s = let r = k f s in record {
+    met-open t a′ o h m′ c′ k f s = let r = k f s in record {
       below = r .below;
       twice = r .twice;
-      index = λ u p l. elim (ℕ-discrete u t) [
-        | yes i ↦ subst (λ (x : ℕ). getD (set a t (n + 1)) x 0 * under v 0 x p ≤ f p + under v 0 t p) (sym i)
-            (subst (λ (y : ℕ). y * under v 0 t p ≤ f p + under v 0 t p) (sym (getD-set-same a t (n + 1) 0 room))
-            (omega (arith, more-mul n (under v 0 t p), ap (λ (y : ℕ). y * under v 0 t p) e, s .index t p h)))
-        | no ne ↦ subst (λ (y : ℕ). y * under v 0 u p ≤ f p + under v 0 t p) (sym (getD-set-other a t u (n + 1) 0 ne)) (r .index u p l)
-      ];
+      index = λ u p l. opens-bound a t a′ o (λ x. under v 0 x p) (f p) (s .index t p h) u (r .index u p l);
       subindex = r .subindex;
     }
 
-    pub met-open₂ : (t n : ℕ) → n ≡ getD b t 0 → t < P → t < length b → (m′ a′ : List ℕ) (c′ : ℕ) → Met P v m a b c (under v 1 t) m′ a′ b c′ → Met P v m a b c (under v 1 t) m′ a′ (set b t (n + 1)) c′
+    pub met-open₂ : (t : ℕ) (b′ : List ℕ) → Opens b t b′ → t < P → (m′ a′ : List ℕ) (c′ : ℕ) → Met P v m a b c (under v 1 t) m′ a′ b c′ → Met P v m a b c (under v 1 t) m′ a′ b′ c′
     unfolding Met
-    met-open₂ t n e h room m′ a′ c′ k f s = let r = k f s in record {
+    met-open₂ t b′ o h m′ a′ c′ k f s = let r = k f s in record {
       below = r .below;
       twice = r .twice;
       index = r .index;
-      subindex = λ u p l. elim (ℕ-discrete u t) [
-        | yes i ↦ subst (λ (x : ℕ). getD (set b t (n + 1)) x 0 * under v 1 x p ≤ f p + under v 1 t p) (sym i)
-            (subst (λ (y : ℕ). y * under v 1 t p ≤ f p + under v 1 t p) (sym (getD-set-same b t (n + 1) 0 room))
-            (omega (arith, more-mul n (under v 1 t p), ap (λ (y : ℕ). y * under v 1 t p) e, s .subindex t p h)))
-        | no ne ↦ subst (λ (y : ℕ). y * under v 1 u p ≤ f p + under v 1 t p) (sym (getD-set-other b t u (n + 1) 0 ne)) (r .subindex u p l)
-      ];
+      subindex = λ u p l. opens-bound b t b′ o (λ x. under v 1 x p) (f p) (s .subindex t p h) u (r .subindex u p l);
     }

@@ -5,18 +5,19 @@ use mathlib.Core.List.{List}
 use Prim.Native.Nat.{ℕ, zero, suc, _+_, _-_, _≤_, _<_}
 use native.Mathlib.Nat.{le-refl}
 use native.Mathlib.Omega.{arith}
-use lib.ListN.{length, getD, set, length-set}
+use lib.ListN.{length}
 use Rattle.sums.specs.Sum.{sum, sum-none, sum-zero}
 use Rattle.book.specs.Words.{Vol}
 use Rattle.book.specs.Pointers.{slot}
 use Rattle.book.specs.Trees.{weigh, weighR, rootBy}
 use Rattle.book.specs.Holders.{hit}
+use Rattle.book.specs.Image.{mostPages}
 use Rattle.laws.specs.Count.Sums.{sum-cat}
 use Rattle.laws.specs.Tree.Slot.{hit-zero, hit-other}
 use Rattle.laws.specs.Tree.Weigh.{weigh-none}
 use Rattle.bits.specs.Marks.{Marking}
 use Rattle.bits.proofs.Marked.{marking-new, marking-old}
-use Rattle.places.specs.Low.{under, Room, Meets, Meets₁, Meets₂}
+use Rattle.places.specs.Low.{under, openedSize, opened, Opens, Opening, Room, Meets, Meets₁, Meets₂}
 use Rattle.places.proofs.Meeting.{met-past, met-none, met-same, met-then, met-turn, met-new, met-old, met-skip, met-skip₂, met-open, met-open₂}
 
 -- ---- the marks alone
@@ -62,7 +63,7 @@ module _ (m : List ℕ) (c : ℕ) where
     turns-end i n e m′ c′ k = subst (λ (z : ℕ). Meets m c (λ p. sum z (λ j. x j p)) m′ c′) e k
 
     -- the rest is not below c′
-    pub turns-past : (i n : ℕ) → i ≤ n → (m′ : List ℕ) (c′ : ℕ) → c ≤ 16384 → Meets m c (λ p. sum i (λ j. x j p)) m′ c′ → ((j p : ℕ) → i ≤ j → p < c′ → x j p ≡ 0) → Meets m c (λ p. sum n (λ j. x j p)) m′ c′
+    pub turns-past : (i n : ℕ) → i ≤ n → (m′ : List ℕ) (c′ : ℕ) → c ≤ mostPages → Meets m c (λ p. sum i (λ j. x j p)) m′ c′ → ((j p : ℕ) → i ≤ j → p < c′ → x j p ≡ 0) → Meets m c (λ p. sum n (λ j. x j p)) m′ c′
     turns-past i n h m′ c′ l k z =
         let e : i + (n - i) ≡ n = omega arith in
         meets-same (λ p. sum i (λ j. x j p) + sum (n - i) (λ j. x (i + j) p)) (λ p. sum n (λ j. x j p))
@@ -82,9 +83,20 @@ slot-met v t k q m c m′ c′ e d = meets-same m c (λ p. hit p q) (λ p. hit p
 pub room-on : (m : List ℕ) (c : ℕ) (w : ℕ → ℕ) (m′ : List ℕ) (c′ : ℕ) → Room m c → Meets m c w m′ c′ → Room m′ c′
 room-on m c w m′ c′ r k = record { size = k .size; most = omega (arith, r .most, k .most) }
 
+-- ---- a block that is opened, after a test of the answer
+
+module _ (a : List ℕ) (t : ℕ) (a′ : List ℕ) where
+  opening-new : (r : Bool) → Opening a t a′ r → not r ≡ false → Opens a t a′
+  opening-new true d e = d
+  opening-new false d e = let z : _≡_ {A = ℕ} 0 1 = cc in absurd (omega arith)
+
+  opening-old : (r : Bool) → Opening a t a′ r → not r ≡ true → (2 ≤ opened a t) × (a′ ≡ a)
+  opening-old false d e = d
+  opening-old true d e = let z : _≡_ {A = ℕ} 0 1 = cc in absurd (omega arith)
+
 -- ---- an index block
 
-module _ (P : ℕ) (v : Vol) (m a : List ℕ) (c t : ℕ) (room : length a ≡ 16384) where
+module _ (P : ℕ) (v : Vol) (m a : List ℕ) (c t : ℕ) (room : length a ≡ openedSize) where
   pub index-none : Room m c → t ≡ 0 → Meets₁ P v m a c (λ p. weigh v 1 t (hit p)) m a c
   index-none r e = record {
     size = r .size;
@@ -93,30 +105,30 @@ module _ (P : ℕ) (v : Vol) (m a : List ℕ) (c t : ℕ) (room : length a ≡ 1
     met = λ b. met-none P v m a b c (λ p. weigh v 1 t (hit p)) (λ p. ap (λ (x : ℕ). weigh v 1 x (hit p)) e ∙ weigh-none v (hit p) (hit-zero p) 1);
   }
 
-  module _ (few : P ≤ 16384) (l : t < P) (m′ : List ℕ) (c′ : ℕ) (k : Meets m c (λ p. hit p t) m′ c′) (n : ℕ) (e : n ≡ getD a t 0) where
-    pub index-skip : 1 < n → Meets₁ P v m a c (λ p. weigh v 1 t (hit p)) m′ a c′
+  module _ (l : t < P) (m′ : List ℕ) (c′ : ℕ) (k : Meets m c (λ p. hit p t) m′ c′) (a′ : List ℕ) (r : Bool) (d : Opening a t a′ r) where
+    pub index-skip : not r ≡ true → Meets₁ P v m a c (λ p. weigh v 1 t (hit p)) m′ a′ c′
     unfolding weigh
-    index-skip h = record {
+    index-skip e = let o = opening-old a t a′ r d e in subst (λ (x : List ℕ). Meets₁ P v m a c (λ p. weigh v 1 t (hit p)) m′ x c′) (sym (o .1)) (record {
       size = k .size;
       index = room;
       most = k .most;
-      met = λ b. met-then P v m a b c (λ p. hit p t) (under v 0 t) m′ a b c′ m′ a b c′ (k .met P v a b) (met-skip P v m′ a b c′ t l (omega arith));
-    }
+      met = λ b. met-then P v m a b c (λ p. hit p t) (under v 0 t) m′ a b c′ m′ a b c′ (k .met P v a b) (met-skip P v m′ a b c′ t l (o .0));
+    })
 
-    pub index-open : (m″ : List ℕ) (c″ : ℕ) → Meets m′ c′ (under v 0 t) m″ c″ → Meets₁ P v m a c (λ p. weigh v 1 t (hit p)) m″ (set a t (n + 1)) c″
+    pub index-open : not r ≡ false → (m″ : List ℕ) (c″ : ℕ) → Meets m′ c′ (under v 0 t) m″ c″ → Meets₁ P v m a c (λ p. weigh v 1 t (hit p)) m″ a′ c″
     unfolding weigh
-    index-open m″ c″ j = record {
+    index-open e m″ c″ j = let o = opening-new a t a′ r d e in record {
       size = j .size;
-      index = length-set a t (n + 1) ∙ room;
+      index = o .kept ∙ room;
       most = omega (arith, k .most, j .most);
-      met = λ b. met-then P v m a b c (λ p. hit p t) (under v 0 t) m′ a b c′ m″ (set a t (n + 1)) b c″ (k .met P v a b)
-          (met-open P v m′ a b c′ t n e l (omega arith) m″ c″ (j .met P v a b));
+      met = λ b. met-then P v m a b c (λ p. hit p t) (under v 0 t) m′ a b c′ m″ a′ b c″ (k .met P v a b)
+          (met-open P v m′ a b c′ t a′ o l m″ c″ (j .met P v a b));
     }
 
 -- ---- a row of index blocks
 
 module _ (P : ℕ) (v : Vol) (m a : List ℕ) (c : ℕ) (x : ℕ → ℕ → ℕ) where
-  pub rows-none : Room m c → length a ≡ 16384 → Meets₁ P v m a c (λ p. sum 0 (λ j. x j p)) m a c
+  pub rows-none : Room m c → length a ≡ openedSize → Meets₁ P v m a c (λ p. sum 0 (λ j. x j p)) m a c
   rows-none r h = record { size = r .size; index = h; most = le-refl c; met = λ b. met-none P v m a b c (λ p. sum 0 (λ j. x j p)) (λ p. sum-zero (λ j. x j p)) }
 
   pub rows-more : (i : ℕ) (m′ a′ : List ℕ) (c′ : ℕ) (m″ a″ : List ℕ) (c″ : ℕ) → Meets₁ P v m a c (λ p. sum i (λ j. x j p)) m′ a′ c′ → Meets₁ P v m′ a′ c′ (x i) m″ a″ c″ → Meets₁ P v m a c (λ p. sum (i + 1) (λ j. x j p)) m″ a″ c″
@@ -127,7 +139,7 @@ module _ (P : ℕ) (v : Vol) (m a : List ℕ) (c : ℕ) (x : ℕ → ℕ → ℕ
 
 -- ---- a subindex block
 
-module _ (P : ℕ) (v : Vol) (m a b : List ℕ) (c : ℕ) (one : length a ≡ 16384) (two : length b ≡ 16384) where
+module _ (P : ℕ) (v : Vol) (m a b : List ℕ) (c : ℕ) (one : length a ≡ openedSize) (two : length b ≡ openedSize) where
   pub none₂ : Room m c → (w : ℕ → ℕ) → ((p : ℕ) → w p ≡ 0) → Meets₂ P v m a b c w m a b c
   none₂ r w z = record { size = r .size; index = one; subindex = two; most = le-refl c; met = met-none P v m a b c w z }
 
@@ -143,26 +155,26 @@ module _ (P : ℕ) (v : Vol) (m a b : List ℕ) (c : ℕ) (one : length a ≡ 16
   pub sub-none : (t : ℕ) → Room m c → t ≡ 0 → Meets₂ P v m a b c (λ p. weigh v 2 t (hit p)) m a b c
   sub-none t r e = none₂ r (λ p. weigh v 2 t (hit p)) (λ p. ap (λ (x : ℕ). weigh v 2 x (hit p)) e ∙ weigh-none v (hit p) (hit-zero p) 2)
 
-  module _ (t : ℕ) (few : P ≤ 16384) (l : t < P) (m′ : List ℕ) (c′ : ℕ) (k : Meets m c (λ p. hit p t) m′ c′) (n : ℕ) (e : n ≡ getD b t 0) where
-    pub sub-skip : 1 < n → Meets₂ P v m a b c (λ p. weigh v 2 t (hit p)) m′ a b c′
+  module _ (t : ℕ) (l : t < P) (m′ : List ℕ) (c′ : ℕ) (k : Meets m c (λ p. hit p t) m′ c′) (b′ : List ℕ) (r : Bool) (d : Opening b t b′ r) where
+    pub sub-skip : not r ≡ true → Meets₂ P v m a b c (λ p. weigh v 2 t (hit p)) m′ a b′ c′
     unfolding weigh
-    sub-skip h = record {
+    sub-skip e = let o = opening-old b t b′ r d e in subst (λ (x : List ℕ). Meets₂ P v m a b c (λ p. weigh v 2 t (hit p)) m′ a x c′) (sym (o .1)) (record {
       size = k .size;
       index = one;
       subindex = two;
       most = k .most;
-      met = met-then P v m a b c (λ p. hit p t) (under v 1 t) m′ a b c′ m′ a b c′ (k .met P v a b) (met-skip₂ P v m′ a b c′ t l (omega arith));
-    }
+      met = met-then P v m a b c (λ p. hit p t) (under v 1 t) m′ a b c′ m′ a b c′ (k .met P v a b) (met-skip₂ P v m′ a b c′ t l (o .0));
+    })
 
-    pub sub-open : (m″ a″ : List ℕ) (c″ : ℕ) → Meets₁ P v m′ a c′ (under v 1 t) m″ a″ c″ → Meets₂ P v m a b c (λ p. weigh v 2 t (hit p)) m″ a″ (set b t (n + 1)) c″
+    pub sub-open : not r ≡ false → (m″ a″ : List ℕ) (c″ : ℕ) → Meets₁ P v m′ a c′ (under v 1 t) m″ a″ c″ → Meets₂ P v m a b c (λ p. weigh v 2 t (hit p)) m″ a″ b′ c″
     unfolding weigh
-    sub-open m″ a″ c″ j = record {
+    sub-open e m″ a″ c″ j = let o = opening-new b t b′ r d e in record {
       size = j .size;
       index = j .index;
-      subindex = length-set b t (n + 1) ∙ two;
+      subindex = o .kept ∙ two;
       most = omega (arith, k .most, j .most);
-      met = met-then P v m a b c (λ p. hit p t) (under v 1 t) m′ a b c′ m″ a″ (set b t (n + 1)) c″ (k .met P v a b)
-          (met-open₂ P v m′ a b c′ t n e l (omega arith) m″ a″ c″ (j .met b));
+      met = met-then P v m a b c (λ p. hit p t) (under v 1 t) m′ a b c′ m″ a″ b′ c″ (k .met P v a b)
+          (met-open₂ P v m′ a b c′ t b′ o l m″ a″ c″ (j .met b));
     }
 
 -- ---- roots in a row

@@ -2,16 +2,14 @@
 use mathlib.Core.Path.{_≡_, refl, sym, ap, subst}
 use mathlib.Core.Bool.{Bool}
 use mathlib.Core.List.{List}
-use Prim.Native.Nat.{ℕ, _+_, _*_, _≤_, _<_}
+use Prim.Native.Nat.{ℕ, _≤_, _<_}
 use native.Mathlib.Decide.{decLt}
 use native.Mathlib.Omega.{arith}
 use Rattle.book.specs.Words.{Vol, vol}
 use Rattle.book.specs.Image.{pages}
-use Rattle.book.specs.Bits.{bitPages}
 use Rattle.book.specs.Pointers.{page, bitPointer}
 use Rattle.bits.specs.File.{BitsAt}
 use Rattle.bits.proofs.Places.{bits-at}
-use lib.ListN.{length}
 use Rattle.book.specs.Holders.{holders}
 use Rattle.book.specs.Rows.{Lowest}
 use Rattle.book.specs.Rules.{rulesOf}
@@ -22,8 +20,8 @@ use Rattle.book.specs.Broken.{BrokenBy, PairFor}
 use Rattle.book.specs.declared.Place.{Place}
 use Rattle.book.specs.declared.Break.{Break}
 use Rattle.book.specs.declared.Holder.{Holder}
-use Rattle.laws.specs.Count.Reach.{rules-within, below-objects}
-use Rattle.laws.specs.Place.Lowest.{above1, above2, above3, above4, above5, above6, above7, above8, above9, fails1, fails2, fails3, fails4, fails5, fails6, fails7, fails8, fails9, fails10, most}
+use Rattle.laws.specs.Count.Reach.{rules-within}
+use Rattle.laws.specs.Place.Lowest.{above1, above2, above3, above5, above7, fails1, fails2, fails3, fails4, fails5, fails6, fails7, fails8, fails9, fails10}
 use Rattle.laws.specs.Place.Rules.{rule1, rule2, rule3, rule4, rule5, rule6, rule8, rule9, rule10}
 use Rattle.laws.specs.Place.Rule7.{rule7}
 use Rattle.heads.proofs.Judged.{asked-holds}
@@ -125,11 +123,8 @@ module _ (img : List ℕ) (ten : Bool) (r : ℕ) (B : Breaks img ten r) where
   breaks-at e = record { whole = B .whole; lowest = subst (Lowest (rulesOf ten P v)) e (B .lowest) }
 
   -- where the bit file is
-  pub bits-of : 1 < r → (b : ℕ) → b ≡ page (v 0) bitPointer → BitsAt P v b × (1024 * b + 1024 ≤ length img)
-  unfolding bitPages
-  bits-of h b e =
-      let a = above1 ten P v r (B .lowest) h .0 in
-      (subst (BitsAt P v) (sym e) (bits-at P v (B .whole .most) a), omega (arith, e, a .fits, B .whole .even, B .whole .least))
+  pub bits-of : 1 < r → (b : ℕ) → b ≡ page (v 0) bitPointer → BitsAt P v b
+  bits-of h b e = subst (BitsAt P v) (sym e) (bits-at P v (above1 ten P v r (B .lowest) h .0))
 
 -- a number that is none of the first five
 pub five : {r : ℕ} → (r ≡ 1 → ⊥) → (r ≡ 2 → ⊥) → (r ≡ 3 → ⊥) → (r ≡ 4 → ⊥) → (r ≡ 5 → ⊥) → 0 < r → 5 < r

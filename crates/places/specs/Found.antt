@@ -2,7 +2,7 @@
 use mathlib.Core.Path.{_≡_}
 use mathlib.Core.List.{List}
 use mathlib.Core.Logic.{_⊎_}
-use Prim.Native.Nat.{ℕ, _+_, _*_, _≤_, _<_}
+use Prim.Native.Nat.{ℕ, _*_, _≤_, _<_}
 use lib.ListN.{length}
 use Rattle.book.specs.Words.{Vol, vol}
 use Rattle.book.specs.Pointers.{flags, page, Zero, Inside, indexed, subindexed, userPointer, objectPointer}
@@ -46,13 +46,13 @@ pub record UserAt (img : List ℕ) (x t q u : ℕ) : Type 0 where
   pub below : u < 256
   pub used : 0 < used (user (vol img) u)
 
--- each page's mark is whether it is held; the bit file is page b
+-- each page's mark is whether it is held; the bit file begins at page b
 pub record Reserved (img : List ℕ) (total b : ℕ) (m : List ℕ) : Type 0 where
   pub count : total ≡ pages img
   pub bits : BitsAt (pages img) (vol img) b
-  pub inside : 1024 * b + 1024 ≤ length img
+  pub most : pages img ≤ mostPages
   pub held : (p : ℕ) → p < pages img → marked m p ≡ holders (pages img) (vol img) p
-  pub size : length m ≡ 1024
+  pub room : pages img ≤ 16 * length m
 
 -- object e lies on page q
 pub record ObjectAt (img : List ℕ) (total q e : ℕ) : Type 0 where

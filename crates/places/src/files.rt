@@ -1,7 +1,7 @@
 // The places of rule 7: the files, page by page of the object file. Blocks may be shared before rule 8 is judged, so the tests remember which of them are right.
 use crate::Fault;
 use crate::file::file;
-use bits::marks::no_marks;
+use bits::marks::most_marks;
 use page::OBJECTS;
 use page::read::flags_at;
 use page::read::page_at;
@@ -25,8 +25,8 @@ fn page_files(img: &[u16], total: usize, q: usize, n: usize) -> Fault
     ensures { λ r. ⌜ Finds (each 32 (λ k. fileRow (pages (now (img .entry))) (vol (now (img .entry))) (32 * n + k))) r ⌝ }
 {
     let e = 32 * n;
-    let mut seen = no_marks();
-    let mut trees = no_marks();
+    let mut seen = most_marks();
+    let mut trees = most_marks();
     let mut k: usize = 0;
     while k < 32 {
         if !entry_ok(img, total, &mut seen, &mut trees, q, e + k) {
@@ -44,8 +44,8 @@ pub fn first7(img: &[u16], total: usize, ends: usize) -> Fault
 {
     let flags = flags_at(img, 0, OBJECTS);
     let top = page_at(img, 0, OBJECTS) as usize;
-    let mut seen = no_marks();
-    let mut trees = no_marks();
+    let mut seen = most_marks();
+    let mut trees = most_marks();
     let mut n: usize = 0;
     while n < ends {
         if !position_ok(img, total, &mut seen, &mut trees, flags, top, n) {

@@ -4,7 +4,7 @@ use crate::meet::meet_root;
 use crate::meet::meet_run;
 use bits::bit_pages;
 use bits::marks::mark;
-use bits::marks::no_marks;
+use bits::marks::most_marks;
 use book::Place;
 use page::BITS;
 use page::OBJECTS;
@@ -33,18 +33,18 @@ ghost use Rattle.places.specs.Found.{Finds};
 ghost use Rattle.book.specs.Places.{spots8};
 
 // No block was opened.
-fn none_opened() -> [u8; 16384]
+fn none_opened() -> [u16; 17592]
     ensures { λ r. ⌜ Unopened r ⌝ }
 {
-    [0; 16384]
+    [0; 17592]
 }
 
 // Meets the pages of the file in object entry e; an unused entry has none.
 fn meet_file(
     img: &[u16],
-    marks: &mut [u16; 1024],
-    ones: &mut [u8; 16384],
-    twos: &mut [u8; 16384],
+    marks: &mut [u16; 8796],
+    ones: &mut [u16; 17592],
+    twos: &mut [u16; 17592],
     lowest: usize,
     e: usize,
 ) -> usize
@@ -64,9 +64,9 @@ fn meet_file(
 // Meets the pages of the files in object entries 0 to end - 1.
 fn meet_files(
     img: &[u16],
-    marks: &mut [u16; 1024],
-    ones: &mut [u8; 16384],
-    twos: &mut [u8; 16384],
+    marks: &mut [u16; 8796],
+    ones: &mut [u16; 17592],
+    twos: &mut [u16; 17592],
     lowest: usize,
     end: usize,
 ) -> usize
@@ -85,9 +85,9 @@ fn meet_files(
 // Meets the pages of the bit file, the user file and the object file.
 fn meet_system(
     img: &[u16],
-    marks: &mut [u16; 1024],
-    ones: &mut [u8; 16384],
-    twos: &mut [u8; 16384],
+    marks: &mut [u16; 8796],
+    ones: &mut [u16; 17592],
+    twos: &mut [u16; 17592],
     lowest: usize,
     total: usize,
 ) -> usize
@@ -107,9 +107,9 @@ fn meet_system(
 // Meets every page that is held but the master page. The object file ends at position `ends`.
 fn meet_all(
     img: &[u16],
-    marks: &mut [u16; 1024],
-    ones: &mut [u8; 16384],
-    twos: &mut [u8; 16384],
+    marks: &mut [u16; 8796],
+    ones: &mut [u16; 17592],
+    twos: &mut [u16; 17592],
     total: usize,
     ends: usize,
 ) -> usize
@@ -125,7 +125,7 @@ pub fn first8(img: &[u16], total: usize, ends: usize) -> Fault
     requires { ⌜ Volume (now img) × (total ≡ pages (now img)) × Ends (now img) ends ⌝ }
     ensures { λ r. ⌜ Finds (spots8 (pages (now (img .entry))) (vol (now (img .entry)))) r ⌝ }
 {
-    let mut marks = no_marks();
+    let mut marks = most_marks();
     let mut ones = none_opened();
     let mut twos = none_opened();
     mark(&mut marks, 0);

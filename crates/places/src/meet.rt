@@ -3,18 +3,19 @@ use bits::marks::mark;
 use page::INDEXED;
 use page::SUBINDEXED;
 use page::read::slot_at;
+ghost use mathlib.Core.Path.{_≡_};
 ghost use Prim.Native.Nat.{_+_, _*_, _≤_, _<_};
 ghost use lib.ListN.{length};
 ghost use Rattle.sums.specs.Sum.{sum};
 ghost use Rattle.book.specs.Words.{vol};
 ghost use Rattle.book.specs.Trees.{weigh, Below, rootBy, weighR};
 ghost use Rattle.book.specs.Holders.{hit};
-ghost use Rattle.book.specs.Image.{pages};
+ghost use Rattle.book.specs.Image.{pages, mostPages};
 ghost use Rattle.laws.specs.Tree.Weigh.{BelowR};
-ghost use Rattle.places.specs.Low.{under, Room, Meets, Meets₁, Meets₂, Index, Subindex};
+ghost use Rattle.places.specs.Low.{under, openedSize, Opening, Room, Meets, Meets₁, Meets₂, Index, Subindex};
 
 // Meets page q; 0 is none. The lowest page met twice so far is given and comes back.
-fn meet(marks: &mut [u16; 1024], lowest: usize, q: usize) -> usize
+fn meet(marks: &mut [u16; 8796], lowest: usize, q: usize) -> usize
     requires { ⌜ Room (now marks) lowest ⌝ }
     ensures { λ r. ⌜ Meets (now (marks .entry)) lowest (λ p. hit p q) (now (marks .exit)) r ⌝ }
 {
@@ -31,8 +32,8 @@ fn meet(marks: &mut [u16; 1024], lowest: usize, q: usize) -> usize
 }
 
 // Meets the n pages from `start` on; those from the lowest page met twice on need not be looked at.
-pub(crate) fn meet_run(marks: &mut [u16; 1024], lowest: usize, start: usize, n: usize) -> usize
-    requires { ⌜ Room (now marks) lowest × (start + n ≤ 16384) ⌝ }
+pub(crate) fn meet_run(marks: &mut [u16; 8796], lowest: usize, start: usize, n: usize) -> usize
+    requires { ⌜ Room (now marks) lowest × (start + n ≤ mostPages) ⌝ }
     ensures { λ r. ⌜ Meets (now (marks .entry)) lowest (λ p. sum n (λ i. hit p (start + i))) (now (marks .exit)) r ⌝ }
 {
     let mut low = lowest;
@@ -48,7 +49,7 @@ pub(crate) fn meet_run(marks: &mut [u16; 1024], lowest: usize, start: usize, n: 
 }
 
 // Meets the pages that the pointers of index block t name.
-fn meet_pages(img: &[u16], marks: &mut [u16; 1024], lowest: usize, t: usize) -> usize
+fn meet_pages(img: &[u16], marks: &mut [u16; 8796], lowest: usize, t: usize) -> usize
     requires { ⌜ Room (now marks) lowest × (1024 * t + 1024 ≤ length (now img)) ⌝ }
     ensures { λ r. ⌜ Meets (now (marks .entry)) lowest (under (vol (now (img .entry))) 0 t) (now (marks .exit)) r ⌝ }
 {
@@ -61,11 +62,22 @@ fn meet_pages(img: &[u16], marks: &mut [u16; 1024], lowest: usize, t: usize) -> 
     low
 }
 
+// Block t is opened, which two marks of its own tell; false where it was opened twice already.
+fn open_block(opened: &mut [u16; 17592], t: usize) -> bool
+    requires { ⌜ (t < mostPages) × (length (now opened) ≡ openedSize) ⌝ }
+    ensures { λ r. ⌜ Opening (now (opened .entry)) t (now (opened .exit)) r ⌝ }
+{
+    if mark(opened, 2 * t) {
+        return true;
+    }
+    mark(opened, 2 * t + 1)
+}
+
 // Meets index block t and its pages; a block that was opened twice is not opened again.
 fn meet_index(
     img: &[u16],
-    marks: &mut [u16; 1024],
-    ones: &mut [u8; 16384],
+    marks: &mut [u16; 8796],
+    ones: &mut [u16; 17592],
     lowest: usize,
     t: usize,
 ) -> usize
@@ -76,19 +88,17 @@ fn meet_index(
         return lowest;
     }
     let low = meet(marks, lowest, t);
-    let n = ones[t];
-    if 1 < n {
+    if !open_block(ones, t) {
         return low;
     }
-    ones[t] = n + 1;
     meet_pages(img, marks, low, t)
 }
 
 // Meets the index blocks that the pointers of subindex block t name, and their pages.
 fn meet_indexes(
     img: &[u16],
-    marks: &mut [u16; 1024],
-    ones: &mut [u8; 16384],
+    marks: &mut [u16; 8796],
+    ones: &mut [u16; 17592],
     lowest: usize,
     t: usize,
 ) -> usize
@@ -108,9 +118,9 @@ fn meet_indexes(
 // Meets subindex block t and all below it; a block that was opened twice is not opened again.
 fn meet_subindex(
     img: &[u16],
-    marks: &mut [u16; 1024],
-    ones: &mut [u8; 16384],
-    twos: &mut [u8; 16384],
+    marks: &mut [u16; 8796],
+    ones: &mut [u16; 17592],
+    twos: &mut [u16; 17592],
     lowest: usize,
     t: usize,
 ) -> usize
@@ -121,20 +131,18 @@ fn meet_subindex(
         return lowest;
     }
     let low = meet(marks, lowest, t);
-    let n = twos[t];
-    if 1 < n {
+    if !open_block(twos, t) {
         return low;
     }
-    twos[t] = n + 1;
     meet_indexes(img, marks, ones, low, t)
 }
 
 // Meets the pages of the root with these flags, page and count.
 pub(crate) fn meet_root(
     img: &[u16],
-    marks: &mut [u16; 1024],
-    ones: &mut [u8; 16384],
-    twos: &mut [u8; 16384],
+    marks: &mut [u16; 8796],
+    ones: &mut [u16; 17592],
+    twos: &mut [u16; 17592],
     lowest: usize,
     flags: u16,
     top: usize,

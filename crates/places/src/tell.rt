@@ -10,7 +10,7 @@ use crate::master::first3;
 use crate::objects::first6;
 use crate::reserved::first9;
 use crate::users::first4;
-use bits::marks::no_marks;
+use bits::marks::most_marks;
 use book::Break;
 use book::Holder;
 use book::Place;
@@ -74,7 +74,7 @@ fn tell_counts(img: &[u16], ten: bool, total: usize, ends: usize, rule: u32) -> 
     requires { ⌜ Breaks (now img) ten rule × (8 < rule) × (total ≡ pages (now img)) × Ends (now img) ends ⌝ }
     ensures { λ r. ⌜ BrokenBy ten (pages (now (img .entry))) (vol (now (img .entry))) r ⌝ }
 {
-    let mut marks = no_marks();
+    let mut marks = most_marks();
     let w = mark_all(img, &mut marks, total, ends);
     let Walk::On { visited } = w else {
         return tell_held(img, ten, total, ends);

@@ -1,4 +1,5 @@
 // The searches of the bit file by themselves, for the benchmarks. They are no calls of the library: host/probe/probe.h declares them, and nord.h does not.
+use bits::bit_pages;
 use bits::search::free_from;
 use bits::search::highest_run;
 use page::BITS;
@@ -13,7 +14,7 @@ ghost use Rattle.book.specs.Image.{pages};
 ghost use Rattle.bits.specs.Search.{freeFrom};
 ghost use Rattle.probe.specs.Searched.{Searched, Searching};
 
-// The page of the bit file, and 0 of an image that has none: its bit pointer names no page of it but 0, or its pages are too many for one.
+// The page at which the bit file begins, and 0 of an image that has none: its pages are too many, or from the page on that its bit pointer names there is not room for all bit pages.
 fn searched(img: &[u16]) -> usize
     ensures { λ r. ⌜ Searched (pages (now (img .entry))) (vol (now (img .entry))) r ⌝ }
 {
@@ -25,7 +26,7 @@ fn searched(img: &[u16]) -> usize
         return 0;
     }
     let b = page_at(img, 0, BITS) as usize;
-    if count <= b {
+    if count < b + bit_pages(count) {
         return 0;
     }
     b

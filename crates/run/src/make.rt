@@ -82,7 +82,7 @@ fn make_format(img: &mut [u16], known: bool, at: usize, step: &[u32], text: &[u8
     change::format(img, name, at)
 }
 
-// The same with the bit page in the middle.
+// The same with the bit file from the middle page on.
 fn make_format_default(img: &mut [u16], known: bool, step: &[u32], text: &[u8]) -> Answer
     requires { ⌜ Known known (now img) × (length (now step) ≡ 10) ⌝ }
     ensures { λ r. ⌜ Outcome (nameCall (now (img .entry)) (now (step .entry)) (now (text .entry)) (formatDefaultCall (now (img .entry)))) (now (img .entry)) (numbers r) (now (img .exit)) ⌝ }

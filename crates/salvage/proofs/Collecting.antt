@@ -17,6 +17,7 @@ use Rattle.book.specs.Salvage.{wordAt, spent}
 use Rattle.book.specs.Trees.{pageAt}
 use Rattle.book.specs.Words.{Vol, vol, two}
 use Rattle.book.specs.Written.{vol-in}
+use Rattle.page.specs.Parts.{wordFrom}
 use Rattle.bits.specs.Marks.{marked}
 use Rattle.laws.specs.Bits.Claim.{bitPage-is}
 use Rattle.laws.specs.Call.After.{small-words}
@@ -28,7 +29,7 @@ use Rattle.laws.specs.Salvage.Most.{changed-most}
 use Rattle.laws.specs.Tree.Slot.{some-pos, some-zero}
 use Rattle.tree.specs.Reach.{Reach, entryIn}
 use Rattle.tree.proofs.Entries.{user-in}
-use Rattle.salvage.specs.Facts.{Sure, MarksHeld, BitsRight, Other, Next}
+use Rattle.salvage.specs.Facts.{Sure, MarksHeld, BitsRight, BitPage, Other, Next}
 use Rattle.salvage.specs.Row.{rowSize, RowTells, Noted}
 use Rattle.salvage.proofs.Rows.{told-start, told-skip, told-step}
 use Rattle.salvage.proofs.Words.{mended-fits, word-fits, bit-word, other-page, user-word}
@@ -103,27 +104,29 @@ module _ (img : List ℕ) (S : Sure img) where
   pub left-words : (x : ℕ) → x ≡ P - spent P v → (x / 65536 ≡ wordAt w 1022) × (x % 65536 ≡ wordAt w (1022 + 1))
   left-words x e = let l = mended-left P v D pos in (ap (λ (y : ℕ). y / 65536) e ∙ sym (l .0), ap (λ (y : ℕ). y % 65536) e ∙ sym (l .1))
 
-  -- ---- the bit page
+  -- ---- the bit file
 
   module _ (b : ℕ) (eb : b ≡ page (v 0) bitPointer) where
-    pub bits-page : (d : ℕ) → d < P → bitPage P v d ≡ b
-    bits-page d h = omega (arith, bitPage-is P v (D .r1) d h, eb, S .good .whole .most)
+    pub bits-page : (d : ℕ) → d < P → bitPage P v d ≡ b + d / 16384
+    bits-page d h = omega (arith, bitPage-is P v (D .r1) d h, eb)
 
-    pub bits-below : (0 < b) × (b < P)
-    unfolding bitPages
-    bits-below = (omega (arith, eb, D .r1 .start), omega (arith, eb, D .r1 .fits, pos))
+    pub bits-below : (0 < b) × (b + bitPages P ≤ P)
+    bits-below = (omega (arith, eb, D .r1 .start), omega (arith, eb, D .r1 .fits))
 
-    pub bit-is : (k : ℕ) → 16 * k < P → (x : ℕ) → x < 65536 → BitsRight img b k x → x ≡ w b k
+    -- its word k
+    pub bit-is : (k : ℕ) → 16 * k < P → (x : ℕ) → x < 65536 → BitsRight img b k x → x ≡ wordFrom w b k
     unfolding BitsRight
     bit-is k h x l g =
-        let z : 16384 * 0 ≡ 0 = omega arith in
-        let q : bitPage P v (16384 * 0) ≡ b = bits-page (16384 * 0) (omega (arith, pos)) in
-        let hk : k < 1024 = omega (arith, h, S .good .whole .most) in
-        bit-word P v D pos 0 k (omega (arith, pos)) hk (fits (bitPage P v (16384 * 0)) k) x l (λ j hj.
-        let e : 16384 * 0 + 16 * k + j ≡ 16 * k + j = omega arith in (
+        let i : ℕ = k / 1024 in let n : ℕ = k % 1024 in let hi : 16384 * i < P = omega (arith, h) in
+        let q : bitPage P v (16384 * i) ≡ b + i = omega (arith, bits-page (16384 * i) hi) in
+        bit-word P v D pos i n hi (omega arith) (fits (bitPage P v (16384 * i)) n) x l (λ j hj.
+        let e : 16384 * i + 16 * n + j ≡ 16 * k + j = omega arith in (
           λ m. g j hj .0 (omega (arith, m)) ∙ ap (λ (y : ℕ). some (holders P v y)) (sym e),
-          λ m. g j hj .1 (omega (arith, m)) ∙ ap (λ (y : ℕ). digit j (v y k)) (sym q),
-        )) ∙ ap (λ (y : ℕ). w y k) q
+          λ m. g j hj .1 (omega (arith, m)) ∙ ap (λ (y : ℕ). digit j (v y n)) (sym q),
+        )) ∙ ap (λ (y : ℕ). w y n) q
+
+    pub bit-place : (k : ℕ) → wordAt w (1024 * b + k) ≡ wordFrom w b k
+    bit-place k = place (b + k / 1024) (k % 1024) (1024 * b + k) (omega arith) (omega arith) .0
 
     -- a word of marks that all stand for pages
     module _ (m : List ℕ) (M : MarksHeld img m) where
@@ -141,23 +144,33 @@ module _ (img : List ℕ) (S : Sure img) where
       unfolding BitsRight
       full-right k h j hj = (mark-digit k j hj, λ l. absurd (let r : ⊥ = omega (arith, l, h, hj) in r))
 
-      pub last-right : (x : ℕ) → ((j : ℕ) → j < 16 → (j < P % 16 → digit j x ≡ digit j (getD m (P / 16) 0)) × (P % 16 ≤ j → digit j x ≡ digit j (v b (P / 16)))) → BitsRight img b (P / 16) x
+      pub last-right : (x : ℕ) → ((j : ℕ) → j < 16 → (j < P % 16 → digit j x ≡ digit j (getD m (P / 16) 0)) × (P % 16 ≤ j → digit j x ≡ digit j (wordFrom v b (P / 16)))) → BitsRight img b (P / 16) x
       unfolding BitsRight
       last-right x g j hj = (λ l. g j hj .0 (omega (arith, l, hj)) ∙ mark-digit (P / 16) j hj l, λ l. g j hj .1 (omega (arith, l, hj)))
 
-    -- behind the words of bits nothing changes there
-    pub bits-rest : (k : ℕ) → P ≤ 16 * k → k < 1024 → w b k ≡ v b k
+    -- behind the words of bits nothing changes on page p of it
+    pub bits-rest : (p k : ℕ) → BitPage P b p → P ≤ 16 * (1024 * (p - b) + k) → k < 1024 → w p k ≡ v p k
     unfolding userPage
-    bits-rest k h hk = mended-only P v D pos b k (λ a. elim a [
-      | inl c ↦ let r : ⊥ = omega (arith, h, c .1, c .2 .1, c .2 .2, S .good .whole .most) in r
+    bits-rest p k f h hk = mended-only P v D pos p k (λ a. elim a [
+      | inl c ↦ let r : ⊥ = omega (arith, f, h, hk, c .1, c .2 .0, c .2 .1, bits-page (c .0) (c .1)) in r
       | inr y ↦ elim y [
-        | inl c ↦ user-no-bits P v D pos (c .0 / 32) (page-of (c .0) (c .2)) 0 pos (sym (c .3 .0) ∙ sym (bits-page 0 pos))
-        | inr c ↦ let r : ⊥ = omega (arith, c .0, bits-below .0) in r
+        | inl c ↦
+            let d : ℕ = 16384 * (p - b) in let hd : d < P = omega (arith, f) in
+            user-no-bits P v D pos (c .0 / 32) (page-of (c .0) (c .2)) d hd (sym (c .3 .0) ∙ omega (arith, f, bits-page d hd))
+        | inr c ↦ let r : ⊥ = omega (arith, c .0, f, bits-below .0) in r
       ]
     ])
       where
         page-of : (u : ℕ) → 0 < used (user v u) → 0 < pageAt v (userFile v) (u / 32)
         page-of u q = has-page v u q
+
+    -- from word k of the bit file on to the end of its page p
+    pub rest-skip : (p : ℕ) → BitPage P b p → (k : ℕ) → P ≤ 16 * k → 1024 * (p - b) ≤ k → k ≤ 1024 * (p - b) + 1024
+        → (row : List ℕ) (n : ℕ) → RowTells img (1024 * b + k) row n → RowTells img (1024 * p + 1024) row n
+    rest-skip p f k h from most row n t =
+        let e : 1024 * b + k ≡ 1024 * p + (k - 1024 * (p - b)) = omega (arith, f, from) in
+        skip p (k - 1024 * (p - b)) 1024 (omega (arith, most)) (omega arith) (λ x a z. bits-rest p x f (omega (arith, h, a)) z) row n
+        (subst (λ (i : ℕ). RowTells img i row n) e t)
 
   -- ---- a user page
 
@@ -205,29 +218,33 @@ module _ (img : List ℕ) (S : Sure img) where
 
   -- r is behind p, and not behind any page from p on that has words to change
   module _ (b : ℕ) (eb : b ≡ page (v 0) bitPointer) where
-    pub next-is : (p r : ℕ) → p < r → r ≤ P → (p < b → r ≤ b) → ((j : ℕ) → j < 8 → p < userPage v (32 * j) → r ≤ userPage v (32 * j)) → Next P v p r
+    pub next-is : (p r : ℕ) → p < r → r ≤ P → ((x : ℕ) → p < x → b ≤ x → x < b + bitPages P → r ≤ x) → ((j : ℕ) → j < 8 → p < userPage v (32 * j) → r ≤ userPage v (32 * j)) → Next P v p r
     unfolding userPage
     next-is p r h l fb fu = record {
       after = h;
       most = l;
       between = λ x a c. record {
-        bits = λ d i e. let z : ⊥ = omega (arith, fb (omega (arith, a, e, bits-page b eb d i)), bits-page b eb d i, e, c) in z;
+        bits = λ d i e. let q = bits-page b eb d i in let z : ⊥ = omega (arith, fb x a (omega (arith, q, e)) (omega (arith, q, e, i)), c) in z;
         users = λ i k e. let q : 32 * i / 32 ≡ i = omega arith in let f : pageAt v (userFile v) (32 * i / 32) ≡ x = ap (pageAt v (userFile v)) q ∙ e in
             let z : ⊥ = omega (arith, fu i k (omega (arith, f, a)), f, c) in z;
       };
     }
 
     -- p has no bits and no users
-    pub other-is : (p : ℕ) → (p ≡ b → ⊥) → ((j : ℕ) → j < 8 → userPage v (32 * j) ≡ p → ⊥) → Other P v p
+    pub other-is : (p : ℕ) → (BitPage P b p → ⊥) → ((j : ℕ) → j < 8 → userPage v (32 * j) ≡ p → ⊥) → Other P v p
     unfolding userPage
     other-is p nb nu = record {
-      bits = λ d h e. nb (sym e ∙ bits-page b eb d h);
+      bits = λ d h e. let q = bits-page b eb d h in nb (omega (arith, q, e), omega (arith, q, e, h));
       users = λ i h e. let q : 32 * i / 32 ≡ i = omega arith in nu i h (ap (pageAt v (userFile v)) q ∙ e);
     }
 
   -- from behind page p to the next that has
   pub next-told : (p r : ℕ) → Next P v p r → (row : List ℕ) (n : ℕ) → RowTells img (1024 * (p + 1)) row n → RowTells img (1024 * r) row n
   next-told p r x = skip-pages (p + 1) r (omega (arith, x .after)) (λ y a c. other-stays y (omega (arith, a)) (x .between y (omega (arith, a)) c))
+
+-- one of the n pages from b on, n being written otherwise
+pub run-page : {b p n m : ℕ} → (b ≤ p) × (p < b + n) → n ≡ m → (b ≤ p) × (p < b + m)
+run-page h e = (h .0, omega (arith, h .1, e))
 
 -- ---- for loops
 
@@ -252,8 +269,8 @@ module _ (v : Vol) (p i q : ℕ) (e : q ≡ userPage v (32 * i)) where
   ]
 
 -- the last word of bits, as code joins it
-pub last-word : (T P : ℕ) → T ≡ P → (m : List ℕ) (x : ℕ) (b : ℕ) (v : Vol) (w : ℕ) → w ≡ v b (T / 16)
+pub last-word : (T P : ℕ) → T ≡ P → (m : List ℕ) (x : ℕ) (b : ℕ) (v : Vol) (w : ℕ) → w ≡ wordFrom v b (T / 16)
     → ((j : ℕ) → j < 16 → (j < T % 16 → digit j x ≡ digit j (getD m (T / 16) 0)) × (T % 16 ≤ j → digit j x ≡ digit j w))
-    → (j : ℕ) → j < 16 → (j < P % 16 → digit j x ≡ digit j (getD m (P / 16) 0)) × (P % 16 ≤ j → digit j x ≡ digit j (v b (P / 16)))
-last-word T P e m x b v w ew g = subst (λ (n : ℕ). (j : ℕ) → j < 16 → (j < n % 16 → digit j x ≡ digit j (getD m (n / 16) 0)) × (n % 16 ≤ j → digit j x ≡ digit j (v b (n / 16)))) e
+    → (j : ℕ) → j < 16 → (j < P % 16 → digit j x ≡ digit j (getD m (P / 16) 0)) × (P % 16 ≤ j → digit j x ≡ digit j (wordFrom v b (P / 16)))
+last-word T P e m x b v w ew g = subst (λ (n : ℕ). (j : ℕ) → j < 16 → (j < n % 16 → digit j x ≡ digit j (getD m (n / 16) 0)) × (n % 16 ≤ j → digit j x ≡ digit j (wordFrom v b (n / 16)))) e
     (λ j h. (g j h .0, λ l. g j h .1 l ∙ ap (digit j) ew))

@@ -4,7 +4,7 @@ use mathlib.Core.Bool.{Bool, true, false}
 use mathlib.Core.List.{List}
 use Prim.Native.Nat.{ℕ, _+_, _-_, _*_, _≤_, _<_}
 use lib.ListN.{length, getD}
-use Rattle.book.specs.Bits.{bitPage, digit}
+use Rattle.book.specs.Bits.{bitPage, bitPages, digit}
 use Rattle.book.specs.Words.{Vol, vol}
 use Rattle.book.specs.Entries.{user, userFile}
 use Rattle.book.specs.Holders.{holders, mine, some}
@@ -12,6 +12,7 @@ use Rattle.book.specs.Image.{pages, Sixteen, Whole}
 use Rattle.book.specs.Rules.{Pointed}
 use Rattle.book.specs.Salvage.{Affords, spent}
 use Rattle.book.specs.Trees.{pageAt}
+use Rattle.page.specs.Parts.{wordFrom}
 use Rattle.bits.specs.Marks.{marked}
 use Rattle.shape.specs.Counts.{pagesOf, countIn}
 use Rattle.salvage.specs.declared.counts.Rest.{Rest}
@@ -31,12 +32,16 @@ pub record Sure (img : List ℕ) : Type 0 where
 -- each page is marked as often as it is held
 pub record MarksHeld (img m : List ℕ) : Type 0 where
   pub held : (p : ℕ) → p < pages img → marked m p ≡ holders (pages img) (vol img) p
-  pub size : length m ≡ 1024
+  pub room : pages img ≤ 16 * length m
 
--- x is the word k of bits on page b: below P whether the page is held, and from P on what was there
+-- x is word k of the bit file, which begins at page b: below P whether the page is held, and from P on what was there
 unfoldable pub BitsRight : List ℕ → ℕ → ℕ → ℕ → Type 0
 BitsRight img b k x = (j : ℕ) → j < 16
-    → (16 * k + j < pages img → digit j x ≡ some (holders (pages img) (vol img) (16 * k + j))) × (pages img ≤ 16 * k + j → digit j x ≡ digit j (vol img b k))
+    → (16 * k + j < pages img → digit j x ≡ some (holders (pages img) (vol img) (16 * k + j))) × (pages img ≤ 16 * k + j → digit j x ≡ digit j (wordFrom (vol img) b k))
+
+-- p is a page of the bit file of P pages, which begins at page b
+abbrev pub BitPage : ℕ → ℕ → ℕ → Type 0
+BitPage P b p = (b ≤ p) × (p < b + bitPages P)
 
 -- ---- counting, by the pages of files as their entries tell them
 

@@ -16,9 +16,9 @@ packedChange i old new = i * 4294967296 + old * 65536 + new
 unfoldable pub unpacked : ℕ → Change
 unpacked x = record { page = x / 4398046511104; word = x / 4294967296 % 1024; old = x / 65536 % 65536; new = x % 65536 }
 
--- so many changes can be told: unreserved, the bits of 16,384 pages and 256 used counts change 1,538 words at most
+-- so many changes can be told: unreserved, the bits of 140,733 pages and 256 used counts change 9,310 words at most
 abbrev pub rowSize : ℕ
-rowSize = 1539
+rowSize = 9311
 
 -- the first n numbers of the row tell of what salvage changes at the places below i
 pub record RowTells (img : List ℕ) (i : ℕ) (row : List ℕ) (n : ℕ) : Type 0 where

@@ -20,7 +20,7 @@ fn new_of(x: u64) -> u16
 }
 
 // The first n changes of the row are written into the image.
-pub(crate) fn apply(img: &mut [u16], row: &[u64; 1539], n: usize)
+pub(crate) fn apply(img: &mut [u16], row: &[u64; 9311], n: usize)
     requires { ⌜ (n ≤ rowSize) × (length (now row) ≡ rowSize) × ((k : ℕ) → k < n → packedPlace (getD (now row) k 0) < length (now img)) ⌝ }
     ensures { λ _. ⌜ now (img .exit) ≡ applied (now (img .entry)) (now (row .entry)) n ⌝ }
 {

@@ -1,5 +1,6 @@
 // The first pass: each word that is to change is noted in the row, in ascending place.
 use crate::row::note;
+use bits::bit_pages;
 use bits::word::low_bits;
 use page::BITS;
 use page::UNRESERVED;
@@ -7,22 +8,22 @@ use page::WORDS;
 use page::entry::EntryPlace;
 use page::entry::USED;
 use page::read::page_at;
-use page::read::word_at;
+use page::read::word_from;
 use tree::entry::entry_used;
 use tree::root::user_page;
 ghost use mathlib.Core.Path.{_≡_};
-ghost use Prim.Native.Nat.{ℕ, _+_, _-_, _*_, _/_, _%_, _≤_, _<_};
+ghost use Prim.Native.Nat.{ℕ, _+_, _-_, _*_, _/_, _%_, _≤_, _<_, min};
 ghost use lib.ListN.{length};
 ghost use Rattle.book.specs.Bits.{digit};
 ghost use Rattle.book.specs.Calls.{salvaged};
-ghost use Rattle.book.specs.Entries.{userFile, userPage, entryWord};
+ghost use Rattle.book.specs.Decides.{Decides};
+ghost use Rattle.book.specs.Entries.{userPage, entryWord};
 ghost use Rattle.book.specs.Image.{pages};
 ghost use Rattle.book.specs.Pointers.{page, bitPointer};
 ghost use Rattle.book.specs.Salvage.{wordAt, spent};
 ghost use Rattle.book.specs.Words.{vol};
-ghost use Rattle.tree.specs.Reach.{Reach};
 ghost use Rattle.salvage.specs.Row.{rowSize, RowTells};
-ghost use Rattle.salvage.specs.Facts.{Sure, MarksHeld, Counts, BitsRight, Next};
+ghost use Rattle.salvage.specs.Facts.{Sure, MarksHeld, Counts, BitsRight, BitPage, Next};
 
 // The two halves of a count.
 fn high(x: u32) -> u16
@@ -46,7 +47,7 @@ fn joined(w: u16, m: u16, n: usize) -> u16
 }
 
 // The word at place i is to become x.
-fn note_word(img: &[u16], row: &mut [u64; 1539], i: usize, x: u16, n: usize) -> usize
+fn note_word(img: &[u16], row: &mut [u64; 9311], i: usize, x: u16, n: usize) -> usize
     requires { ⌜ Sure (now img) × RowTells (now img) i (now row) n × (i < length (now img)) × (x ≡ wordAt (salvaged (now img)) i) ⌝ }
     ensures { λ r. ⌜ RowTells (now (img .entry)) (i + 1) (now (row .exit)) r ⌝ }
 {
@@ -54,7 +55,7 @@ fn note_word(img: &[u16], row: &mut [u64; 1539], i: usize, x: u16, n: usize) -> 
 }
 
 // The count at place i is to become x.
-fn note_two(img: &[u16], row: &mut [u64; 1539], i: usize, x: u32, n: usize) -> usize
+fn note_two(img: &[u16], row: &mut [u64; 9311], i: usize, x: u32, n: usize) -> usize
     requires { ⌜ Sure (now img) × RowTells (now img) i (now row) n × (i + 1 < length (now img)) × (x / 65536 ≡ wordAt (salvaged (now img)) i) × (x % 65536 ≡ wordAt (salvaged (now img)) (i + 1)) ⌝ }
     ensures { λ r. ⌜ RowTells (now (img .entry)) (i + 2) (now (row .exit)) r ⌝ }
 {
@@ -62,39 +63,87 @@ fn note_two(img: &[u16], row: &mut [u64; 1539], i: usize, x: u32, n: usize) -> u
     note_word(img, row, i + 1, low(x), m)
 }
 
-// Word k of the bit page b is to become x, which tells of each of its pages whether it is held, and from P on has the bits that were there.
-fn note_bit_word(img: &[u16], b: usize, k: usize, x: u16, row: &mut [u64; 1539], n: usize) -> usize
+// Word k of the bit file, which begins at page b, is to become x, which tells of each of its pages whether it is held, and from P on has the bits that were there.
+fn note_bit_word(img: &[u16], b: usize, k: usize, x: u16, row: &mut [u64; 9311], n: usize) -> usize
     requires { ⌜ Sure (now img) × (b ≡ page (vol (now img) 0) bitPointer) × (16 * k < pages (now img)) × BitsRight (now img) b k x × RowTells (now img) (1024 * b + k) (now row) n ⌝ }
     ensures { λ r. ⌜ RowTells (now (img .entry)) (1024 * b + k + 1) (now (row .exit)) r ⌝ }
 {
     note_word(img, row, WORDS * b + k, x, n)
 }
 
-// The words of the bit page b.
-fn note_bits(
+// The last words of bits, on page p of the bit file: the one that holds P is made of both, and from there on nothing changes.
+fn note_last(
     img: &[u16],
-    marks: &[u16; 1024],
+    marks: &[u16],
     total: usize,
     b: usize,
-    row: &mut [u64; 1539],
+    p: usize,
+    row: &mut [u64; 9311],
     n: usize,
 ) -> usize
-    requires { ⌜ Sure (now img) × MarksHeld (now img) (now marks) × (total ≡ pages (now img)) × (b ≡ page (vol (now img) 0) bitPointer) × RowTells (now img) (1024 * b) (now row) n ⌝ }
-    ensures { λ r. ⌜ RowTells (now (img .entry)) (1024 * b + 1024) (now (row .exit)) r ⌝ }
+    requires { ⌜ Sure (now img) × MarksHeld (now img) (now marks) × (total ≡ pages (now img)) × (b ≡ page (vol (now img) 0) bitPointer) × BitPage (pages (now img)) b p
+        × (total / 16 < 1024 * (p - b) + 1024) × RowTells (now img) (1024 * b + total / 16) (now row) n ⌝ }
+    ensures { λ r. ⌜ RowTells (now (img .entry)) (1024 * p + 1024) (now (row .exit)) r ⌝ }
 {
     let full = total / 16;
+    let rest = total % 16;
+    if rest == 0 {
+        return n;
+    }
+    let x = joined(word_from(img, b, full), marks[full], rest);
+    note_bit_word(img, b, full, x, row, n)
+}
+
+// The lesser of two numbers.
+fn lesser(x: usize, y: usize) -> usize
+    ensures { λ r. ⌜ r ≡ min x y ⌝ }
+{
+    if x < y {
+        return x;
+    }
+    y
+}
+
+// The words of page p of the bit file, which begins at page b.
+fn note_bits(
+    img: &[u16],
+    marks: &[u16],
+    total: usize,
+    b: usize,
+    p: usize,
+    row: &mut [u64; 9311],
+    n: usize,
+) -> usize
+    requires { ⌜ Sure (now img) × MarksHeld (now img) (now marks) × (total ≡ pages (now img)) × (b ≡ page (vol (now img) 0) bitPointer) × BitPage (pages (now img)) b p × RowTells (now img) (1024 * p) (now row) n ⌝ }
+    ensures { λ r. ⌜ RowTells (now (img .entry)) (1024 * p + 1024) (now (row .exit)) r ⌝ }
+{
+    let first = WORDS * (p - b);
+    let next = first + WORDS;
+    let full = lesser(total / 16, next);
     let mut m = n;
-    let mut k: usize = 0;
+    let mut k = first;
     while k < full {
         m = note_bit_word(img, b, k, marks[k], row, m);
         k += 1;
     }
-    let rest = total % 16;
-    if rest == 0 {
-        return m;
+    if full < next {
+        return note_last(img, marks, total, b, p, row, m);
     }
-    let x = joined(word_at(img, b, full), marks[full], rest);
-    note_bit_word(img, b, full, x, row, m)
+    m
+}
+
+// Whether p is one of the n pages from b on.
+fn is_among(b: usize, n: usize, p: usize) -> bool
+    requires { ⌜ (b < 4294967296) × (n < 4294967296) ⌝ }
+    ensures { λ r. ⌜ Decides r ((b ≤ p) × (p < b + n)) ⌝ }
+{
+    if p < b {
+        return false;
+    }
+    if b + n <= p {
+        return false;
+    }
+    true
 }
 
 // The used count of user u, whose entry is on page q.
@@ -103,7 +152,7 @@ fn note_user(
     counts: &[u32; 256],
     q: usize,
     u: usize,
-    row: &mut [u64; 1539],
+    row: &mut [u64; 9311],
     n: usize,
 ) -> usize
     requires { ⌜ Sure (now img) × Counts (vol (now img)) (now counts) × (u < 256) × (0 < q) × (q < pages (now img)) × (q ≡ userPage (vol (now img)) u) × RowTells (now img) (1024 * q + entryWord u) (now row) n ⌝ }
@@ -123,7 +172,7 @@ fn note_users(
     counts: &[u32; 256],
     q: usize,
     first: usize,
-    row: &mut [u64; 1539],
+    row: &mut [u64; 9311],
     n: usize,
 ) -> usize
     requires { ⌜ Sure (now img) × Counts (vol (now img)) (now counts) × (first % 32 ≡ 0) × (first < 256) × (0 < q) × (q < pages (now img)) × (q ≡ userPage (vol (now img)) first) × RowTells (now img) (1024 * q) (now row) n ⌝ }
@@ -138,21 +187,22 @@ fn note_users(
     m
 }
 
-// Page p: the bit page b, a user page, or one without such words.
+// Page p: one of the bit file, which begins at page b, a user page, or one without such words.
 fn note_page(
     img: &[u16],
-    marks: &[u16; 1024],
+    marks: &[u16],
     counts: &[u32; 256],
     b: usize,
     p: usize,
-    row: &mut [u64; 1539],
+    row: &mut [u64; 9311],
     n: usize,
 ) -> usize
     requires { ⌜ Sure (now img) × MarksHeld (now img) (now marks) × Counts (vol (now img)) (now counts) × (b ≡ page (vol (now img) 0) bitPointer) × (0 < p) × (p < pages (now img)) × RowTells (now img) (1024 * p) (now row) n ⌝ }
     ensures { λ r. ⌜ RowTells (now (img .entry)) (1024 * p + 1024) (now (row .exit)) r ⌝ }
 {
-    if p == b {
-        return note_bits(img, marks, img.len() / WORDS, b, row, n);
+    let total = img.len() / WORDS;
+    if is_among(b, bit_pages(total), p) {
+        return note_bits(img, marks, total, b, p, row, n);
     }
     let mut i: usize = 0;
     while i < 8 {
@@ -178,12 +228,26 @@ fn nearer(p: usize, x: usize, r: usize) -> usize
     r
 }
 
-// The next page behind p that is the bit page b or a user page, or the total of pages.
+// The next page behind p of the n pages from b on, or the total of pages.
+fn next_among(b: usize, n: usize, p: usize, total: usize) -> usize
+    requires { ⌜ (p < total) × (b + n ≤ total) ⌝ }
+    ensures { λ r. ⌜ (p < r) × (r ≤ total) × ((x : ℕ) → p < x → b ≤ x → x < b + n → r ≤ x) ⌝ }
+{
+    if p < b {
+        return b;
+    }
+    if p + 1 < b + n {
+        return p + 1;
+    }
+    total
+}
+
+// The next page behind p that is one of the bit file, which begins at page b, or a user page, or the total of pages.
 fn next_page(img: &[u16], total: usize, b: usize, p: usize) -> usize
     requires { ⌜ Sure (now img) × (total ≡ pages (now img)) × (b ≡ page (vol (now img) 0) bitPointer) × (p < total) ⌝ }
     ensures { λ r. ⌜ Next (pages (now (img .entry))) (vol (now (img .entry))) p r ⌝ }
 {
-    let mut r = nearer(p, b, total);
+    let mut r = next_among(b, bit_pages(total), p, total);
     let mut i: usize = 0;
     while i < 8 {
         let q = user_page(img, 32 * i);
@@ -196,10 +260,10 @@ fn next_page(img: &[u16], total: usize, b: usize, p: usize) -> usize
 // All words that are to change, where so much is left as unreserved: how many they are.
 pub(crate) fn collect(
     img: &[u16],
-    marks: &[u16; 1024],
+    marks: &[u16],
     counts: &[u32; 256],
     left: u32,
-    row: &mut [u64; 1539],
+    row: &mut [u64; 9311],
 ) -> usize
     requires { ⌜ Sure (now img) × MarksHeld (now img) (now marks) × Counts (vol (now img)) (now counts) × (left ≡ pages (now img) - spent (pages (now img)) (vol (now img))) × (length (now row) ≡ rowSize) ⌝ }
     ensures { λ r. ⌜ RowTells (now (img .entry)) (1024 * pages (now (img .entry))) (now (row .exit)) r ⌝ }

@@ -6,7 +6,9 @@ pub mod counts;
 pub mod list;
 pub mod row;
 
-use bits::marks::no_marks;
+use bits::PAGE_BITS;
+use bits::marks::few_marks;
+use bits::marks::most_marks;
 use book::Answer;
 use book::Refusal;
 use counts::Rest;
@@ -25,6 +27,7 @@ ghost use Rattle.book.specs.Image.{pages, Whole};
 ghost use Rattle.book.specs.Salvage.{spent};
 ghost use Rattle.book.specs.Words.{vol};
 ghost use Rattle.sound.specs.Late.{Early};
+ghost use Rattle.bits.specs.Marks.{Unmarked};
 ghost use Rattle.tree.specs.Ends.{Ends};
 ghost use Rattle.salvage.specs.Row.{rowSize};
 ghost use Rattle.salvage.specs.Facts.{PastThree, Sure, MarksHeld, Counts};
@@ -33,11 +36,11 @@ ghost use Rattle.salvage.specs.Mending.{Mends};
 // The words that change are collected, and 14 is asked before the first is written.
 fn mend_sure(
     img: &mut [u16],
-    marks: &[u16; 1024],
+    marks: &[u16],
     counts: &[u32; 256],
     left: u32,
     room: usize,
-    row: &mut [u64; 1539],
+    row: &mut [u64; 9311],
 ) -> Answer
     requires { ⌜ Sure (now img) × MarksHeld (now img) (now marks) × Counts (vol (now img)) (now counts) × (left ≡ pages (now img) - spent (pages (now img)) (vol (now img))) × (length (now row) ≡ rowSize) ⌝ }
     ensures { λ r. ⌜ Mends (now (img .entry)) room r (now (img .exit)) (now (row .exit)) ⌝ }
@@ -56,11 +59,11 @@ fn mend_sure(
 // Number 13, then the words. A walk has marked the held pages and visited so many.
 fn mend_good(
     img: &mut [u16],
-    marks: &[u16; 1024],
+    marks: &[u16],
     visits: u32,
     ends: usize,
     room: usize,
-    row: &mut [u64; 1539],
+    row: &mut [u64; 9311],
 ) -> Answer
     requires { ⌜ PastThree (now img) × MarksHeld (now img) (now marks) × (visits ≡ 1 + all (pages (now img)) (vol (now img)) some) × Ends (now img) ends × (length (now row) ≡ rowSize) ⌝ }
     ensures { λ r. ⌜ Mends (now (img .entry)) room r (now (img .exit)) (now (row .exit)) ⌝ }
@@ -76,12 +79,17 @@ fn mend_good(
 }
 
 // Rule 8 of an image that keeps the first seven, without rule 4's comparison; then the rest.
-fn mend_kept(img: &mut [u16], ends: usize, room: usize, row: &mut [u64; 1539]) -> Answer
-    requires { ⌜ Whole (now img) × Early false (pages (now img)) (vol (now img)) × Ends (now img) ends × (length (now row) ≡ rowSize) ⌝ }
+fn mend_marked(
+    img: &mut [u16],
+    marks: &mut [u16],
+    ends: usize,
+    room: usize,
+    row: &mut [u64; 9311],
+) -> Answer
+    requires { ⌜ Whole (now img) × Early false (pages (now img)) (vol (now img)) × Ends (now img) ends × (length (now row) ≡ rowSize) × Unmarked (pages (now img)) (now marks) ⌝ }
     ensures { λ r. ⌜ Mends (now (img .entry)) room r (now (img .exit)) (now (row .exit)) ⌝ }
 {
-    let mut marks = no_marks();
-    let w = mark_all(img, &mut marks, img.len() / WORDS, ends);
+    let w = mark_all(img, marks, img.len() / WORDS, ends);
     let Walk::On { visited } = w else {
         return Answer::Refused {
             why: Refusal::Unsound {
@@ -89,11 +97,24 @@ fn mend_kept(img: &mut [u16], ends: usize, room: usize, row: &mut [u64; 1539]) -
             },
         };
     };
-    mend_good(img, &marks, visited, ends, room, row)
+    mend_good(img, marks, visited, ends, room, row)
+}
+
+// The same; here the marks are made, as many as the volume asks for.
+fn mend_kept(img: &mut [u16], ends: usize, room: usize, row: &mut [u64; 9311]) -> Answer
+    requires { ⌜ Whole (now img) × Early false (pages (now img)) (vol (now img)) × Ends (now img) ends × (length (now row) ≡ rowSize) ⌝ }
+    ensures { λ r. ⌜ Mends (now (img .entry)) room r (now (img .exit)) (now (row .exit)) ⌝ }
+{
+    if img.len() / WORDS <= PAGE_BITS {
+        let mut marks = few_marks();
+        return mend_marked(img, &mut marks, ends, room, row);
+    }
+    let mut marks = most_marks();
+    mend_marked(img, &mut marks, ends, room, row)
 }
 
 // Salvages the volume; with done the row begins with the changes, as many as the answer's value says.
-pub fn mend(img: &mut [u16], room: usize, row: &mut [u64; 1539]) -> Answer
+pub fn mend(img: &mut [u16], room: usize, row: &mut [u64; 9311]) -> Answer
     requires { ⌜ length (now row) ≡ rowSize ⌝ }
     ensures { λ r. ⌜ Mends (now (img .entry)) room r (now (img .exit)) (now (row .exit)) ⌝ }
 {

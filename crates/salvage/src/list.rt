@@ -19,16 +19,16 @@ fn change_of(x: u64) -> Change
 }
 
 // The change that number k of the row tells of.
-fn told_at(row: &[u64; 1539], k: usize) -> Change
-    requires { ⌜ k < 1539 ⌝ }
+fn told_at(row: &[u64; 9311], k: usize) -> Change
+    requires { ⌜ k < 9311 ⌝ }
     ensures { λ r. ⌜ r ≡ unpacked (getD (now (row .entry)) k 0) ⌝ }
 {
     change_of(row[k])
 }
 
 // The first n records of the list become the changes that the first n numbers of the row tell of; the others stay.
-pub fn fill(list: &mut [Change], row: &[u64; 1539], n: usize)
-    requires { ⌜ (n ≤ length (now list)) × (n ≤ 1539) ⌝ }
+pub fn fill(list: &mut [Change], row: &[u64; 9311], n: usize)
+    requires { ⌜ (n ≤ length (now list)) × (n ≤ 9311) ⌝ }
     ensures { λ _. ⌜ now (list .exit) ≡ map unpacked (take n (now (row .entry))) ++ drop n (now (list .entry)) ⌝ }
 {
     let mut k: usize = 0;

@@ -5,10 +5,10 @@ ghost use lib.ListN.{length};
 ghost use Rattle.salvage.specs.Row.{packedChange, rowSize, Noted};
 
 // Room for the changes.
-pub fn no_changes() -> [u64; 1539]
+pub fn no_changes() -> [u64; 9311]
     ensures { λ r. ⌜ length r ≡ rowSize ⌝ }
 {
-    [0; 1539]
+    [0; 9311]
 }
 
 // The change at place i as a number.
@@ -20,7 +20,7 @@ fn packed_at(i: usize, old: u16, new: u16) -> u64
 }
 
 // The word at place i, which is old, is to become x: where that changes it, number n of the row tells so. How many are told then.
-pub(crate) fn note(row: &mut [u64; 1539], i: usize, old: u16, x: u16, n: usize) -> usize
+pub(crate) fn note(row: &mut [u64; 9311], i: usize, old: u16, x: u16, n: usize) -> usize
     requires { ⌜ (i < 268435456) × (n < rowSize) × (length (now row) ≡ rowSize) ⌝ }
     ensures { λ r. ⌜ Noted (now (row .entry)) i old x n (now (row .exit)) r ⌝ }
 {

@@ -41,27 +41,27 @@ module _ (A : ℕ → Type 0) (m : List ℕ) (b : ℕ) (all : (p : ℕ) → mark
   marking-all true d = newly-all d
   marking-all false d = subst (λ (x : List ℕ). (p : ℕ) → marked x p ≡ 1 → A p) (sym (d .1)) all
 
-none-marked : (A : ℕ → Type 0) (m : List ℕ) → Unmarked m → (p : ℕ) → marked m p ≡ 1 → A p
-none-marked A m u p q = absurd (let z : ⊥ = omega (arith, u .none p, q) in z)
+none-marked : (A : ℕ → Type 0) (P : ℕ) (m : List ℕ) → Unmarked P m → (p : ℕ) → marked m p ≡ 1 → A p
+none-marked A P m u p q = absurd (let z : ⊥ = omega (arith, u .none p, q) in z)
 
 marking-size : (m : List ℕ) (b : ℕ) (after : List ℕ) (r : Bool) → Marking m b after r → length after ≡ length m
 marking-size m b after true d = d .kept
 marking-size m b after false d = ap length (d .1)
 
 module _ (img : List ℕ) where
-  pub recalled-none : (seen trees : List ℕ) → Unmarked seen → Unmarked trees → Recalled img seen trees
-  recalled-none seen trees s t = record {
-    known = record { size = s .size; full = none-marked (λ b. Filled (pages img) (vol img) 1 b 512) seen s };
-    rooted = record { size = t .size; root = none-marked (Subindex img) trees t };
+  pub recalled-none : (P : ℕ) → pages img ≤ P → (seen trees : List ℕ) → Unmarked P seen → Unmarked P trees → Recalled img seen trees
+  recalled-none P h seen trees s t = record {
+    known = record { room = omega (arith, h, s .room); full = none-marked (λ b. Filled (pages img) (vol img) 1 b 512) P seen s };
+    rooted = record { room = omega (arith, h, t .room); root = none-marked (Subindex img) P trees t };
   }
 
   -- a page that is found full may be marked, and one with a right tree under it
   known-more : (seen : List ℕ) (b : ℕ) → Known img seen → Filled (pages img) (vol img) 1 b 512 → (after : List ℕ) (r : Bool) → Marking seen b after r → Known img after
   known-more seen b k f after r d =
-      record { size = marking-size seen b after r d ∙ k .size; full = marking-all (λ p. Filled (pages img) (vol img) 1 p 512) seen b (k .full) f after r d }
+      record { room = omega (arith, marking-size seen b after r d, k .room); full = marking-all (λ p. Filled (pages img) (vol img) 1 p 512) seen b (k .full) f after r d }
 
   rooted-more : (trees : List ℕ) (t : ℕ) → Rooted img trees → Subindex img t → (after : List ℕ) (r : Bool) → Marking trees t after r → Rooted img after
-  rooted-more trees t k f after r d = record { size = marking-size trees t after r d ∙ k .size; root = marking-all (Subindex img) trees t (k .root) f after r d }
+  rooted-more trees t k f after r d = record { room = omega (arith, marking-size trees t after r d, k .room); root = marking-all (Subindex img) trees t (k .root) f after r d }
 
 -- ---- tests with a memory
 

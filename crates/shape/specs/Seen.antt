@@ -2,7 +2,7 @@
 use mathlib.Core.Path.{_≡_}
 use mathlib.Core.Bool.{Bool, true}
 use mathlib.Core.List.{List}
-use Prim.Native.Nat.{ℕ}
+use Prim.Native.Nat.{ℕ, _*_, _≤_}
 use lib.ListN.{length}
 use Rattle.book.specs.Decides.{Decides}
 use Rattle.book.specs.Files.{Subindexed}
@@ -11,9 +11,9 @@ use Rattle.book.specs.Words.{vol}
 use Rattle.bits.specs.Marks.{marked}
 use Rattle.shape.specs.Shapes.{Filled}
 
--- marks for 16,384 pages, and every page that is marked is a full index block
+-- marks for all pages, and every page that is marked is a full index block
 pub record Known (img : List ℕ) (seen : List ℕ) : Type 0 where
-  pub size : length seen ≡ 1024
+  pub room : pages img ≤ 16 * length seen
   pub full : (b : ℕ) → marked seen b ≡ 1 → Filled (pages img) (vol img) 1 b 512
 
 -- page t is the subindex block of some right file
@@ -21,9 +21,9 @@ pub record Subindex (img : List ℕ) (t : ℕ) : Type 0 where
   pub count : ℕ
   pub right : Subindexed (pages img) (vol img) t count
 
--- marks for 16,384 pages, and every page that is marked is such a subindex block
+-- marks for all pages, and every page that is marked is such a subindex block
 pub record Rooted (img : List ℕ) (trees : List ℕ) : Type 0 where
-  pub size : length trees ≡ 1024
+  pub room : pages img ≤ 16 * length trees
   pub root : (t : ℕ) → marked trees t ≡ 1 → Subindex img t
 
 -- both memories are right

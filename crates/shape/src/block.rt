@@ -44,7 +44,7 @@ fn share(n: usize, k: usize) -> usize
 }
 
 // Whether page b is an index block of n pages. A full one is marked as seen, and not read again: files may share blocks until rule 8 is judged.
-pub fn index_once(img: &[u16], total: usize, seen: &mut [u16; 1024], b: usize, n: usize) -> bool
+pub fn index_once(img: &[u16], total: usize, seen: &mut [u16], b: usize, n: usize) -> bool
     requires { ⌜ Testing (now img) total (Known (now img) (now seen)) × (0 < n) × (n ≤ 512) ⌝ }
     ensures { λ r. ⌜ Tested (Filled (pages (now (img .entry))) (vol (now (img .entry))) 1 b n) (Known (now (img .entry)) (now (seen .exit))) r ⌝ }
 {
@@ -64,7 +64,7 @@ pub fn index_once(img: &[u16], total: usize, seen: &mut [u16; 1024], b: usize, n
 fn indexes_ok(
     img: &[u16],
     total: usize,
-    seen: &mut [u16; 1024],
+    seen: &mut [u16],
     block: &[u16],
     n: usize,
     m: usize,
@@ -83,13 +83,7 @@ fn indexes_ok(
 }
 
 // Whether a subindex block has n positions under it.
-fn subindex_block(
-    img: &[u16],
-    total: usize,
-    seen: &mut [u16; 1024],
-    block: &[u16],
-    n: usize,
-) -> bool
+fn subindex_block(img: &[u16], total: usize, seen: &mut [u16], block: &[u16], n: usize) -> bool
     requires { ⌜ Testing (now img) total (Known (now img) (now seen)) × (length (now block) ≡ 1024) × (n ≤ 262144) ⌝ }
     ensures { λ r. ⌜ Tested (Indexes (pages (now (img .entry))) (vol (now (img .entry))) (now (block .entry)) n ((n + 511) / 512)
         × Unlinked (now (block .entry)) ((n + 511) / 512) 512) (Known (now (img .entry)) (now (seen .exit))) r ⌝ }
@@ -102,7 +96,7 @@ fn subindex_block(
 }
 
 // Whether page t is a subindex block of n pages.
-fn subindex_ok(img: &[u16], total: usize, seen: &mut [u16; 1024], t: usize, n: usize) -> bool
+fn subindex_ok(img: &[u16], total: usize, seen: &mut [u16], t: usize, n: usize) -> bool
     requires { ⌜ Testing (now img) total (Known (now img) (now seen)) × (512 < n) × (n ≤ 262144) ⌝ }
     ensures { λ r. ⌜ Tested (Filled (pages (now (img .entry))) (vol (now (img .entry))) 2 t n) (Known (now (img .entry)) (now (seen .exit))) r ⌝ }
 {
@@ -132,8 +126,8 @@ fn count_ok(img: &[u16], t: usize, n: usize) -> bool
 pub fn subindex_once(
     img: &[u16],
     total: usize,
-    seen: &mut [u16; 1024],
-    trees: &mut [u16; 1024],
+    seen: &mut [u16],
+    trees: &mut [u16],
     t: usize,
     n: usize,
 ) -> bool

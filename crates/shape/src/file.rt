@@ -35,7 +35,7 @@ pub fn run_ok(total: usize, t: usize, n: usize) -> bool
 }
 
 // Whether page t is the index block of a file of n pages.
-fn indexed_ok(img: &[u16], total: usize, seen: &mut [u16; 1024], t: usize, n: usize) -> bool
+fn indexed_ok(img: &[u16], total: usize, seen: &mut [u16], t: usize, n: usize) -> bool
     requires { ⌜ Testing (now img) total (Known (now img) (now seen)) ⌝ }
     ensures { λ r. ⌜ Tested (Indexed (pages (now (img .entry))) (vol (now (img .entry))) t n) (Known (now (img .entry)) (now (seen .exit))) r ⌝ }
 {
@@ -52,8 +52,8 @@ fn indexed_ok(img: &[u16], total: usize, seen: &mut [u16; 1024], t: usize, n: us
 fn subindexed_ok(
     img: &[u16],
     total: usize,
-    seen: &mut [u16; 1024],
-    trees: &mut [u16; 1024],
+    seen: &mut [u16],
+    trees: &mut [u16],
     t: usize,
     n: usize,
 ) -> bool
@@ -73,8 +73,8 @@ fn subindexed_ok(
 fn shape_ok(
     img: &[u16],
     total: usize,
-    seen: &mut [u16; 1024],
-    trees: &mut [u16; 1024],
+    seen: &mut [u16],
+    trees: &mut [u16],
     flags: u16,
     t: usize,
     n: usize,
@@ -105,8 +105,8 @@ pub fn bytes_ok(n: u32, bytes: u32) -> bool
 fn file_ok(
     img: &[u16],
     total: usize,
-    seen: &mut [u16; 1024],
-    trees: &mut [u16; 1024],
+    seen: &mut [u16],
+    trees: &mut [u16],
     q: usize,
     e: usize,
 ) -> bool
@@ -126,8 +126,8 @@ fn file_ok(
 pub fn entry_ok(
     img: &[u16],
     total: usize,
-    seen: &mut [u16; 1024],
-    trees: &mut [u16; 1024],
+    seen: &mut [u16],
+    trees: &mut [u16],
     q: usize,
     e: usize,
 ) -> bool

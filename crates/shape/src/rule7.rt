@@ -1,7 +1,9 @@
 // Rule 7: each file has one of the shapes, its bytes right, all its pages in 1..P-1. It goes over the pages of the object file and skips absent ones.
 use crate::file::entry_ok;
 use crate::plain::plain_position;
-use bits::marks::no_marks;
+use bits::PAGE_BITS;
+use bits::marks::few_marks;
+use bits::marks::most_marks;
 use page::OBJECTS;
 use page::read::flags_at;
 use page::read::page_at;
@@ -22,8 +24,8 @@ ghost use Rattle.shape.specs.Shapes.{FilesRight};
 fn page_ok(
     img: &[u16],
     total: usize,
-    seen: &mut [u16; 1024],
-    trees: &mut [u16; 1024],
+    seen: &mut [u16],
+    trees: &mut [u16],
     q: usize,
     n: usize,
 ) -> bool
@@ -45,8 +47,8 @@ fn page_ok(
 pub fn position_ok(
     img: &[u16],
     total: usize,
-    seen: &mut [u16; 1024],
-    trees: &mut [u16; 1024],
+    seen: &mut [u16],
+    trees: &mut [u16],
     flags: u16,
     top: usize,
     n: usize,
@@ -61,24 +63,45 @@ pub fn position_ok(
     page_ok(img, total, seen, trees, q, n)
 }
 
-// Whether rule 7 holds, where the object file ends at `ends`, and the files before its position `first` are right. Here the memories are made.
-fn rest_ok(img: &[u16], total: usize, ends: usize, first: usize) -> bool
-    requires { ⌜ Whole (now img) × (total ≡ pages (now img)) × Rule2 (pages (now img)) (vol (now img)) × Rule5 (pages (now img)) (vol (now img)) × Ends (now img) ends
+// Whether rule 7 holds, where the object file ends at `ends`, and the files before its position `first` are right.
+fn rest_ok(
+    img: &[u16],
+    total: usize,
+    seen: &mut [u16],
+    trees: &mut [u16],
+    ends: usize,
+    first: usize,
+) -> bool
+    requires { ⌜ Testing (now img) total (Recalled (now img) (now seen) (now trees)) × Rule2 (pages (now img)) (vol (now img)) × Rule5 (pages (now img)) (vol (now img)) × Ends (now img) ends
         × (first ≤ ends) × FilesRight (pages (now img)) (vol (now img)) 0 (32 * first) ⌝ }
     ensures { λ r. ⌜ Decides r (Rule7 (pages (now (img .entry))) (vol (now (img .entry)))) ⌝ }
 {
     let flags = flags_at(img, 0, OBJECTS);
     let top = page_at(img, 0, OBJECTS) as usize;
-    let mut seen = no_marks();
-    let mut trees = no_marks();
     let mut n = first;
     while n < ends {
-        if !position_ok(img, total, &mut seen, &mut trees, flags, top, n) {
+        if !position_ok(img, total, seen, trees, flags, top, n) {
             return false;
         }
         n += 1;
     }
     true
+}
+
+// The same; here the memories are made, as large as the volume asks for.
+fn rest_recalled(img: &[u16], total: usize, ends: usize, first: usize) -> bool
+    requires { ⌜ Whole (now img) × (total ≡ pages (now img)) × Rule2 (pages (now img)) (vol (now img)) × Rule5 (pages (now img)) (vol (now img)) × Ends (now img) ends
+        × (first ≤ ends) × FilesRight (pages (now img)) (vol (now img)) 0 (32 * first) ⌝ }
+    ensures { λ r. ⌜ Decides r (Rule7 (pages (now (img .entry))) (vol (now (img .entry)))) ⌝ }
+{
+    if total <= PAGE_BITS {
+        let mut seen = few_marks();
+        let mut trees = few_marks();
+        return rest_ok(img, total, &mut seen, &mut trees, ends, first);
+    }
+    let mut seen = most_marks();
+    let mut trees = most_marks();
+    rest_ok(img, total, &mut seen, &mut trees, ends, first)
 }
 
 // Whether rule 7 holds, where the object file ends at `ends`. Up to the first file that asks for a memory there is none.
@@ -91,7 +114,7 @@ pub fn rule7(img: &[u16], total: usize, ends: usize) -> bool
     let mut n: usize = 0;
     while n < ends {
         if !plain_position(img, total, flags, top, n) {
-            return rest_ok(img, total, ends, n);
+            return rest_recalled(img, total, ends, n);
         }
         n += 1;
     }

@@ -3,10 +3,9 @@ use mathlib.Core.Path.{_≡_, refl, sym, subst, subst₂}
 use mathlib.Core.Logic.{inl, inr}
 use mathlib.Core.Bool.{Bool, true}
 use mathlib.Core.List.{List}
-use Prim.Native.Nat.{ℕ, _≤_, _<_}
-use native.Mathlib.Omega.{arith}
+use Prim.Native.Nat.{ℕ, _<_}
 use Rattle.book.specs.Words.{Vol, vol}
-use Rattle.book.specs.Bits.{bit, bitPages}
+use Rattle.book.specs.Bits.{bit}
 use Rattle.book.specs.Pointers.{page, bitPointer}
 use Rattle.book.specs.Gate.{Judged}
 use Rattle.book.specs.declared.Verdict.{Verdict}
@@ -16,7 +15,7 @@ use Rattle.book.specs.Holders.{visits}
 use Rattle.book.specs.Rows.{Lowest}
 use Rattle.book.specs.Rules.{Rule1, Rule2, Rule3, Rule4Over, Rule5, Rule6, Rule7, Rule8, Rule9, Rule10, Sound, rulesOf}
 use Rattle.book.specs.Names.{stored}
-use Rattle.book.specs.Image.{pages, mostPages}
+use Rattle.book.specs.Image.{pages}
 use Rattle.laws.specs.Count.Reach.{Within, rules-within}
 use Rattle.bits.specs.File.{BitsAt}
 use Rattle.bits.proofs.Places.{bits-at}
@@ -131,10 +130,5 @@ module _ (P : ℕ) (v : Vol) (m : List ℕ) (x : ℕ) (k : HeldOn P v m x) (T : 
   nine-bits r = subst (λ (y : ℕ). (q : ℕ) → q < y → bit y v q ≡ marked m q) (sym t) (rule9-same P v m x k r)
 
 -- where the bit file is
-pub bits-here : (P : ℕ) (v : Vol) (T b : ℕ) → P ≤ mostPages → T ≡ P → Rule1 P v → b ≡ page (v 0) bitPointer → BitsAt T v b
-bits-here P v T b h t r e = subst₂ (λ (x y : ℕ). BitsAt x v y) (sym t) (sym e) (bits-at P v h r)
-
--- rule 1's bit page is a page of the image
-pub bit-below : (P : ℕ) (v : Vol) → 0 < P → Rule1 P v → page (v 0) bitPointer < P
-unfolding bitPages
-bit-below P v h r = omega (arith, r .fits)
+pub bits-here : (P : ℕ) (v : Vol) (T b : ℕ) → T ≡ P → Rule1 P v → b ≡ page (v 0) bitPointer → BitsAt T v b
+bits-here P v T b t r e = subst₂ (λ (x y : ℕ). BitsAt x v y) (sym t) (sym e) (bits-at P v r)

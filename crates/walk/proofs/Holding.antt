@@ -73,24 +73,24 @@ module _ (img : List ℕ) (w : Volume img) where
 
 -- ---- all, from no marks on
 
-module _ (m : List ℕ) (u : Unmarked m) (m′ : List ℕ) where
+module _ (P : ℕ) (m : List ℕ) (u : Unmarked P m) (m′ : List ℕ) where
   -- the master page's mark
   pub first-mark : (r : Bool) → Marking m 0 m′ r → Newly m 0 m′
   first-mark true d = d
   first-mark false d = absurd (let z : ⊥ = omega (arith, d .0, u .none 0) in z)
 
   module _ (d : Newly m 0 m′) where
-    pub first-walking : (img : List ℕ) → Volume img → Walking img m′ 1
-    first-walking img w = record { size = d .kept ∙ u .size; few = w .whole .most; some = omega (arith, w .whole .least); master = omega (arith, d .more 0, u .none 0, is-same 0); counted = omega (arith, marks-more (pages img) m 0 m′ d (omega (arith, w .whole .least))) }
+    pub first-walking : (img : List ℕ) → P ≡ pages img → Volume img → Walking img m′ 1
+    first-walking img e w = record { room = omega (arith, e, d .kept, u .room); few = w .whole .most; some = omega (arith, w .whole .least); master = omega (arith, d .more 0, u .none 0, is-same 0); counted = omega (arith, marks-more (pages img) m 0 m′ d (omega (arith, w .whole .least))) }
 
     at-first : (p : ℕ) → marked m′ p ≡ is p 0
     at-first p = omega (arith, d .more p, u .none p, is-sym 0 p)
 
-    pub held : (P : ℕ) (v : Vol) (m″ : List ℕ) (r : Walk) → Walked P m′ 1 (λ g. system P v g + sum 256 (λ u. mine v u g)) m″ r → Held P v m″ r
+    pub held : (v : Vol) (m″ : List ℕ) (r : Walk) → Walked P m′ 1 (λ g. system P v g + sum 256 (λ u. mine v u g)) m″ r → Held P v m″ r
     unfolding holders all
-    held P v m″ (On x) k = record {
+    held v m″ (On x) k = record {
       held = λ p h. k .more p h ∙ ap (λ (y : ℕ). y + (system P v (hit p) + sum 256 (λ u. mine v u (hit p)))) (at-first p);
       count = k .count;
-      size = k .kept ∙ d .kept ∙ u .size;
+      room = omega (arith, k .kept, d .kept, u .room);
     }
-    held P v m″ Met k = (k .0, k .1, omega (arith, k .2, at-first (k .0)))
+    held v m″ Met k = (k .0, k .1, omega (arith, k .2, at-first (k .0)))

@@ -7,8 +7,10 @@ use native.Mathlib.Nat.{mod-one, mod-eq-of-lt}
 use native.Mathlib.Decide.{decLt}
 use native.Mathlib.Omega.{arith}
 use lib.ListN.{getD, take, drop}
+use lib.Seq.{getD-take, getD-drop}
 use lib.Pow.{mod-pow-add, mod-mod-pow, field}
 use Rattle.book.specs.Words.{vol}
+use Rattle.book.specs.Written.{vol-in}
 use Rattle.book.specs.Bits.{digit, bit}
 use Rattle.book.specs.Decides.{Decides}
 use Rattle.page.proofs.Deciding.{decides-iff}
@@ -16,7 +18,6 @@ use Rattle.bits.specs.File.{BitsAt}
 use Rattle.bits.proofs.Digits.{digit-is}
 use Rattle.bits.proofs.Places.{bit-at}
 use Rattle.bits.specs.Marks.{marked}
-use Rattle.tree.proofs.Blocks.{partOf}
 
 digit-low : (r j a : ℕ) → j < r → digit j (a % 2 ^ r) ≡ digit j a
 digit-low r j a lt =
@@ -57,14 +58,18 @@ module _ (a b : List ℕ) (i r : ℕ) (le : r ≤ 16) where
           let z : (16 * i + j) % 16 ≡ j = omega arith in
           rw (w, z) at (same (16 * i + j) (omega arith))
 
--- ---- the bit page's part
+-- ---- the bit file's part: its words for the pages below P
 
-module _ (img : List ℕ) (b P : ℕ) (f : BitsAt P (vol img) b) (xs : List ℕ) (is-part : xs ≡ partOf img b) where
+module _ (img : List ℕ) (b P n : ℕ) (f : BitsAt P (vol img) b) (xs : List ℕ) (is-part : xs ≡ take n (drop (1024 * b) img)) (all : P ≤ 16 * n) where
   bit-part : (p : ℕ) → p < P → bit P (vol img) p ≡ marked xs p
-  unfolding marked vol
+  unfolding marked
   bit-part p h =
-      let e : 1024 * b + 1024 - 1024 * b ≡ 1024 = omega arith in
-      bit-at P (vol img) b f p h ∙ ap (λ (ys : List ℕ). digit (p % 16) (getD ys (p / 16) 0)) (sym (is-part ∙ ap (λ (n : ℕ). take n (drop (1024 * b) img)) e))
+      let i : ℕ = p / 16 in
+      let e : 1024 * (b + i / 1024) + i % 1024 ≡ 1024 * b + i = omega arith in
+      bit-at P (vol img) b f p h ∙ ap (digit (p % 16)) (
+      vol-in img (b + i / 1024) (i % 1024) (omega arith) ∙ ap (λ (k : ℕ). getD img k 0) e ∙ sym (getD-drop (1024 * b) img i 0)
+      ∙ sym (getD-take n (drop (1024 * b) img) i 0 (omega arith)) ∙ ap (λ (ys : List ℕ). getD ys i 0) (sym is-part)
+      )
 
   pub same-part : (m : List ℕ) (r : Bool) → Decides r ((p : ℕ) → p < P → marked xs p ≡ marked m p) → Decides r ((p : ℕ) → p < P → bit P (vol img) p ≡ marked m p)
   same-part m r d = decides-iff r _ _ (λ k p h. bit-part p h ∙ k p h) (λ k p h. sym (bit-part p h) ∙ k p h) d

@@ -114,7 +114,7 @@ module _ (img m : List ℕ) (v t : ℕ) (m′ : List ℕ) (d : Newly m t m′) (
   mark-fits = omega (arith, marks-room (pages img) m t m′ d i, w .counted, w .few)
 
   pub mark-walking : Walking img m′ (v + 1)
-  mark-walking = record { size = d .kept ∙ w .size; few = w .few; some = w .some; master = omega (arith, d .more 0, w .master, marked-le m′ 0); counted = omega (arith, marks-more (pages img) m t m′ d i, w .counted) }
+  mark-walking = record { room = omega (arith, d .kept, w .room); few = w .few; some = w .some; master = omega (arith, d .more 0, w .master, marked-le m′ 0); counted = omega (arith, marks-more (pages img) m t m′ d i, w .counted) }
 
 -- ---- a block: the row of its pointers
 

@@ -28,7 +28,7 @@ walking-on img m v W m′ x d c k =
     let s : sum (pages img) (marked m′) ≡ sum (pages img) (marked m) + sum (pages img) (λ p. W (hit p)) =
     sum-ext (pages img) (marked m′) (λ p. marked m p + W (hit p)) (k .more) ∙ sum-add (pages img) (marked m) (λ p. W (hit p)) in
     record {
-      size = k .kept ∙ d .size;
+      room = omega (arith, k .kept, d .room);
       few = d .few;
       some = d .some;
       master = omega (arith, k .more 0 (d .some), d .master, marked-le m′ 0);

@@ -1,7 +1,7 @@
 -- What marking all that is held asks for, and what it tells. Assumes nothing.
 use mathlib.Core.Path.{_≡_}
 use mathlib.Core.List.{List}
-use Prim.Native.Nat.{ℕ, _+_, _≤_, _<_}
+use Prim.Native.Nat.{ℕ, _+_, _*_, _≤_, _<_}
 use lib.ListN.{length}
 use Rattle.book.specs.Words.{Vol, vol}
 use Rattle.book.specs.Holders.{holders, all, some}
@@ -22,7 +22,7 @@ pub record Volume (img : List ℕ) : Type 0 where
 pub record HeldOn (P : ℕ) (v : Vol) (m : List ℕ) (x : ℕ) : Type 0 where
   pub held : (p : ℕ) → p < P → marked m p ≡ holders P v p
   pub count : x ≡ 1 + all P v some
-  pub size : length m ≡ 1024
+  pub room : P ≤ 16 * length m
 
 -- that, or a page is held twice
 abbrev pub Held : ℕ → Vol → List ℕ → Walk → Type 0

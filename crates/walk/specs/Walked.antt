@@ -2,7 +2,7 @@
 -- Assumes nothing.
 use mathlib.Core.Path.{_≡_}
 use mathlib.Core.List.{List}
-use Prim.Native.Nat.{ℕ, _+_, _≤_, _<_}
+use Prim.Native.Nat.{ℕ, _+_, _*_, _≤_, _<_}
 use lib.ListN.{length}
 use Rattle.sums.specs.Sum.{sum}
 use Rattle.book.specs.Holders.{hit, some}
@@ -16,7 +16,7 @@ Weigher = (ℕ → ℕ) → ℕ
 
 -- the marks have room for each page, the master page is marked, and at least as many are marked as were visited
 pub record Walking (img m : List ℕ) (visited : ℕ) : Type 0 where
-  pub size : length m ≡ 1024
+  pub room : pages img ≤ 16 * length m
   pub few : pages img ≤ mostPages
   pub some : 0 < pages img
   pub master : marked m 0 ≡ 1

@@ -26,7 +26,7 @@ ghost use Rattle.walk.specs.Walked.{Walking, Walked};
 ghost use Rattle.walk.specs.Files.{FilesFit};
 
 // Marks the pages of the file in object entry e, which lies on page q; an unused entry has none.
-fn mark_entry(img: &[u16], marks: &mut [u16; 1024], q: usize, e: usize, visited: u32) -> Walk
+fn mark_entry(img: &[u16], marks: &mut [u16], q: usize, e: usize, visited: u32) -> Walk
     requires { ⌜ Walking (now img) (now marks) visited × FilesFit (now img) × (e < 65536) × (q ≡ objectPage (vol (now img)) e) × (q < pages (now img)) ⌝ }
     ensures { λ r. ⌜ Walked (pages (now (img .entry))) (now (marks .entry)) visited (weighR (vol (now (img .entry))) (fileAt (vol (now (img .entry))) e)) (now (marks .exit)) r ⌝ }
 {
@@ -40,7 +40,7 @@ fn mark_entry(img: &[u16], marks: &mut [u16; 1024], q: usize, e: usize, visited:
 }
 
 // Marks the pages of the 32 files whose entries are on page q, which is the object file's page at position n.
-fn mark_entries(img: &[u16], marks: &mut [u16; 1024], q: usize, n: usize, visited: u32) -> Walk
+fn mark_entries(img: &[u16], marks: &mut [u16], q: usize, n: usize, visited: u32) -> Walk
     requires { ⌜ Walking (now img) (now marks) visited × FilesFit (now img) × (n < objectPages) × (q ≡ pageAt (vol (now img)) (objectFile (vol (now img))) n) × (q < pages (now img)) ⌝ }
     ensures { λ r. ⌜ Walked (pages (now (img .entry))) (now (marks .entry)) visited (λ g. sum 32 (λ i. weighR (vol (now (img .entry))) (fileAt (vol (now (img .entry))) (32 * n + i)) g)) (now (marks .exit)) r ⌝ }
 {
@@ -63,7 +63,7 @@ fn mark_entries(img: &[u16], marks: &mut [u16; 1024], q: usize, n: usize, visite
 // Marks the pages of the 32 files of position n of the object file, whose pointer has these flags and this page; an absent page has none.
 fn mark_position(
     img: &[u16],
-    marks: &mut [u16; 1024],
+    marks: &mut [u16],
     flags: u16,
     top: usize,
     n: usize,
@@ -80,7 +80,7 @@ fn mark_position(
 }
 
 // Marks the pages of all files. The object file ends at position `ends`.
-pub fn mark_files(img: &[u16], marks: &mut [u16; 1024], ends: usize, visited: u32) -> Walk
+pub fn mark_files(img: &[u16], marks: &mut [u16], ends: usize, visited: u32) -> Walk
     requires { ⌜ Walking (now img) (now marks) visited × Reach (now img) (objectFile (vol (now img))) × FilesFit (now img) × Ends (now img) ends ⌝ }
     ensures { λ r. ⌜ Walked (pages (now (img .entry))) (now (marks .entry)) visited (λ g. sum 256 (λ u. mine (vol (now (img .entry))) u g)) (now (marks .exit)) r ⌝ }
 {

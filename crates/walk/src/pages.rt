@@ -6,9 +6,11 @@ use bits::marks::mark;
 use page::WORDS;
 use page::read::dword;
 ghost use mathlib.Core.Path.{_≡_};
+ghost use mathlib.Core.Bool.{false};
 ghost use Prim.Native.Nat.{ℕ, _*_, _^_, _≤_, _<_, min};
 ghost use lib.ListN.{length};
 ghost use Rattle.sums.specs.Sum.{sum};
+ghost use Rattle.book.specs.Decides.{Decides};
 ghost use Rattle.book.specs.Words.{vol};
 ghost use Rattle.book.specs.Trees.{weigh, Below};
 ghost use Rattle.book.specs.Image.{pages};
@@ -17,7 +19,7 @@ ghost use Rattle.walk.specs.Walked.{Walking, Walked};
 ghost use Rattle.walk.specs.Short.{Short, Pointers, PointersBelow};
 
 // Marks one page; page 0 is none. That the master page is marked spares each other page a test for 0.
-pub fn mark_page(img: &[u16], marks: &mut [u16; 1024], page: usize, visited: u32) -> Walk
+pub fn mark_page(img: &[u16], marks: &mut [u16], page: usize, visited: u32) -> Walk
     requires { ⌜ Walking (now img) (now marks) visited × Below (vol (now img)) (pages (now img)) 0 page ⌝ }
     ensures { λ r. ⌜ Walked (pages (now (img .entry))) (now (marks .entry)) visited (weigh (vol (now (img .entry))) 0 page) (now (marks .exit)) r ⌝ }
 {
@@ -32,29 +34,51 @@ pub fn mark_page(img: &[u16], marks: &mut [u16; 1024], page: usize, visited: u32
     }
 }
 
+// Whether a page number may fill more than one word.
+fn is_far(img: &[u16]) -> bool
+    ensures { λ r. ⌜ Decides r (65536 < pages (now (img .entry))) ⌝ }
+{
+    if 65536 < img.len() / WORDS {
+        return true;
+    }
+    false
+}
+
 fn wide(x: u16) -> usize
     ensures { λ r. ⌜ r ≡ x ⌝ }
 {
     x as usize
 }
 
-// What pointer i of a block names where that is a page: the more significant word is zero then, and is not read.
-fn page_of(block: &[u16], i: usize) -> usize
+// What pointer i of a block names where that fills one word: the more significant word is zero then, and is not read.
+fn near_page(block: &[u16], i: usize) -> usize
     requires { ⌜ (length (now block) ≡ 1024) × (i < 512) × (pointerIn (now block) i < 65536) ⌝ }
     ensures { λ r. ⌜ r ≡ pointerIn (now (block .entry)) i ⌝ }
 {
     wide(block[2 * i + 1])
 }
 
+// What pointer i of a block names where that is a page. The test of `far`, alike for all pointers of a block, is made once before the loop by the compiler.
+fn page_of(block: &[u16], i: usize, far: bool) -> usize
+    requires { ⌜ (length (now block) ≡ 1024) × (i < 512) × (far ≡ false → pointerIn (now block) i < 65536) ⌝ }
+    ensures { λ r. ⌜ r ≡ pointerIn (now (block .entry)) i ⌝ }
+{
+    if far {
+        return dword(block, 2 * i) as usize;
+    }
+    near_page(block, i)
+}
+
 // Marks the pages that a block's first n pointers name.
-fn mark_pages(img: &[u16], marks: &mut [u16; 1024], block: &[u16], n: usize, visited: u32) -> Walk
+fn mark_pages(img: &[u16], marks: &mut [u16], block: &[u16], n: usize, visited: u32) -> Walk
     requires { ⌜ Walking (now img) (now marks) visited × PointersBelow (now img) (now block) 0 × (n ≤ 512) ⌝ }
     ensures { λ r. ⌜ Walked (pages (now (img .entry))) (now (marks .entry)) visited (λ g. sum n (λ k. weigh (vol (now (img .entry))) 0 (pointerIn (now (block .entry)) k) g)) (now (marks .exit)) r ⌝ }
 {
+    let far = is_far(img);
     let mut v = visited;
     let mut i: usize = 0;
     while i < n {
-        let p = page_of(block, i);
+        let p = page_of(block, i, far);
         match mark_page(img, marks, p, v) {
             Walk::On { visited: x } => {
                 v = x;
@@ -115,7 +139,7 @@ fn under(count: usize, level: usize, i: usize) -> usize
 // Marks the block that a pointer of this level names, and all below it. Pointer 0 names none.
 pub fn mark_pointer(
     img: &[u16],
-    marks: &mut [u16; 1024],
+    marks: &mut [u16],
     page: usize,
     level: usize,
     count: usize,
@@ -138,7 +162,7 @@ pub fn mark_pointer(
 // Marks what a block's pointers name. The level is that of the pointers in the block.
 pub fn mark_block(
     img: &[u16],
-    marks: &mut [u16; 1024],
+    marks: &mut [u16],
     block: &[u16],
     level: usize,
     count: usize,

@@ -12,13 +12,7 @@ ghost use Rattle.walk.specs.Walked.{Walking, Walked};
 ghost use Rattle.walk.specs.Short.{ShortR};
 
 // Marks the pages of a run.
-pub fn mark_run(
-    img: &[u16],
-    marks: &mut [u16; 1024],
-    start: usize,
-    count: usize,
-    visited: u32,
-) -> Walk
+pub fn mark_run(img: &[u16], marks: &mut [u16], start: usize, count: usize, visited: u32) -> Walk
     requires { ⌜ Walking (now img) (now marks) visited × (start + count ≤ pages (now img)) ⌝ }
     ensures { λ r. ⌜ Walked (pages (now (img .entry))) (now (marks .entry)) visited (λ g. sum count (λ i. g (start + i))) (now (marks .exit)) r ⌝ }
 {
@@ -41,7 +35,7 @@ pub fn mark_run(
 // Marks the tree of a pointer with these flags and this page, in which at most `count` positions are filled. One without flags has none.
 pub fn mark_tree(
     img: &[u16],
-    marks: &mut [u16; 1024],
+    marks: &mut [u16],
     flags: u16,
     top: usize,
     count: usize,
@@ -62,7 +56,7 @@ pub fn mark_tree(
 // Marks the pages of the root with these flags, page and count.
 pub fn mark_root(
     img: &[u16],
-    marks: &mut [u16; 1024],
+    marks: &mut [u16],
     flags: u16,
     top: usize,
     count: usize,

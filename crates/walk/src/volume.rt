@@ -25,7 +25,7 @@ ghost use Rattle.walk.specs.Walked.{Walking, Walked};
 ghost use Rattle.walk.specs.Held.{Held, Volume};
 
 // The pages of the bit file.
-fn mark_bits(img: &[u16], marks: &mut [u16; 1024], pages: usize, visited: u32) -> Walk
+fn mark_bits(img: &[u16], marks: &mut [u16], pages: usize, visited: u32) -> Walk
     requires { ⌜ Walking (now img) (now marks) visited × Volume (now img) × (pages ≡ pagesOf (now img)) ⌝ }
     ensures { λ r. ⌜ Walked (pagesOf (now (img .entry))) (now (marks .entry)) visited (weighR (vol (now (img .entry))) (bitFile (pagesOf (now (img .entry))) (vol (now (img .entry))))) (now (marks .exit)) r ⌝ }
 {
@@ -34,7 +34,7 @@ fn mark_bits(img: &[u16], marks: &mut [u16; 1024], pages: usize, visited: u32) -
 }
 
 // The pages of the user file.
-fn mark_users(img: &[u16], marks: &mut [u16; 1024], visited: u32) -> Walk
+fn mark_users(img: &[u16], marks: &mut [u16], visited: u32) -> Walk
     requires { ⌜ Walking (now img) (now marks) visited × Volume (now img) ⌝ }
     ensures { λ r. ⌜ Walked (pagesOf (now (img .entry))) (now (marks .entry)) visited (weighR (vol (now (img .entry))) (userFile (vol (now (img .entry))))) (now (marks .exit)) r ⌝ }
 {
@@ -54,7 +54,7 @@ fn object_positions(flags: u16, ends: usize) -> usize
 }
 
 // The pages of the object file.
-fn mark_objects(img: &[u16], marks: &mut [u16; 1024], ends: usize, visited: u32) -> Walk
+fn mark_objects(img: &[u16], marks: &mut [u16], ends: usize, visited: u32) -> Walk
     requires { ⌜ Walking (now img) (now marks) visited × Volume (now img) × Ends (now img) ends ⌝ }
     ensures { λ r. ⌜ Walked (pagesOf (now (img .entry))) (now (marks .entry)) visited (weighR (vol (now (img .entry))) (objectFile (vol (now (img .entry))))) (now (marks .exit)) r ⌝ }
 {
@@ -71,7 +71,7 @@ fn mark_objects(img: &[u16], marks: &mut [u16; 1024], ends: usize, visited: u32)
 }
 
 // The pages of both.
-fn mark_entry_files(img: &[u16], marks: &mut [u16; 1024], ends: usize, visited: u32) -> Walk
+fn mark_entry_files(img: &[u16], marks: &mut [u16], ends: usize, visited: u32) -> Walk
     requires { ⌜ Walking (now img) (now marks) visited × Volume (now img) × Ends (now img) ends ⌝ }
     ensures { λ r. ⌜ Walked (pagesOf (now (img .entry))) (now (marks .entry)) visited (λ g. weighR (vol (now (img .entry))) (userFile (vol (now (img .entry)))) g + weighR (vol (now (img .entry))) (objectFile (vol (now (img .entry)))) g) (now (marks .exit)) r ⌝ }
 {
@@ -82,13 +82,7 @@ fn mark_entry_files(img: &[u16], marks: &mut [u16; 1024], ends: usize, visited: 
 }
 
 // The system pages but the master page.
-fn mark_system(
-    img: &[u16],
-    marks: &mut [u16; 1024],
-    pages: usize,
-    ends: usize,
-    visited: u32,
-) -> Walk
+fn mark_system(img: &[u16], marks: &mut [u16], pages: usize, ends: usize, visited: u32) -> Walk
     requires { ⌜ Walking (now img) (now marks) visited × Volume (now img) × (pages ≡ pagesOf (now img)) × Ends (now img) ends ⌝ }
     ensures { λ r. ⌜ Walked (pagesOf (now (img .entry))) (now (marks .entry)) visited (system (pagesOf (now (img .entry))) (vol (now (img .entry)))) (now (marks .exit)) r ⌝ }
 {
@@ -99,8 +93,8 @@ fn mark_system(
 }
 
 // Marks every page that is held, from no marks on. The object file ends at position `ends`.
-pub fn mark_all(img: &[u16], marks: &mut [u16; 1024], pages: usize, ends: usize) -> Walk
-    requires { ⌜ Unmarked (now marks) × Volume (now img) × (pages ≡ pagesOf (now img)) × Ends (now img) ends ⌝ }
+pub fn mark_all(img: &[u16], marks: &mut [u16], pages: usize, ends: usize) -> Walk
+    requires { ⌜ Unmarked (pagesOf (now img)) (now marks) × Volume (now img) × (pages ≡ pagesOf (now img)) × Ends (now img) ends ⌝ }
     ensures { λ r. ⌜ Held (pagesOf (now (img .entry))) (vol (now (img .entry))) (now (marks .exit)) r ⌝ }
 {
     mark(marks, 0);

@@ -13,30 +13,36 @@ use Rattle.page.proofs.Slots.{slot-absent}
 use Rattle.tree.specs.Ends.{SlotsEnd}
 use Rattle.walk.specs.Short.{Short, ShortR}
 use Rattle.walk.proofs.Short.{root-short}
-use Rattle.bits.specs.Marks.{marked, Unmarked, Marking}
+use Rattle.book.specs.Image.{pages, mostPages}
+use Rattle.bits.specs.Marks.{Unmarked, Marking}
 use Rattle.who.specs.Least.{None, Least}
 use Rattle.who.specs.Search.{Vain, VainUnder, Passed, Search}
 use Rattle.who.proofs.Leasts.{least-end}
 
-pub passed-none : (A : ℕ → Type 0) (m : List ℕ) → Unmarked m → Passed A m
-passed-none A m d = record { size = d .size; all = λ b e. absurd (let z : ⊥ = omega (arith, e, d .none b) in z) }
+passed-none : (P N : ℕ) → P ≤ N → (A : ℕ → Type 0) (m : List ℕ) → Unmarked N m → Passed P A m
+passed-none P N h A m d = record { room = omega (arith, h, d .room); all = λ b e. absurd (let z : ⊥ = omega (arith, e, d .none b) in z) }
 
-passed-mark : (A : ℕ → Type 0) (m : List ℕ) (b : ℕ) (m′ : List ℕ) (r : Bool) → Passed A m → Marking m b m′ r → A b → Passed A m′
-passed-mark A m b m′ true d k a = record {
-  size = k .kept ∙ d .size;
+passed-mark : (P : ℕ) (A : ℕ → Type 0) (m : List ℕ) (b : ℕ) (m′ : List ℕ) (r : Bool) → Passed P A m → Marking m b m′ r → A b → Passed P A m′
+passed-mark P A m b m′ true d k a = record {
+  room = omega (arith, k .kept, d .room);
   all = λ q e. elim (ℕ-discrete b q) [
     | yes s ↦ subst A s a
     | no n ↦ d .all q (omega (arith, e, k .more q, is-other b q n))
   ];
 }
-passed-mark A m b m′ false d k a = subst (Passed A) (sym (k .1)) d
+passed-mark P A m b m′ false d k a = subst (Passed P A) (sym (k .1)) d
+
+-- nothing is marked yet
+pub search-none : (img : List ℕ) (p N : ℕ) → pages img ≤ N → pages img ≤ mostPages → 0 < p → (seen tops : List ℕ) → Unmarked N seen → Unmarked N tops → Search img p seen tops
+search-none img p N h few pos seen tops a b =
+    record { few = few; page = pos; blocks = passed-none (pages img) N h (Vain (vol img) p) seen a; trees = passed-none (pages img) N h (VainUnder (vol img) p) tops b }
 
 module _ (img : List ℕ) (p : ℕ) (seen tops : List ℕ) (d : Search img p seen tops) where
   pub search-block : (b : ℕ) (m : List ℕ) (r : Bool) → Marking seen b m r → Vain (vol img) p b → Search img p m tops
-  search-block b m r k a = record { few = d .few; page = d .page; blocks = passed-mark (Vain (vol img) p) seen b m r (d .blocks) k a; trees = d .trees }
+  search-block b m r k a = record { few = d .few; page = d .page; blocks = passed-mark (pages img) (Vain (vol img) p) seen b m r (d .blocks) k a; trees = d .trees }
 
   pub search-tree : (b : ℕ) (m : List ℕ) (r : Bool) → Marking tops b m r → VainUnder (vol img) p b → Search img p seen m
-  search-tree b m r k a = record { few = d .few; page = d .page; blocks = d .blocks; trees = passed-mark (VainUnder (vol img) p) tops b m r (d .trees) k a }
+  search-tree b m r k a = record { few = d .few; page = d .page; blocks = d .blocks; trees = passed-mark (pages img) (VainUnder (vol img) p) tops b m r (d .trees) k a }
 
 -- ---- in vain is nowhere
 

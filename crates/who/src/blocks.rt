@@ -33,8 +33,8 @@ fn slots_from(img: &[u16], b: usize, n: usize, z: usize, p: usize) -> usize
 // The same, of a block that may be marked.
 fn block_from(
     img: &[u16],
-    seen: &mut [u16; 1024],
-    tops: &[u16; 1024],
+    seen: &mut [u16],
+    tops: &[u16],
     b: usize,
     n: usize,
     z: usize,
@@ -60,8 +60,8 @@ fn block_from(
 // The first position from n on of the block in page b, a file of one level or the index blocks of one of two.
 pub fn level_from(
     img: &[u16],
-    seen: &mut [u16; 1024],
-    tops: &[u16; 1024],
+    seen: &mut [u16],
+    tops: &[u16],
     b: usize,
     n: usize,
     z: usize,
@@ -83,8 +83,8 @@ pub fn level_from(
 // The first position from n on under the subindex block in page t, of which slots from z on are not filled.
 pub fn tree_from(
     img: &[u16],
-    seen: &mut [u16; 1024],
-    tops: &mut [u16; 1024],
+    seen: &mut [u16],
+    tops: &mut [u16],
     t: usize,
     n: usize,
     z: usize,

@@ -44,8 +44,8 @@ fn may_have(class: usize, flags: u16) -> bool
 // The first position from n on in the file of object entry e, which is on page q.
 fn entry_from(
     img: &[u16],
-    seen: &mut [u16; 1024],
-    tops: &mut [u16; 1024],
+    seen: &mut [u16],
+    tops: &mut [u16],
     class: usize,
     q: usize,
     e: usize,
@@ -76,8 +76,8 @@ const PAGE_TURNS: usize = 8388608;
 // From turn x on, in the files whose entries are on page q, which is page i of the object file; the next page's first turn where there is none.
 fn page_from(
     img: &[u16],
-    seen: &mut [u16; 1024],
-    tops: &mut [u16; 1024],
+    seen: &mut [u16],
+    tops: &mut [u16],
     class: usize,
     q: usize,
     i: usize,
@@ -106,8 +106,8 @@ fn page_from(
 // From turn x on, in all files. The object file ends at position `ends`.
 pub fn files_from(
     img: &[u16],
-    seen: &mut [u16; 1024],
-    tops: &mut [u16; 1024],
+    seen: &mut [u16],
+    tops: &mut [u16],
     ends: usize,
     class: usize,
     x: usize,

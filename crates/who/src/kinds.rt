@@ -4,8 +4,10 @@ use crate::TURNS;
 use crate::files::files_from;
 use crate::roots::class_from;
 use crate::roots::run_from;
+use bits::PAGE_BITS;
 use bits::bit_pages;
-use bits::marks::no_marks;
+use bits::marks::few_marks;
+use bits::marks::most_marks;
 use page::BITS;
 use page::OBJECT_PAGES;
 use page::OBJECTS;
@@ -41,8 +43,8 @@ fn bits_from(img: &[u16], n: usize, p: usize) -> usize
 // From position n on in a class of the file whose pointer is at word k of the master page, and which has no positions from count on.
 fn master_from(
     img: &[u16],
-    seen: &mut [u16; 1024],
-    tops: &mut [u16; 1024],
+    seen: &mut [u16],
+    tops: &mut [u16],
     k: usize,
     count: usize,
     class: usize,
@@ -61,13 +63,7 @@ fn master_from(
 }
 
 // The user file's index block, which is at position 0.
-fn user_index_from(
-    img: &[u16],
-    seen: &mut [u16; 1024],
-    tops: &mut [u16; 1024],
-    n: usize,
-    p: usize,
-) -> usize
+fn user_index_from(img: &[u16], seen: &mut [u16], tops: &mut [u16], n: usize, p: usize) -> usize
     requires { ⌜ Search (now img) p (now seen) (now tops) × Volume (now img) × (n ≤ positions) ⌝ }
     ensures { λ r. ⌜ Least (λ (i : ℕ). upto i 1 (indexAt (vol (now (img .entry))) (userFile (vol (now (img .entry)))) 0) ≡ p) n positions r × Search (now (img .entry)) p (now (seen .exit)) (now (tops .exit)) ⌝ }
 {
@@ -84,8 +80,8 @@ fn user_index_from(
 // From position n on in one kind of system pages.
 fn system_from(
     img: &[u16],
-    seen: &mut [u16; 1024],
-    tops: &mut [u16; 1024],
+    seen: &mut [u16],
+    tops: &mut [u16],
     kind: usize,
     n: usize,
     p: usize,
@@ -111,8 +107,8 @@ fn system_from(
 // From turn x of a kind on.
 fn kind_from(
     img: &[u16],
-    seen: &mut [u16; 1024],
-    tops: &mut [u16; 1024],
+    seen: &mut [u16],
+    tops: &mut [u16],
     ends: usize,
     kind: usize,
     x: usize,
@@ -135,21 +131,42 @@ fn kind_from(
 }
 
 // From turn x on, in kinds below `kinds`, one after the other.
-pub fn turn_from(img: &[u16], ends: usize, x: usize, kinds: usize, p: usize) -> usize
-    requires { ⌜ Volume (now img) × Ends (now img) ends × (0 < p) × (x ≤ turns * kinds) × (kinds ≤ 11) ⌝ }
+fn kinds_from(
+    img: &[u16],
+    seen: &mut [u16],
+    tops: &mut [u16],
+    ends: usize,
+    x: usize,
+    kinds: usize,
+    p: usize,
+) -> usize
+    requires { ⌜ Search (now img) p (now seen) (now tops) × Volume (now img) × Ends (now img) ends × (x ≤ turns * kinds) × (kinds ≤ 11) ⌝ }
     ensures { λ r. ⌜ Least (λ (y : ℕ). turnPage (pages (now (img .entry))) (vol (now (img .entry))) y ≡ p) x (turns * kinds) r ⌝ }
 {
-    let mut seen = no_marks();
-    let mut tops = no_marks();
     let z = TURNS * kinds;
     let mut y: usize = x;
     while y < z {
         let kind = y / TURNS;
-        let k = kind_from(img, &mut seen, &mut tops, ends, kind, y % TURNS, p);
+        let k = kind_from(img, seen, tops, ends, kind, y % TURNS, p);
         if k < TURNS {
             return TURNS * kind + k;
         }
         y = TURNS * kind + TURNS;
     }
     z
+}
+
+// The same; here the marks are made, as many as the volume asks for.
+pub fn turn_from(img: &[u16], ends: usize, x: usize, kinds: usize, p: usize) -> usize
+    requires { ⌜ Volume (now img) × Ends (now img) ends × (0 < p) × (x ≤ turns * kinds) × (kinds ≤ 11) ⌝ }
+    ensures { λ r. ⌜ Least (λ (y : ℕ). turnPage (pages (now (img .entry))) (vol (now (img .entry))) y ≡ p) x (turns * kinds) r ⌝ }
+{
+    if img.len() / WORDS <= PAGE_BITS {
+        let mut seen = few_marks();
+        let mut tops = few_marks();
+        return kinds_from(img, &mut seen, &mut tops, ends, x, kinds, p);
+    }
+    let mut seen = most_marks();
+    let mut tops = most_marks();
+    kinds_from(img, &mut seen, &mut tops, ends, x, kinds, p)
 }

@@ -78,8 +78,8 @@ fn subindex_slots(count: usize) -> usize
 // The index blocks.
 fn index_from(
     img: &[u16],
-    seen: &mut [u16; 1024],
-    tops: &[u16; 1024],
+    seen: &mut [u16],
+    tops: &[u16],
     flags: u16,
     top: usize,
     count: usize,
@@ -102,8 +102,8 @@ fn index_from(
 // The data pages of an indexed file.
 fn data_from(
     img: &[u16],
-    seen: &mut [u16; 1024],
-    tops: &mut [u16; 1024],
+    seen: &mut [u16],
+    tops: &mut [u16],
     flags: u16,
     top: usize,
     count: usize,
@@ -127,8 +127,8 @@ fn data_from(
 // The pages of a class of an indexed file.
 pub fn class_from(
     img: &[u16],
-    seen: &mut [u16; 1024],
-    tops: &mut [u16; 1024],
+    seen: &mut [u16],
+    tops: &mut [u16],
     class: usize,
     flags: u16,
     top: usize,

@@ -1,5 +1,5 @@
 // Runs document 01's yard examples that are not marked, a case for each refusal number and one for each broken rule, and says of each
-// whether it came out as the document has it. Volumes of 16,384 and 16,385 pages are beyond a program's stack: host/c/yard.c runs those.
+// whether it came out as the document has it. Volumes of thousands of pages are beyond a program's stack: host/c/yard.c runs those.
 mod disk;
 mod refusals;
 mod rules;

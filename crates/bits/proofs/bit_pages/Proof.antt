@@ -1,6 +1,5 @@
 -- `bits::bit_pages` meets its contract. Assumes nothing.
 use mathlib.Core.Path.{refl}
-use Rattle.book.specs.Bits.{bitPages}
 use borrow.Author.Needs.{needs}
 use Rattle.bits.proofs.bit_pages.Statement.{statement}
 use Rattle.bits.proofs.bit_pages.Tie as tie
@@ -12,7 +11,6 @@ add-result : tie.Need-add-result
 add-result c = search needs
 
 returns : tie.Need-returns
-unfolding bitPages
 returns c = refl
 
 pub bit-pages-spec : {M : Type 1} → statement M

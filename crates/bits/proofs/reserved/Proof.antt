@@ -7,6 +7,7 @@ use borrow.Author.Needs.{needs}
 use Rattle.sums.specs.Sum.{sum}
 use Rattle.book.specs.Words.{vol}
 use Rattle.book.specs.Bits.{bit, reserved}
+use Rattle.page.specs.Parts.{wordFrom}
 use Rattle.bits.proofs.Places.{sum-full, sum-last, sum-bits-le}
 use Rattle.bits.proofs.reserved.Statement.{statement}
 use Rattle.bits.proofs.reserved.Tie as tie
@@ -22,8 +23,8 @@ loop-holds : tie.Need-loop-holds Inv-loop μ-loop
 unfolding sum
 loop-holds c = (omega arith, refl)
 
-word-at-requires : tie.Need-word-at-requires Inv-loop μ-loop
-word-at-requires c κs = omega arith
+word-from-requires : tie.Need-word-from-requires Inv-loop μ-loop
+word-from-requires c κs = let s = c .before .before .before in omega (arith, s .pre .0, s .pre .1 .fits)
 
 ones-in-requires : tie.Need-ones-in-requires Inv-loop μ-loop
 ones-in-requires c κs = search needs
@@ -45,8 +46,8 @@ loop-again c =
     let a = s .args in
     let v = vol (a .img .now) in
     let i = c .before .before .before .loop .i in
-    let lt : v (a .b) i < 65536 = omega (arith, c .before .word-at .ensures) in
-    (omega arith, omega (arith, sum-full (a .pages) v (a .b) (s .pre .1) i lt (omega arith), ap ones (c .before .word-at .ensures)))
+    let lt : wordFrom v (a .b) i < 65536 = omega (arith, c .before .word-from .ensures) in
+    (omega arith, omega (arith, sum-full (a .pages) v (a .b) (s .pre .1) i lt (omega arith), ap ones (c .before .word-from .ensures)))
 
 returns : tie.Need-returns Inv-loop μ-loop
 unfolding reserved
@@ -56,8 +57,8 @@ returns c =
     let e : l .i * 16 ≡ a .pages = omega arith in
     l .inv .1 ∙ ap (λ (k : ℕ). sum k (bit (a .pages) (vol (a .img .now)))) e
 
-word-at-requires-2 : tie.Need-word-at-requires-2 Inv-loop μ-loop
-word-at-requires-2 c κs = omega arith
+word-from-requires-2 : tie.Need-word-from-requires-2 Inv-loop μ-loop
+word-from-requires-2 c κs = let s = c .before .before .before .before in omega (arith, s .pre .0, s .pre .1 .fits)
 
 ones-low-requires : tie.Need-ones-low-requires Inv-loop μ-loop
 ones-low-requires c κs = omega arith
@@ -75,7 +76,7 @@ returns-2 c =
     let v = vol (a .img .now) in
     let l = c .before .before .before .before .loop in
     let e : l .i ≡ a .pages / 16 = omega arith in
-    let w = ap (λ (x : ℕ). ones (x % 2 ^ (a .pages % 16))) (c .before .word-at2 .ensures) in
+    let w = ap (λ (x : ℕ). ones (x % 2 ^ (a .pages % 16))) (c .before .word-from2 .ensures) in
     omega (arith, sum-last (a .pages) v (a .b) (s .pre .1), ap (λ (k : ℕ). sum (k * 16) (bit (a .pages) v)) e, w)
 
 pub reserved-spec : {M : Type 1} → statement M
@@ -85,14 +86,14 @@ reserved-spec =
     Inv-loop
     μ-loop
     loop-holds
-    word-at-requires
+    word-from-requires
     ones-in-requires
     add-n
     add-i
     loop-less
     loop-again
     returns
-    word-at-requires-2
+    word-from-requires-2
     ones-low-requires
     add-result
     returns-2)

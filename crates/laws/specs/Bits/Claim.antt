@@ -5,7 +5,7 @@ use Prim.Native.Nat.{ℕ, zero, suc, _+_, _-_, _/_, _%_, _≤_, _<_}
 use native.Mathlib.Decide.{ℕ-discrete}
 use native.Mathlib.Omega.{arith}
 use Rattle.sums.specs.Sum.{is, is-same, sum-change}
-use Rattle.book.specs.Bits.{bitFile, bitPages, bitPage, bit, digit, mark, claim, bitWord, pageBits}
+use Rattle.book.specs.Bits.{bitFile, bitPage, bit, digit, mark, claim, bitWord, pageBits}
 use Rattle.book.specs.Entries.{user, object}
 use Rattle.book.specs.Holders.{hit, all}
 use Rattle.book.specs.Pointers.{page, bitPointer}
@@ -22,14 +22,13 @@ use Rattle.laws.specs.Tree.Slot.{Agree, hit-zero, hit-same, hit-other, p
 
 module _ (P : ℕ) (v : Vol) (r : Rule1 P v) (p : ℕ) (h : p < P) where
   pub bitPage-is : bitPage P v p ≡ page (v 0) bitPointer + p / pageBits
-  unfolding bitPage bitFile pageAt bitPages
+  unfolding bitPage bitFile pageAt
   bitPage-is = upto-in (p / pageBits) ((P + (pageBits - 1)) / pageBits) (page (v 0) bitPointer + p / pageBits) (omega arith)
 
   pub bitPage-pos : 0 < bitPage P v p
   bitPage-pos = omega (arith, bitPage-is, r .start)
 
   pub bitPage-lt : bitPage P v p < P
-  unfolding bitPages
   bitPage-lt = omega (arith, bitPage-is, r .fits)
 
   pub bitPage-in : 1 ≤ weighR v (bitFile P v) (hit (bitPage P v p))

@@ -11,8 +11,7 @@ use Rattle.sums.specs.Search.{pick}
 use Rattle.book.specs.Words.{Words, Vol, two, word, put}
 use Rattle.book.specs.Pointers.{flags, page, slot, Zero, Inside, bitPointer, objectPointer, unreservedCount, userPointer, volumeName, flagsAbove}
 use Rattle.book.specs.Trees.{Root, tree, Below}
-use Rattle.book.specs.Bits.{bitPages, bit}
-use Rattle.book.specs.Entries.{entry, user, object, userFile, objectFile, used, unreserved}
+use Rattle.book.specs.Entries.{entry, user, object, userFile, objectFile, used}
 use Rattle.book.specs.Names.{Letter, Text, NameText, LegalName, byteAt, ends, wordsOf}
 use Rattle.book.specs.Rows.{Lowest}
 use Rattle.book.specs.Rules.{Rule1, Rule2, Rule3, Rule4, Rule4Over, Rule5, Rule5By, Rule6, Rule6Over, rules, rulesOf}
@@ -47,7 +46,7 @@ pub record Head (v : Vol) (b : ℕ) : Type 0 where
   pub low : v 0 (suc bitPointer) ≡ b
 
 pub head-rule : {P b : ℕ} (v : Vol) → Head v b → 0 < b → b < P → P ≤ 16384 → Rule1 P v
-unfolding flags page bitPages wordsOf yardName
+unfolding flags page wordsOf yardName
 head-rule v H pos below most = record {
   name = legal-back 1 16 yardName yard-text [] behind-old (v 0) volumeName (λ i h. words (i / 2) (omega arith));
   unflagged = omega (arith, H .high);

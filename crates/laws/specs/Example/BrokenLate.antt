@@ -12,7 +12,7 @@ use Rattle.sums.specs.Search.{pick}
 use Rattle.book.specs.Words.{Words, Vol, two, word, put}
 use Rattle.book.specs.Pointers.{page, slot, Zero, bitPointer, objectPointer, userPointer, flagsAbove}
 use Rattle.book.specs.Trees.{Root, tree, weigh, weighR, pageAt, upto}
-use Rattle.book.specs.Bits.{digit, bitPages, bitFile, bitPage, bit}
+use Rattle.book.specs.Bits.{digit, bitFile, bitPage, bit}
 use Rattle.book.specs.Entries.{entry, user, object, userFile, objectFile, used, given, usedPages, unreserved}
 use Rattle.book.specs.Names.{Letter, Text, NameText, LegalName, LegalType, wordsOf}
 use Rattle.book.specs.Files.{FileShape, pageBytes}
@@ -200,7 +200,7 @@ pub record Fresh (v : Vol) : Type 0 where
 
 module _ (v : Vol) (F : Fresh v) where
   pub fresh-all : (g : ℕ → ℕ) → all 16 v g ≡ g 8
-  unfolding bitFile bitPages weighR page
+  unfolding bitFile weighR page
   fresh-all g =
       all-none v (F .users) (F .objects) 16 g ∙ sum-suc 0 (λ i. g (v 0 bitPointer % flagsAbove * 65536 + v 0 (suc bitPointer) + i))
       ∙ omega (arith, sum-zero (λ i. g (v 0 bitPointer % flagsAbove * 65536 + v 0 (suc bitPointer) + i)), ap g (let e : v 0 bitPointer % flagsAbove * 65536 + v 0 (suc bitPointer) + 0 ≡ 8 = omega (arith, F .head .high, F .head .low) in e))
@@ -239,7 +239,7 @@ unfolding volume Off put pick is Zero
 fresh9 = record { head = record { first = refl; second = refl; tail = λ k a b. volume-off broken9 0 k (omega arith); high = refl; low = refl }; users = (refl, refl); objects = (refl, refl) }
 
 pub breaks9 : Lowest (rules 16 (volume broken9)) 9
-unfolding rulesOf Lowest Rule9 bit bitPage bitFile bitPages pageAt upto page digit word volume put pick is hit
+unfolding rulesOf Lowest Rule9 bit bitPage bitFile pageAt upto page digit word volume put pick is hit
 breaks9 = fresh-rules (volume broken9) fresh9 9 (row 9 (Rule9 16 (volume broken9)) (row 10 (Rule10 16 (volume broken9)) end)) (inl (refl, no))
   where
     no : Rule9 16 (volume broken9) → ⊥
@@ -254,7 +254,7 @@ pub agree : (n : ℕ) (f g : ℕ → ℕ) → sum n (λ p. (f p - g p) + (g p - 
 agree n f g h p i = omega (arith, h, sum-at n (λ p. (f p - g p) + (g p - f p)) p i)
 
 pub bits10 : (p : ℕ) → p < 16 → bit 16 (volume broken10) p ≡ is p 0 + hit p 8
-unfolding sum bit bitPage bitFile bitPages pageAt upto page digit word volume put pick is hit
+unfolding sum bit bitPage bitFile pageAt upto page digit word volume put pick is hit
 bits10 = agree 16 (bit 16 (volume broken10)) (λ p. is p 0 + hit p 8) refl
 
 pub breaks10 : Lowest (rules 16 (volume broken10)) 10

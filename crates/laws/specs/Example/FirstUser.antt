@@ -3,7 +3,7 @@ use mathlib.Core.Path.{_≡_, refl, sym, ap, _∙_, subst}
 use mathlib.Core.Bool.{Bool, true}
 use mathlib.Core.Logic.{inr}
 use mathlib.Core.List.{List, [], _∷_}
-use Prim.Native.Nat.{ℕ, zero, suc, _+_, _-_, _*_, _%_, _≤_, _<_}
+use Prim.Native.Nat.{ℕ, suc, _+_, _-_, _*_, _%_, _≤_, _<_}
 use native.Mathlib.Decide.{ℕ-discrete, decLt}
 use native.Mathlib.Omega.{arith}
 use Rattle.sums.specs.Sum.{sum, is, sum-at, sum-only}
@@ -11,7 +11,7 @@ use Rattle.sums.specs.Search.{pick}
 use Rattle.book.specs.Words.{Vol, two, word, put}
 use Rattle.book.specs.Pointers.{page, slot, bitPointer, objectPointer, userPointer, volumeName, unreservedCount, flagsAbove}
 use Rattle.book.specs.Trees.{Root, tree, weigh, weighR}
-use Rattle.book.specs.Bits.{bitPages, bitFile}
+use Rattle.book.specs.Bits.{bitFile}
 use Rattle.book.specs.Entries.{entry, user, object, userFile, objectFile, used, given, usedPages}
 use Rattle.book.specs.Holders.{hit, all, system, holders}
 use Rattle.book.specs.Names.{stored}
@@ -100,7 +100,7 @@ module _ (x y z : ℕ) where
   -- ---- the pages held: 77, 1, 2 and 3
 
   bits : (g : ℕ → ℕ) → weighR v (bitFile 154 v) g ≡ g 77
-  unfolding bitFile bitPages weighR page
+  unfolding bitFile weighR page
   bits g = sum-1 (λ i. g (v 0 bitPointer % flagsAbove * 65536 + v 0 (suc bitPointer) + i))
       ∙ ap g (let e : v 0 bitPointer % flagsAbove * 65536 + v 0 (suc bitPointer) + 0 ≡ 77 = omega (arith, master .head .high, master .head .low) in e)
 

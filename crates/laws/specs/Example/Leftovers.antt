@@ -10,7 +10,7 @@ use Rattle.sums.specs.Search.{pick, lowest, every}
 use Rattle.book.specs.Words.{two, word, put}
 use Rattle.book.specs.Pointers.{flags, page, Zero, volumeName}
 use Rattle.book.specs.Trees.{weighR, pageAt, upto}
-use Rattle.book.specs.Bits.{bit, bitPage, bitFile, bitPages, digit}
+use Rattle.book.specs.Bits.{bit, bitPage, bitFile, digit}
 use Rattle.book.specs.Holders.{hit, some}
 use Rattle.book.specs.Names.{Letter, Text, byteAt, bytes, ends, wordsOf, stored, zeroFilled}
 use Rattle.book.specs.Rows.{Lowest}
@@ -59,7 +59,7 @@ pub leftovers-name : stored 16 (volume leftovers 0) volumeName ≡ yardName
 leftovers-name = reads-back 1 16 yardName yard-text behind behind-fits (volume leftovers 0) volumeName name-words
 
 leftovers-new : Formatted 16 (volume leftovers)
-unfolding Zero bit bitPage bitFile bitPages pageAt upto page flags digit word two weighR sum hit some volume put pick is
+unfolding Zero bit bitPage bitFile pageAt upto page flags digit word two weighR sum hit some volume put pick is
 leftovers-new = record {
   first = record {
     name = legal-back 1 16 yardName yard-text behind behind-fits (volume leftovers 0) volumeName name-words;

@@ -3,7 +3,7 @@ use mathlib.Core.Path.{_≡_, refl, sym, ap, _∙_, subst}
 use mathlib.Core.Logic.{_⊎_, inl, inr}
 use mathlib.Core.List.{List, [], _∷_}
 use mathlib.Core.Bool.{true}
-use Prim.Native.Nat.{ℕ, zero, suc, _+_, _*_, _≤_, _<_}
+use Prim.Native.Nat.{ℕ, _+_, _*_, _≤_, _<_}
 use native.Mathlib.Nat.{not-suc-le-zero}
 use native.Mathlib.Decide.{decLt}
 use native.Mathlib.Omega.{arith}
@@ -12,7 +12,7 @@ use Rattle.sums.specs.Search.{pick}
 use Rattle.book.specs.Words.{Vol, two, word, put}
 use Rattle.book.specs.Pointers.{flags, page, slot, Zero, Inside, objectPointer, userPointer, volumeName}
 use Rattle.book.specs.Trees.{Root, tree, pageAt, indexAt, subindexOf, upto, leaf}
-use Rattle.book.specs.Bits.{digit, bitPages, bitFile, bitPage, bit}
+use Rattle.book.specs.Bits.{digit, bitFile, bitPage, bit}
 use Rattle.book.specs.Entries.{user, object, userFile, objectFile, userPage, objectPage, fileEntry, used, given, usedPages, grant, unreserved}
 use Rattle.book.specs.Files.{pageBytes, fileAt}
 use Rattle.book.specs.Holders.{hit, mine, some, holders, Holds, Exists, heldPage, rolePage, systemPages}
@@ -166,7 +166,7 @@ no-role v e (Data n) u = ap (λ (r : Root). pageAt v r n) (file-unused v e u) �
 
 -- what has page 1: the top of either tree, since no slot is in use and no object is used
 held8 : (k : Holder) → Exists k → heldPage 16 (volume broken8) k ≡ 1 → (k ≡ UserIndex) ⊎ (k ≡ ObjectIndex 0)
-unfolding bitFile bitPages pageAt indexAt subindexOf leaf page volume put pick is
+unfolding bitFile pageAt indexAt subindexOf leaf page volume put pick is
 held8 Free x e = absurd x
 held8 MasterPage x e = absurd (let r : ⊥ = omega (arith, e) in r)
 held8 (BitFile n) x e = absurd (let r : ⊥ = omega (arith, upto-pos n 1 (8 + n) 1 (omega arith) e .1) in r)
@@ -210,7 +210,7 @@ nine-by : (P : ℕ) (v : Vol) (p : ℕ) → bit P v p ≡ holders P v p → (bit
 nine-by P v p e = ((λ b. omega (arith, b, e)), λ b. omega (arith, b, e, bit-le P v p))
 
 told9 : BrokenAt 16 (volume broken9) (record { rule = 9; place = at 8 0; first = Free; second = Free })
-unfolding sum spotsOf nth spots9 AllHold First bit bitPage bitFile bitPages pageAt upto page digit word volume put pick is hit
+unfolding sum spotsOf nth spots9 AllHold First bit bitPage bitFile pageAt upto page digit word volume put pick is hit
 told9 = plain (λ e. omega (arith, e)) breaks9 (5, omega arith, before, (refl, λ a. let r : ⊥ = omega (arith, a .0 refl, fresh-holders (volume broken9) fresh9 5) in r))
   where
     same : (p : ℕ) → p < 5 → bit 16 (volume broken9) p ≡ is p 0 + hit p 8
@@ -255,7 +255,7 @@ told-used = plain (λ e. omega (arith, e)) (inr (keeps1 1 149 0, inr (keeps2 1 1
 
 -- the bit of page 100 is set
 told-bit : BrokenAt 154 (volume (firstUser 0 149 16)) (record { rule = 9; place = at 77 6; first = Free; second = Free })
-unfolding sum rulesOf Lowest spotsOf nth spots9 AllHold First Rule9 bit bitPage bitFile bitPages pageAt upto page digit word volume put pick is hit
+unfolding sum rulesOf Lowest spotsOf nth spots9 AllHold First Rule9 bit bitPage bitFile pageAt upto page digit word volume put pick is hit
 told-bit = plain (λ e. omega (arith, e)) (keeps-eight 149 16 9 (row 9 (Rule9 154 (volume (firstUser 0 149 16))) (row 10 (Rule10 154 (volume (firstUser 0 149 16))) end)) (inl (refl, λ r. over (r 100 (omega arith) .0 refl)))) (100, omega arith, before, (refl, λ a. over (a .0 refl)))
   where
     over : 0 < holders 154 (volume (firstUser 0 149 16)) 100 → ⊥
@@ -278,7 +278,7 @@ counted u e = subst (λ (a : ℕ). usedPages (user (volume (firstUser 0 150 0)))
     (omega (arith, words 0 150 0 16, words 0 150 0 17, mine-none (volume (firstUser 0 150 0)) (nothing 0 150 0) 0 some))
 
 told-sum : BrokenAt 154 (volume (firstUser 0 150 0)) (record { rule = 10; place = at 0 1022; first = Free; second = Free })
-unfolding sum rulesOf Lowest spotsOf nth spots10 AllHold First Rule9 Rule10 bit bitPage bitFile bitPages pageAt upto page digit word volume put pick is hit
+unfolding sum rulesOf Lowest spotsOf nth spots10 AllHold First Rule9 Rule10 bit bitPage bitFile pageAt upto page digit word volume put pick is hit
 told-sum = plain (λ e. omega (arith, e)) (keeps-eight 150 0 10 (row 9 (Rule9 154 (volume (firstUser 0 150 0))) (row 10 (Rule10 154 (volume (firstUser 0 150 0))) end)) (inr ((λ p h. nine-by 154 (volume (firstUser 0 150 0)) p (same p h ∙ sym (held-by 0 150 0 p))), inl (refl, λ r. over (r .1))))) (inr (counts, (refl, over)))
   where
     same : (p : ℕ) → p < 154 → bit 154 (volume (firstUser 0 150 0)) p ≡ is p 0 + (hit p 77 + (hit p 1 + hit p 2) + hit p 3)

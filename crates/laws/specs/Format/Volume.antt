@@ -22,7 +22,7 @@ use Rattle.laws.specs.Bits.Claim.{bitPage-is, bitPage-pos}
 use Rattle.laws.specs.Bits.Mark.{mark-page, mark-master, mark-bit, mark-other}
 use Rattle.laws.specs.File.Packed.{packed-back, packed-legal}
 use Rattle.laws.specs.Format.Formatted.{Formatted, format-sound}
-use Rattle.laws.specs.Frame.Places.{Places, WordsOf, RunOf, Either, OnlyAt, only-wider, only-then, only-put2, only-putWords}
+use Rattle.laws.specs.Frame.Places.{WordsOf, RunOf, Either, OnlyAt, only-wider, only-then, only-put2, only-putWords}
 use Rattle.laws.specs.Tree.Slot.{hit-same, hit-other, some-pos, two-ext}
 
 -- ---- pages wiped in a row
@@ -51,7 +51,6 @@ markRun-more P v s m p k = refl
 
 -- the bit page of a page below P is one of the bit file's
 bits-few : (P d : ℕ) → d < P → d / pageBits < bitPages P
-unfolding bitPages
 bits-few P d h = omega arith
 
 digit-none : (j : ℕ) → digit j 0 ≡ 0
@@ -67,11 +66,6 @@ run-miss s (suc n) p (inl h) = omega (arith, sum-suc n (λ i. hit p (s + i)), ru
 run-miss s (suc n) p (inr h) = omega (arith, sum-suc n (λ i. hit p (s + i)), run-miss s n p (inr (omega arith)), hit-other p (s + n) (omega arith))
 
 -- ---- the bit file
-
--- is one page, while there are at most 16,384
-pub one-bit-page : (P : ℕ) → 0 < P → P ≤ pageBits → bitPages P ≡ 1
-unfolding bitPages
-one-bit-page P h l = omega arith
 
 -- a bit from P on stays when one below P is marked
 module _ (P : ℕ) (v : Vol) (r : Rule1 P v) (b : ℕ) (at : page (v 0) bitPointer ≡ b) (d x p : ℕ) (hd : d < P) (hx : x < 2) (h : P ≤ p) where
@@ -166,7 +160,7 @@ module _ (P : ℕ) (v : Vol) (name : List ℕ) (b : ℕ) (T : NameText name) (A 
     same₁ k = wipeRun-out w₀ b n 0 k (inl (A .0))
 
     bits₁ : (p : ℕ) → p < P → bit P w₁ p ≡ 0
-    unfolding bit bitPages
+    unfolding bit
     bits₁ p h =
         let r : Rule1 P w₁ = rule-1 w₁ same₁ in
         ap (digit (p % 16)) (word-pos w₁ (bitPage P w₁ p) (bitWord p) (bitPage-pos P w₁ r p h)

@@ -12,7 +12,7 @@ returns : tie.Need-returns
 returns c = record { there = λ b B. absurd (c .before .searched .ensures .none (omega arith) b B); absent = λ n. refl }
 
 free-from-requires : tie.Need-free-from-requires
-free-from-requires c κs = let B = c .before .searched .ensures .found (omega arith) in (omega (arith, B .below), B)
+free-from-requires c κs = (omega arith, c .before .searched .ensures .found (omega arith) .1)
 
 returns-2 : tie.Need-returns-2
 returns-2 c =

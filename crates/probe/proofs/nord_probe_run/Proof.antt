@@ -15,7 +15,7 @@ returns-2 : tie.Need-returns-2
 returns-2 c = (λ h. record { there = λ b B. absurd (c .before .searched .ensures .none (omega arith) b B); absent = λ n. refl }, λ e. refl)
 
 highest-run-requires : tie.Need-highest-run-requires
-highest-run-requires c κs = let B = c .before .searched .ensures .found (omega arith) in (omega (arith, B .below), B, omega arith)
+highest-run-requires c κs = let U = c .before .searched .ensures .found (omega arith) in (omega arith, U .1, omega arith, U .0)
 
 returns-3 : tie.Need-returns-3
 returns-3 c =

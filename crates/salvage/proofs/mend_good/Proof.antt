@@ -21,14 +21,14 @@ same-length c = search needs
 
 returns : tie.Need-returns
 returns c =
-    let s = c .before .before .before .before .before .before .before in let b = c .before .before .balance in
+    let s = c .before .before .before .before .before .before .before .before in let b = c .before .before .balance in
     refused-13 _ _ _ (s .pre .4) (s .pre .0 .whole) (s .pre .0 .pointed) (balance-none _ _ _ (b .result) (b .ensures) (c .enum-told .given .1))
 
 mend-sure-requires : tie.Need-mend-sure-requires
 mend-sure-requires c κs =
-    let s = c .before .before .before .before .before .before .before .before .before .before .before in let b = c .before .before .before .before .before .before .balance in
+    let s = c .before .before .before .before .before .before .before .before .before .before .before .before in let b = c .before .before .before .before .before .before .balance in
     let r = balance-left _ _ _ (b .result) (b .ensures) _ (c .before .before .before .before .found .given .1) in
-    (record { good = s .pre .0; sixteen = λ i. c .before .before .before .before .before .before .before .before .before .before .slice-known .given i .fits; affords = r .0 }, s .pre .1, r .1, r .2, s .pre .4)
+    (record { good = s .pre .0; sixteen = λ i. c .before .before .before .before .before .before .before .before .before .before .before .slice-known .given i .fits; affords = r .0 }, s .pre .1, r .1, r .2, s .pre .4)
 
 same-length-2 : tie.Need-same-length-2
 same-length-2 c = search needs

@@ -1,45 +1,37 @@
-use mathlib.Core.Bool.{false}
-use mathlib.Core.List.{[]}
-use mathlib.Core.Path.{refl}
-use Rattle.sound.proofs.Laws.{early-within, early-short, low-8}
-use Rattle.walk.proofs.Judged.{held-on, held-met, met-rule8, held-rule8}
-use Rattle.salvage.proofs.Closing.{early-pointed, refused-3}
+-- `salvage::mend_kept` meets its contract. Assumes nothing.
+use native.Mathlib.Omega.{arith}
+use Rattle.bits.proofs.Marked.{unmarked-for}
 use borrow.Author.Needs.{needs}
 use Rattle.salvage.proofs.mend_kept.Statement.{statement}
 use Rattle.salvage.proofs.mend_kept.Tie as tie
 
-no-marks-requires : tie.Need-no-marks-requires
-no-marks-requires c κs = search needs
+few-marks-requires : tie.Need-few-marks-requires
+few-marks-requires c κs = search needs
 
-mark-all-requires : tie.Need-mark-all-requires
-mark-all-requires c κs =
-    let s = c .before .before .before .before in let E = s .pre .1 in
-    (c .before .before .no-marks .ensures, record { whole = s .pre .0; within = early-within _ _ E; short = early-short _ _ E }, refl, s .pre .2)
+slice-aggregate-mend-marked : tie.Need-slice-aggregate-mend-marked
+slice-aggregate-mend-marked c = search needs
 
-enum-known-w : tie.Need-enum-known-w
-enum-known-w c = search needs
-
-enum-told : tie.Need-enum-told
-enum-told c = search needs
-
-tell-requires : tie.Need-tell-requires
-tell-requires c κs =
-    let s = c .before .before .before .before .before .before .before .before in let m = c .before .before .before .mark-all in
-    record { whole = s .pre .0; lowest = low-8 false _ _ (s .pre .1) (met-rule8 _ _ [] (held-met _ _ _ (m .result) (m .ensures) (c .before .enum-told .given .1))) }
+mend-marked-requires : tie.Need-mend-marked-requires
+mend-marked-requires c κs =
+    let s = c .before .before .before .before .before .before in
+    (s .pre .0, s .pre .1, s .pre .2, s .pre .3, unmarked-for _ 16384 (omega arith) _ (c .before .before .before .few-marks .ensures))
 
 same-length : tie.Need-same-length
 same-length c = search needs
 
 returns : tie.Need-returns
-returns c =
-    let s = c .before .before .before .before .before .before .before .before .before in
-    refused-3 _ _ _ (s .pre .3) (s .pre .0) (c .tell .result) (c .tell .ensures)
+returns c = search needs
 
-mend-good-requires : tie.Need-mend-good-requires
-mend-good-requires c κs =
-    let s = c .before .before .before .before .before .before .before .before .before .before .before in let m = c .before .before .before .before .before .before .mark-all in
-    let k = held-on _ _ _ (m .result) (m .ensures) _ (c .before .before .before .before .w .given .1) in
-    (record { whole = s .pre .0; pointed = early-pointed _ _ (s .pre .1) (held-rule8 _ _ _ _ k) }, record { held = k .held; size = k .size }, k .count, s .pre .2, s .pre .3)
+most-marks-requires : tie.Need-most-marks-requires
+most-marks-requires c κs = search needs
+
+slice-aggregate-mend-marked-2 : tie.Need-slice-aggregate-mend-marked-2
+slice-aggregate-mend-marked-2 c = search needs
+
+mend-marked-requires-2 : tie.Need-mend-marked-requires-2
+mend-marked-requires-2 c κs =
+    let s = c .before .before .before .before .before .before in
+    (s .pre .0, s .pre .1, s .pre .2, s .pre .3, unmarked-for _ 140733 (s .pre .0 .most) _ (c .before .before .before .most-marks .ensures))
 
 same-length-2 : tie.Need-same-length-2
 same-length-2 c = search needs
@@ -51,13 +43,13 @@ pub mend-kept-spec : {M : Type 1} → statement M
 mend-kept-spec =
     tie.close
     (tie.spec
-    no-marks-requires
-    mark-all-requires
-    enum-known-w
-    enum-told
-    tell-requires
+    few-marks-requires
+    slice-aggregate-mend-marked
+    mend-marked-requires
     same-length
     returns
-    mend-good-requires
+    most-marks-requires
+    slice-aggregate-mend-marked-2
+    mend-marked-requires-2
     same-length-2
     returns-2)

@@ -1,81 +1,47 @@
-use mathlib.Core.List.{[]}
+-- `sound::judge_held` meets its contract. Assumes nothing.
 use native.Mathlib.Omega.{arith}
-use Rattle.book.specs.Decides.{holds, fails}
-use Rattle.walk.proofs.Judged.{held-on, held-met, met-rule8, held-rule8, held-visits}
-use Rattle.sound.proofs.Laws.{early-within, early-short, late-8, late-9, late-10, nine-bits, bits-nine, bits-here, bit-below}
+use Rattle.bits.proofs.Marked.{unmarked-for}
 use borrow.Author.Needs.{needs}
 use Rattle.sound.proofs.judge_held.Statement.{statement}
 use Rattle.sound.proofs.judge_held.Tie as tie
-use Rattle.sound.proofs.judge_held.Reads as reads
-use Rattle.sound.proofs.judge_held.Lts as lts
-use Rattle.page.proofs.read.page_at.Reads as page-at-reads
-use Rattle.shape.proofs.rule10.rule10.Reads as rule10-reads
-use Rattle.bits.proofs.marks.no_marks.Reads as no-marks-reads
-use Rattle.walk.proofs.same.same_bits.Reads as same-bits-reads
-use Rattle.walk.proofs.volume.mark_all.Reads as mark-all-reads
 
-no-marks-requires : tie.Need-no-marks-requires
-no-marks-requires c κs = search needs
+few-marks-requires : tie.Need-few-marks-requires
+few-marks-requires c κs = search needs
 
-mark-all-requires : tie.Need-mark-all-requires
-mark-all-requires c κs =
-    let s = c .before .before .before in
-    (c .before .no-marks .ensures, record { whole = s .pre .0; within = early-within _ _ (s .pre .2); short = early-short _ _ (s .pre .2) }, s .pre .1, s .pre .3)
+slice-aggregate-judge-marked : tie.Need-slice-aggregate-judge-marked
+slice-aggregate-judge-marked c = search needs
 
-enum-known-w : tie.Need-enum-known-w
-enum-known-w c = search needs
-
-enum-told : tie.Need-enum-told
-enum-told c = search needs
+judge-marked-requires : tie.Need-judge-marked-requires
+judge-marked-requires c κs =
+    let s = c .before .before .before .before in
+    (s .pre .0, s .pre .1, s .pre .2, s .pre .3, unmarked-for _ 16384 (omega (arith, s .pre .1)) _ (c .before .few-marks .ensures))
 
 returns : tie.Need-returns
-returns c = late-8 _ _ (met-rule8 _ _ [] (held-met _ _ _ (c .before .before .mark-all .result) (c .before .before .mark-all .ensures) (c .enum-told .given .1)))
+returns c = search needs
 
-page-at-requires : tie.Need-page-at-requires
-page-at-requires c κs = search needs
+most-marks-requires : tie.Need-most-marks-requires
+most-marks-requires c κs = search needs
 
-cast-b : tie.Need-cast-b
-cast-b c = search needs
+slice-aggregate-judge-marked-2 : tie.Need-slice-aggregate-judge-marked-2
+slice-aggregate-judge-marked-2 c = search needs
 
-same-bits-requires : tie.Need-same-bits-requires
-same-bits-requires c κs =
-    let s = c .before .before .before .before .before .before .before .before .before in let e = c .before .page-at .ensures .0 in
-    let l = bit-below _ _ (omega arith) (s .pre .2 .r1) in
-    (omega (arith, e, l), bits-here _ _ (s .args .total) _ (omega arith) (s .pre .1) (s .pre .2 .r1) e, (held-on _ _ _ (c .before .before .before .before .before .mark-all .result) (c .before .before .before .before .before .mark-all .ensures) _ (c .before .before .before .w .given .1)) .size)
+judge-marked-requires-2 : tie.Need-judge-marked-requires-2
+judge-marked-requires-2 c κs =
+    let s = c .before .before .before .before in
+    (s .pre .0, s .pre .1, s .pre .2, s .pre .3, unmarked-for _ 140733 (s .pre .0 .most) _ (c .before .most-marks .ensures))
 
 returns-2 : tie.Need-returns-2
-returns-2 c =
-    let k = held-on _ _ _ (c .before .before .before .before .before .before .before .mark-all .result) (c .before .before .before .before .before .before .before .mark-all .ensures) _ (c .before .before .before .before .before .w .given .1) in
-    late-9 _ _ (held-rule8 _ _ _ _ k) (λ r. fails (c .before .same-bits .result) _ (c .before .same-bits .ensures) (c .if1 .taken) (nine-bits _ _ _ _ k (c .before .before .before .before .before .before .before .before .before .before .before .args .total) (c .before .before .before .before .before .before .before .before .before .before .before .pre .1) r))
-
-rule10-requires : tie.Need-rule10-requires
-rule10-requires c κs = let s = c .before .before .before .before .before .before .before .before .before .before .before in let E = s .pre .2 in (s .pre .0, s .pre .1, E .r2, E .r3, E .r5, E .r6, E .r7, (held-on _ _ _ (c .before .before .before .before .before .before .before .mark-all .result) (c .before .before .before .before .before .before .before .mark-all .ensures) _ (c .before .before .before .before .before .w .given .1)) .count, s .pre .3)
-
-returns-3 : tie.Need-returns-3
-returns-3 c =
-    let s = c .before .before .before .before .before .before .before .before .before .before .before .before .before in let k = held-on _ _ _ (c .before .before .before .before .before .before .before .before .before .mark-all .result) (c .before .before .before .before .before .before .before .before .before .mark-all .ensures) _ (c .before .before .before .before .before .before .before .w .given .1) in
-    late-10 _ _ (held-rule8 _ _ _ _ k) (bits-nine _ _ _ _ k (s .args .total) (s .pre .1) (holds (c .before .before .before .same-bits .result) _ (c .before .before .before .same-bits .ensures) (c .before .before .if1 .left))) (fails (c .before .rule10 .result) _ (c .before .rule10 .ensures) (c .if2 .taken))
-
-returns-4 : tie.Need-returns-4
-returns-4 c =
-    let s = c .before .before .before .before .before .before .before .before .before .before .before .before .before in let k = held-on _ _ _ (c .before .before .before .before .before .before .before .before .before .mark-all .result) (c .before .before .before .before .before .before .before .before .before .mark-all .ensures) _ (c .before .before .before .before .before .before .before .w .given .1) in (
-      record { r8 = held-rule8 _ _ _ _ k; r9 = (bits-nine _ _ _ _ k (s .args .total) (s .pre .1) (holds (c .before .before .before .same-bits .result) _ (c .before .before .before .same-bits .ensures) (c .before .before .if1 .left))); r10 = holds (c .before .rule10 .result) _ (c .before .rule10 .ensures) (c .if2 .left) },
-      held-visits _ _ _ _ k (omega arith) (early-within _ _ (s .pre .2)),
-    )
+returns-2 c = search needs
 
 pub judge-held-spec : {M : Type 1} → statement M
 judge-held-spec =
     tie.close
     (tie.spec
-    no-marks-requires
-    mark-all-requires
-    enum-known-w
-    enum-told
+    few-marks-requires
+    slice-aggregate-judge-marked
+    judge-marked-requires
     returns
-    page-at-requires
-    cast-b
-    same-bits-requires
-    returns-2
-    rule10-requires
-    returns-3
-    returns-4)
+    most-marks-requires
+    slice-aggregate-judge-marked-2
+    judge-marked-requires-2
+    returns-2)

@@ -10,15 +10,15 @@ use Rattle.bits.proofs.marks.mark.Tie as tie
 mul-w : tie.Need-mul-w
 mul-w c = search needs
 
-element-copy-out-w : tie.Need-element-copy-out-w
-element-copy-out-w c = search needs
+slice-read-w : tie.Need-slice-read-w
+slice-read-w c = search needs
 
 digit-in-requires : tie.Need-digit-in-requires
 digit-in-requires c κs = search needs
 
 returns : tie.Need-returns
 unfolding marked
-returns c = let a = c .before .before .before .args in (omega (arith, c .before .digit-in .ensures .0, c .if1 .taken, marked-le (a .marks .now) (a .p)), refl)
+returns c = let a = c .before .before .before .before .args in (omega (arith, c .before .digit-in .ensures .0, c .if1 .taken, marked-le (a .marks .now) (a .p)), refl)
 
 with-one-requires : tie.Need-with-one-requires
 with-one-requires c κs = search needs
@@ -26,23 +26,27 @@ with-one-requires c κs = search needs
 mul-marks : tie.Need-mul-marks
 mul-marks c = search needs
 
-element-write-marks : tie.Need-element-write-marks
-element-write-marks c = search needs
+slice-write-marks : tie.Need-slice-write-marks
+slice-write-marks c = search needs
+
+same-length : tie.Need-same-length
+same-length c = search needs
 
 returns-2 : tie.Need-returns-2
 unfolding marked
-returns-2 c = let s = c .before .before .before .before in
-    mark-new (s .args .marks .now) (s .args .p) (c .with-one .result) (s .pre .1) (s .pre .0) (sym (c .before .before .digit-in .ensures .0) ∙ c .before .if1 .left) (c .with-one .ensures)
+returns-2 c = let s = c .before .before .before .before .before in
+    mark-new (s .args .marks .now) (s .args .p) (c .with-one .result) (s .pre) (sym (c .before .before .digit-in .ensures .0) ∙ c .before .if1 .left) (c .with-one .ensures)
 
 pub mark-spec : {M : Type 1} → statement M
 mark-spec =
     tie.close
     (tie.spec
     mul-w
-    element-copy-out-w
+    slice-read-w
     digit-in-requires
     returns
     with-one-requires
     mul-marks
-    element-write-marks
+    slice-write-marks
+    same-length
     returns-2)

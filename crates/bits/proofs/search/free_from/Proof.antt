@@ -18,8 +18,8 @@ abbrev μ-loop : tie.MeasureT-loop
 returns : tie.Need-returns Inv-loop μ-loop
 returns c = let a = c .before .before .args in sym (from-end (a .pages) (vol (a .img .now)) (a .from) (omega arith))
 
-word-at-requires : tie.Need-word-at-requires Inv-loop μ-loop
-word-at-requires c κs = let s = c .before .before in (s .pre .0, omega (arith, s .pre .1 .most))
+word-from-requires : tie.Need-word-from-requires Inv-loop μ-loop
+word-from-requires c κs = let s = c .before .before in omega (arith, s .pre .0, s .pre .1 .fits)
 
 ones-below-requires : tie.Need-ones-below-requires Inv-loop μ-loop
 ones-below-requires c κs = omega arith
@@ -28,21 +28,21 @@ loop-holds : tie.Need-loop-holds Inv-loop μ-loop
 loop-holds c =
     let s = c .before .before .before .before in let a = s .args in let v = vol (a .img .now) in
     up-start (a .pages) v (a .b) (s .pre .1) (a .from) (omega arith) (c .ones-below .result) (omega arith)
-    (λ j. c .ones-below .ensures j ∙ ap (λ (x : ℕ). max (digit j x) (1 - (suc j - a .from % 16))) (c .before .word-at .ensures))
+    (λ j. c .ones-below .ensures j ∙ ap (λ (x : ℕ). max (digit j x) (1 - (suc j - a .from % 16))) (c .before .word-from .ensures))
 
 add-i : tie.Need-add-i Inv-loop μ-loop
-add-i c = let s = c .before .before .before .before .before .before in omega (arith, c .before .loop .inv .inside, s .pre .1 .most)
+add-i c = let s = c .before .before .before .before .before .before in omega (arith, c .before .loop .inv .inside, s .pre .0)
 
 mul-if2 : tie.Need-mul-if2 Inv-loop μ-loop
-mul-if2 c = let s = c .before .before .before .before .before .before in omega (arith, c .before .loop .inv .inside, s .pre .1 .most)
+mul-if2 c = let s = c .before .before .before .before .before .before in omega (arith, c .before .loop .inv .inside, s .pre .0)
 
 returns-2 : tie.Need-returns-2 Inv-loop μ-loop
 returns-2 c =
     let l = c .before .before .loop in let s = c .before .before .before .before .before .before .before in let a = s .args in
     up-none (a .pages) (vol (a .img .now)) (a .b) (s .pre .1) (a .from) (l .i) (l .w) (l .inv) (omega arith) (omega arith)
 
-word-at-requires-2 : tie.Need-word-at-requires-2 Inv-loop μ-loop
-word-at-requires-2 c κs = let s = c .before .before .before .before .before .before .before in (s .pre .0, omega (arith, s .pre .1 .most))
+word-from-requires-2 : tie.Need-word-from-requires-2 Inv-loop μ-loop
+word-from-requires-2 c κs = let s = c .before .before .before .before .before .before .before in omega (arith, s .pre .0, s .pre .1 .fits)
 
 loop-less : tie.Need-loop-less Inv-loop μ-loop
 loop-less c = omega (arith, c .before .before .before .loop .inv .inside)
@@ -50,10 +50,10 @@ loop-less c = omega (arith, c .before .before .before .loop .inv .inside)
 loop-again : tie.Need-loop-again Inv-loop μ-loop
 loop-again c =
     let l = c .before .before .before .loop in let s = c .before .before .before .before .before .before .before .before in let a = s .args in
-    up-next (a .pages) (vol (a .img .now)) (a .b) (s .pre .1) (a .from) (l .i) (l .w) (l .inv) (omega arith) (c .word-at2 .result) (omega arith) (c .word-at2 .ensures) (omega arith)
+    up-next (a .pages) (vol (a .img .now)) (a .b) (s .pre .1) (a .from) (l .i) (l .w) (l .inv) (omega arith) (c .word-from2 .result) (omega arith) (c .word-from2 .ensures) (omega arith)
 
 mul-p : tie.Need-mul-p Inv-loop μ-loop
-mul-p c = let s = c .before .before .before .before .before .before in omega (arith, c .before .loop .inv .inside, s .pre .1 .most)
+mul-p c = let s = c .before .before .before .before .before .before in omega (arith, c .before .loop .inv .inside, s .pre .0)
 
 first-clear-requires : tie.Need-first-clear-requires Inv-loop μ-loop
 first-clear-requires c κs = search needs
@@ -61,7 +61,7 @@ first-clear-requires c κs = search needs
 add-p : tie.Need-add-p Inv-loop μ-loop
 add-p c =
     let s = c .before .before .before .before .before .before .before in
-    omega (arith, c .before .before .loop .inv .inside, s .pre .1 .most, c .first-clear .ensures .most)
+    omega (arith, c .before .before .loop .inv .inside, s .pre .0, c .first-clear .ensures .most)
 
 returns-3 : tie.Need-returns-3 Inv-loop μ-loop
 returns-3 c =
@@ -81,13 +81,13 @@ free-from-spec =
     Inv-loop
     μ-loop
     returns
-    word-at-requires
+    word-from-requires
     ones-below-requires
     loop-holds
     add-i
     mul-if2
     returns-2
-    word-at-requires-2
+    word-from-requires-2
     loop-less
     loop-again
     mul-p

@@ -11,7 +11,7 @@ returns : tie.Need-returns
 returns c = search needs
 
 long-run-requires : tie.Need-long-run-requires
-long-run-requires c κs = let s = c .before .before in (s .pre .0, s .pre .1, omega arith)
+long-run-requires c κs = let s = c .before .before in (s .pre .0, s .pre .1, omega arith, s .pre .3)
 
 returns-2 : tie.Need-returns-2
 returns-2 c = search needs

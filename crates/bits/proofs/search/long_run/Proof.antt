@@ -26,7 +26,7 @@ run-in-requires : tie.Need-run-in-requires Inv-loop μ-loop
 run-in-requires c κs = (c .loop .inv .short, c .before .before .before .pre .2)
 
 mul-result : tie.Need-mul-result Inv-loop μ-loop
-mul-result c = let s = c .before .before .before .before .before in omega (arith, c .before .before .loop .inv .most, s .pre .1 .most)
+mul-result c = let s = c .before .before .before .before .before in omega (arith, c .before .before .loop .inv .most, s .pre .0)
 
 sub-result : tie.Need-sub-result Inv-loop μ-loop
 sub-result c = omega arith
@@ -34,7 +34,7 @@ sub-result c = omega arith
 add-result : tie.Need-add-result Inv-loop μ-loop
 add-result c =
     let s = c .before .before .before .before .before in
-    omega (arith, c .before .before .loop .inv .most, s .pre .1 .most, c .before .run-in .ensures .most)
+    omega (arith, c .before .before .loop .inv .most, s .pre .0, c .before .run-in .ensures .most)
 
 returns : tie.Need-returns Inv-loop μ-loop
 returns c =
@@ -43,7 +43,7 @@ returns c =
 
 left-in-requires : tie.Need-left-in-requires Inv-loop μ-loop
 left-in-requires c κs =
-    let s = c .before .before .before .before .before in omega (arith, c .before .before .loop .inv .most, s .pre .1 .most)
+    let s = c .before .before .before .before .before in omega (arith, c .before .before .loop .inv .most, s .pre .3)
 
 returns-2 : tie.Need-returns-2 Inv-loop μ-loop
 returns-2 c =
@@ -53,10 +53,10 @@ returns-2 c =
 sub-i : tie.Need-sub-i Inv-loop μ-loop
 sub-i c = omega arith
 
-word-at-requires : tie.Need-word-at-requires Inv-loop μ-loop
-word-at-requires c κs =
+word-from-requires : tie.Need-word-from-requires Inv-loop μ-loop
+word-from-requires c κs =
     let s = c .before .before .before .before .before .before .before in
-    (s .pre .0, omega (arith, c .before .before .before .before .loop .inv .most, s .pre .1 .most))
+    omega (arith, c .before .before .before .before .loop .inv .most, s .pre .0, s .pre .1 .fits)
 
 loop-less : tie.Need-loop-less Inv-loop μ-loop
 loop-less c = omega arith
@@ -66,8 +66,8 @@ loop-again c =
     let t = c .before .before in let r = t .before .before in let l = r .before .loop in
     let s = r .before .before .before .before in let a = s .args in let v = vol (a .img .now) in
     down-next (a .pages) v (a .n) (l .i) (l .w) (l .run) (s .pre .2) (l .inv) (r .run-in .result) (r .run-in .ensures) (omega arith) (omega arith)
-    (c .word-at .result) (t .left-in .result) (t .left-in .ensures)
-    (word-whole (a .pages) v (a .b) (s .pre .1) (l .i - 1) (c .word-at .result) (c .word-at .ensures) (omega (arith, l .inv .most)))
+    (c .word-from .result) (t .left-in .result) (t .left-in .ensures)
+    (word-whole (a .pages) v (a .b) (s .pre .1) (l .i - 1) (c .word-from .result) (c .word-from .ensures) (omega (arith, l .inv .most)))
 
 pub long-run-spec : {M : Type 1} → statement M
 long-run-spec =
@@ -85,6 +85,6 @@ long-run-spec =
     left-in-requires
     returns-2
     sub-i
-    word-at-requires
+    word-from-requires
     loop-less
     loop-again)

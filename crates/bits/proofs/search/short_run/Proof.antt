@@ -31,7 +31,7 @@ start-in-requires : tie.Need-start-in-requires Inv-loop μ-loop
 start-in-requires c κs = let s = c .before .before .before .before in (s .pre .2, s .pre .3)
 
 mul-result : tie.Need-mul-result Inv-loop μ-loop
-mul-result c = let s = c .before .before .before .before .before .before in omega (arith, c .before .before .loop .inv .most, s .pre .1 .most)
+mul-result c = let s = c .before .before .before .before .before .before in omega (arith, c .before .before .loop .inv .most, s .pre .0)
 
 sub-result : tie.Need-sub-result Inv-loop μ-loop
 sub-result c = omega arith
@@ -39,7 +39,7 @@ sub-result c = omega arith
 add-result : tie.Need-add-result Inv-loop μ-loop
 add-result c =
     let s = c .before .before .before .before .before .before in
-    omega (arith, c .before .before .loop .inv .most, s .pre .1 .most, c .before .start-in .ensures .most)
+    omega (arith, c .before .before .loop .inv .most, s .pre .0, c .before .start-in .ensures .most)
 
 returns : tie.Need-returns Inv-loop μ-loop
 returns c =
@@ -54,10 +54,10 @@ returns-2 c =
 sub-i : tie.Need-sub-i Inv-loop μ-loop
 sub-i c = omega arith
 
-word-at-requires : tie.Need-word-at-requires Inv-loop μ-loop
-word-at-requires c κs =
+word-from-requires : tie.Need-word-from-requires Inv-loop μ-loop
+word-from-requires c κs =
     let s = c .before .before .before .before .before .before .before in
-    (s .pre .0, omega (arith, c .before .before .before .loop .inv .most, s .pre .1 .most))
+    omega (arith, c .before .before .before .loop .inv .most, s .pre .0, s .pre .1 .fits)
 
 next-pair-requires-2 : tie.Need-next-pair-requires-2 Inv-loop μ-loop
 next-pair-requires-2 c κs = search needs
@@ -70,8 +70,8 @@ loop-again c =
     let t = c .before in let r = t .before .before .before in let l = r .before .loop in
     let s = r .before .before .before .before .before in let a = s .args in let v = vol (a .img .now) in
     paired-next (a .pages) v (a .n) (s .pre .2) (s .pre .3) (l .i) (l .x) (l .inv) (r .start-in .result) (r .start-in .ensures) (omega arith) (omega arith)
-    (t .word-at .result) (c .next-pair2 .result) (omega arith)
-    (word-whole (a .pages) v (a .b) (s .pre .1) (l .i - 1) (t .word-at .result) (t .word-at .ensures) (omega (arith, l .inv .most))) (c .next-pair2 .ensures)
+    (t .word-from .result) (c .next-pair2 .result) (omega arith)
+    (word-whole (a .pages) v (a .b) (s .pre .1) (l .i - 1) (t .word-from .result) (t .word-from .ensures) (omega (arith, l .inv .most))) (c .next-pair2 .ensures)
 
 pub short-run-spec : {M : Type 1} → statement M
 short-run-spec =
@@ -89,7 +89,7 @@ short-run-spec =
     returns
     returns-2
     sub-i
-    word-at-requires
+    word-from-requires
     next-pair-requires-2
     loop-less
     loop-again)

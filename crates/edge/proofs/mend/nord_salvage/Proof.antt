@@ -73,7 +73,7 @@ use Rattle.edge.proofs.mend.nord_salvage.Code as code
 
 -- the row of numbers, as a type
 abbrev Nums : RattleType
-Nums = Array u64 1539
+Nums = Array u64 9311
 
 abbrev nums : Ty
 nums = lone (Nums .mir)
@@ -91,7 +91,7 @@ module _ {M : Type 1} (𝓤 : URA M) (H : Heap 𝓤) (A : Atoms 𝓤) (W : Given
   unfolding partOf
   lies-out xs =
       qed W (‵ (partAt Nums fullShare xs l 0) ∷ []) ∵ fpick ! (λ vs. fsplit ! $ move ! (1 ∷ []) $ peeks ! Nums (Is Nums) (shows 𝓤 H A Nums) xs vs (λ is. drop ! $
-      rewrite ! 0 (λ (us : List Val). ‵ (cellAt fullShare (Nums .mir) us l 0)) (array-tells u64 (uint-vals w64) (uint-tells w64) 1539 xs vs is) refl $ done !))
+      rewrite ! 0 (λ (us : List Val). ‵ (cellAt fullShare (Nums .mir) us l 0)) (array-tells u64 (uint-vals w64) (uint-tells w64) 9311 xs vs is) refl $ done !))
 
 module _ {M : Type 1} (𝓤 : URA M) (H : Heap 𝓤) (A : Atoms 𝓤) (mem : Memory → SProp 𝓤) (run : Routine → Fun 𝓤) where
   -- the contracts that the proof cites
@@ -107,8 +107,8 @@ module _ {M : Type 1} (𝓤 : URA M) (H : Heap 𝓤) (A : Atoms 𝓤) (mem : Mem
   abbrev Fill : Contract 𝓤
   Fill = tripleOf 𝓤 H A fill.signature (fill.spec 𝓤 H A mem run)
 
-  none-of : (zs : List ℕ) → ent 𝓤 (ensured 𝓤 H A no-changes.ended (no-changes.clauses 𝓤 H A mem run) tt tt tt zs) (fact 𝓤 (length zs ≡ 1539))
-  none-of zs = exE 𝓤 _ (λ ws. snd∗ 𝓤 (sem 𝓤 H A (lasts no-changes.ended tt tt ws)) (fact 𝓤 (length zs ≡ 1539)))
+  none-of : (zs : List ℕ) → ent 𝓤 (ensured 𝓤 H A no-changes.ended (no-changes.clauses 𝓤 H A mem run) tt tt tt zs) (fact 𝓤 (length zs ≡ 9311))
+  none-of zs = exE 𝓤 _ (λ ws. snd∗ 𝓤 (sem 𝓤 H A (lasts no-changes.ended tt tt ws)) (fact 𝓤 (length zs ≡ 9311)))
 
   told-of : (r : Reply) (n : ℕ) → ent 𝓤 (ensured 𝓤 H A told.ended (told.clauses 𝓤 H A mem run) tt (r, tt) tt n) (fact 𝓤 (n ≡ r .value))
   told-of r n = exE 𝓤 _ (λ ws. snd∗ 𝓤 (sem 𝓤 H A (lasts told.ended tt (r, tt) ws)) (fact 𝓤 (n ≡ r .value)))
@@ -163,7 +163,7 @@ module _ {M : Type 1} (𝓤 : URA M) (H : Heap 𝓤) (A : Atoms 𝓤) (W : Given
     abbrev to-mended : Mend 𝓤 H A mem run .Ghost
     to-mended = (((κ₁, (α ∷ [], tt)), (q₁, (fullShare, tt)), tt, (x, (length ys, (rowAt l δ zs, tt))), (s₁ ∷ [], (vint w64 (length ys) ∷ [], (vptr l 0 ∷ [], tt)))), tt)
 
-    goes-mended : length zs ≡ 1539 → ent 𝓤 (sep 𝓤 (sep 𝓤 (A .lft κ₁ q₁) (A .lft (α ∷ []) fullShare)) (sep 𝓤 (sem 𝓤 H A Img) (sem 𝓤 H A (Row α l δ zs)))) (Mend 𝓤 H A mem run .pre to-mended)
+    goes-mended : length zs ≡ 9311 → ent 𝓤 (sep 𝓤 (sep 𝓤 (A .lft κ₁ q₁) (A .lft (α ∷ []) fullShare)) (sep 𝓤 (sem 𝓤 H A Img) (sem 𝓤 H A (Row α l δ zs)))) (Mend 𝓤 H A mem run .pre to-mended)
     goes-mended len =
         qed W ((‵ (flft κ₁ q₁) ⊛ ‵ (flft (α ∷ []) fullShare)) ∷ (‵ Img ⊛ ‵ (Row α l δ zs)) ∷ []) ∵ says ! len $ split ! $ nothing ! $ move ! (2 ∷ 0 ∷ []) $ join ! $ move ! (1 ∷ 0 ∷ []) $ join ! $ frame ! $
         split ! $ nothing ! $ move ! (2 ∷ 0 ∷ []) $ fjoin ! $ owned ! usize (Is usize) (uint-makes 𝓤 H A W w64) (length ys) _ (refl, room₂ .0) $ fjoin ! $ move ! (1 ∷ 0 ∷ []) $ fjoin ! $ done !
@@ -178,7 +178,7 @@ module _ {M : Type 1} (𝓤 : URA M) (H : Heap 𝓤) (A : Atoms 𝓤) (W : Given
     abbrev to-fill : Fill 𝓤 H A mem run .Ghost
     to-fill = (((κ₂, (β ∷ [], tt)), (q₂, (fullShare, tt)), tt, (y, (rowAt l δ zs, (n, tt))), (s₂ ∷ [], (vptr l 0 ∷ [], (u ∷ [], tt)))), tt)
 
-    goes-fill : (n ≤ length ys) × (n ≤ 1539)
+    goes-fill : (n ≤ length ys) × (n ≤ 9311)
         → ent 𝓤 (sep 𝓤 (sep 𝓤 (A .lft κ₂ q₂) (A .lft (β ∷ []) fullShare)) (sep 𝓤 (sem 𝓤 H A Lst) (sep 𝓤 (sem 𝓤 H A (Shr β l δ zs)) (sem 𝓤 H A (usize .own n (u ∷ [])))))) (Fill 𝓤 H A mem run .pre to-fill)
     goes-fill small =
         qed W ((‵ (flft κ₂ q₂) ⊛ ‵ (flft (β ∷ []) fullShare)) ∷ (‵ Lst ⊛ ‵ (Shr β l δ zs) ⊛ ‵ (usize .own n (u ∷ []))) ∷ []) ∵ says ! small $ split ! $ nothing ! $ move ! (2 ∷ 0 ∷ []) $ join ! $ move ! (1 ∷ 0 ∷ []) $ join ! $ frame ! $
@@ -193,7 +193,7 @@ module _ {M : Type 1} (𝓤 : URA M) (H : Heap 𝓤) (A : Atoms 𝓤) (W : Given
       nothing ! $ move ! (2 ∷ 0 ∷ []) $ fjoin ! $ move ! (1 ∷ 0 ∷ []) $ fjoin ! $ done !
 
   typed-row : (zs : List ℕ) (w : Val) → Is Nums zs (w ∷ []) → Holds (hasTy nums w) × WT w
-  typed-row zs w is = array-lawful 𝓤 H A W u64 (uint-lawful 𝓤 H A W w64) 1539 .typed zs (w ∷ []) is .0
+  typed-row zs w is = array-lawful 𝓤 H A W u64 (uint-lawful 𝓤 H A W w64) 9311 .typed zs (w ∷ []) is .0
 
   module _ (C : Calls 𝓤 H) (Λ : Loops 𝓤 H) (fm : FmC 𝓤 H (W .laws) C) (known-none : Triple 𝓤 (C #salvage·row·no-changes) (NoChanges 𝓤 H A mem run)) (known-mended : Triple 𝓤 (C #edge·mend·mended) (Mend 𝓤 H A mem run))
       (known-told : Triple 𝓤 (C #edge·mend·told) (Told 𝓤 H A mem run)) (known-fill : Triple 𝓤 (C #salvage·list·fill) (Fill 𝓤 H A mem run)) where
@@ -208,7 +208,7 @@ module _ {M : Type 1} (𝓤 : URA M) (H : Heap 𝓤) (A : Atoms 𝓤) (W : Given
         use0 W (raw (NoChanges 𝓤 H A mem run .pre to-no-changes)) goes-no-changes $
         calls-at ! fm (NoChanges 𝓤 H A mem run) known-none to-no-changes (no-more !) (λ w₀.
         use1 W (later (some (λ (zs : List ℕ). (‵ ftrue ⊛ ‵ (Nums .own zs (w₀ ∷ []))) ⊛ raw (ensured 𝓤 H A no-changes.ended (no-changes.clauses 𝓤 H A mem run) tt tt tt zs)))) (id⊢ 𝓤 _) $ await ! tt $ pick ! (λ zs.
-        split ! $ move ! (1 ∷ []) $ use1 W (raw (fact 𝓤 (length zs ≡ 1539))) (none-of 𝓤 H A mem run zs) $ heard ! (length zs ≡ 1539) (λ len. split ! $ drop ! $ peeks ! Nums (Is Nums) (shows 𝓤 H A Nums) zs (w₀ ∷ []) (λ is₀. land ! (from ! (stop !)) (init ! 17 refl (typed-row zs w₀ is₀)) $
+        split ! $ move ! (1 ∷ []) $ use1 W (raw (fact 𝓤 (length zs ≡ 9311))) (none-of 𝓤 H A mem run zs) $ heard ! (length zs ≡ 9311) (λ len. split ! $ drop ! $ peeks ! Nums (Is Nums) (shows 𝓤 H A Nums) zs (w₀ ∷ []) (λ is₀. land ! (from ! (stop !)) (init ! 17 refl (typed-row zs w₀ is₀)) $
         assigns ! (of-opd ! (load ! (from ! (stop !)) (look ! 17 refl))) (from ! (stop !)) (init ! 21 refl (typed-row zs w₀ is₀)) $
         -- the image is handed on, and the row is lent as `&mut`
         assigns ! (addr ! (from ! (fld ! refl (hop ! (look-in ! 27 (sub ! 0 refl (whole !))) (stop !))))) (from ! (stop !)) (init ! 15 refl (tt, tt)) $
@@ -246,7 +246,7 @@ module _ {M : Type 1} (𝓤 : URA M) (H : Heap 𝓤) (A : Atoms 𝓤) (W : Given
         use1 W (later (some (λ (δ′ : GName). ‵ (Shr β l₄ δ′ (e .1 .1 .0)) ⊛ ‵ (flent (β ∷ []) (partAt Nums fullShare (e .1 .1 .0) l₄ 0))))) (lends-shr 𝓤 H A W Nums (named 1) (β ∷ []) fullShare (e .1 .1 .0) l₄ 0) $ await ! tt $ pick ! (λ δ′. split ! $
         -- [the row's reference; the lender's part; its token; how many; what the answer owns; true; the image's token; true; the image's last list; the list's token; the list; true; _14; …]
         move ! (9 ∷ []) $ split ! $ move ! (0 ∷ 4 ∷ []) $ join ! $ move ! (2 ∷ 4 ∷ []) $ join ! $ move ! (9 ∷ 0 ∷ []) $ join ! $ move ! (1 ∷ 0 ∷ []) $
-        use2 W (raw (Fill 𝓤 H A mem run .pre (to-fill β l₄ δ′ (e .1 .1 .0) n u))) (goes-fill β l₄ δ′ (e .1 .1 .0) n u (subst (λ (k : ℕ). (k ≤ length ys) × (k ≤ 1539)) (sym ne) (m .few, m .short))) $
+        use2 W (raw (Fill 𝓤 H A mem run .pre (to-fill β l₄ δ′ (e .1 .1 .0) n u))) (goes-fill β l₄ δ′ (e .1 .1 .0) n u (subst (λ (k : ℕ). (k ≤ length ys) × (k ≤ 9311)) (sym ne) (m .few, m .short))) $
         -- `fill`: [what it asks; true; the lender's part; what the answer owns; true; the image's token; true; the image's last list; true; _14; …]
         calls-at ! fm (Fill 𝓤 H A mem run) known-fill (to-fill β l₄ δ′ (e .1 .1 .0) n u) (and-then ! (load ! (from ! (stop !)) (look ! 13 refl)) (and-then ! (load ! (from ! (stop !)) (look ! 11 refl)) (and-then ! (load ! (from ! (stop !)) (look ! 9 refl)) (no-more !)))) (λ v.
         use1 W (later (some (λ (z : Unit {0}). ((‵ (flft κ₂ q₂) ⊛ ‵ (flft (β ∷ []) fullShare) ⊛ ‵ ftrue) ⊛ ‵ (Nothing .own z (v ∷ []))) ⊛ raw (ensured 𝓤 H A fill.ended (fill.clauses 𝓤 H A mem run) (κ₂, (β ∷ [], tt)) (y, (rowAt l₄ δ′ (e .1 .1 .0), (n, tt))) tt z)))) (id⊢ 𝓤 _) $ await ! tt $ pick ! (λ z.

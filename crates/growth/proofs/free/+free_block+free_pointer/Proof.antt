@@ -112,7 +112,7 @@ free-pointer-returns t c = let s = c .before .before in let a = s .args in point
 free-pointer-clear-requires : (t : ℕ) → free-pointer-lts.Need-clear-requires (pointer-calls t) (free-pointer-at t) free-pointer.Post
 free-pointer-clear-requires t c κs =
     let s = c .before .before .before in let a = s .args in
-    (omega (arith, freeing-bits (a .img .now) (a .b) (s .pre .1 .0) .below), omega (arith, apart-top _ _ _ _ _ (s .pre .1 .1), s .pre .1 .0 .whole .most))
+    omega (arith, freeing-bits (a .img .now) (a .b) (s .pre .1 .0) .fits, apart-top _ _ _ _ _ (s .pre .1 .1))
 
 free-pointer-same-length : (t : ℕ) → free-pointer-lts.Need-same-length (pointer-calls t) (free-pointer-at t) free-pointer.Post
 free-pointer-same-length t c = c .before .before .before .clear .kept .0

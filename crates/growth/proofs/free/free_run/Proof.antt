@@ -26,7 +26,7 @@ add-clear c = let s = c .before .before .before .before in omega (arith, s .pre 
 clear-requires : tie.Need-clear-requires Inv-loop μ-loop
 clear-requires c κs =
     let s = c .before .before .before .before in let a = s .args in let l = c .before .before .loop in
-    (omega (arith, freeing-bits (a .img .now) (a .b) (s .pre .0) .below, l .inv .1), omega (arith, s .pre .0 .whole .most, s .pre .1, c .before .loop-test .taken))
+    omega (arith, freeing-bits (a .img .now) (a .b) (s .pre .0) .fits, l .inv .1, s .pre .1, c .before .loop-test .taken)
 
 add-i : tie.Need-add-i Inv-loop μ-loop
 add-i c = omega arith

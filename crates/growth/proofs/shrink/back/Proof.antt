@@ -36,7 +36,7 @@ clear-requires : tie.Need-clear-requires
 clear-requires c κs =
     let i2 = c .before .before in let i = i2 .before .before .before .before .before in let sa = i .before .before .before in let io = sa .before .before in
     let s = io .before .before .before .before in let g = s .pre .0 in let lt = back-lt g _ _ (io .index-of .ensures) (sa .slot-at .ensures .0) in
-    (omega (arith, g .at .head .bitsAt .below, i2 .img2 .given, i .img .given), omega (arith, lt .1, g .at .ready .whole .most))
+    omega (arith, g .at .head .bitsAt .fits, i2 .img2 .given, i .img .given, lt .1)
 
 returns : tie.Need-returns
 returns c =

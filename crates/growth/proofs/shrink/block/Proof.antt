@@ -37,14 +37,14 @@ clear-requires c κs =
     let i2 = c .before .before in let i = i2 .before .before .before .before .before in let sa2 = i .before .before .before in let sa = sa2 .before .before in
     let s = sa .before .before .before .before in let g = s .pre .0 in
     let lt = block-lt g (omega (arith, s .pre .2)) _ _ _ (omega (arith, last-small g)) (sa .slot-at .ensures .0) (sa2 .slot-at2 .ensures .0) in
-    (omega (arith, g .at .head .bitsAt .below, i2 .img2 .given, i .img .given), omega (arith, lt .1, g .at .ready .whole .most))
+    omega (arith, g .at .head .bitsAt .fits, i2 .img2 .given, i .img .given, lt .1)
 
 clear-requires-2 : tie.Need-clear-requires-2
 clear-requires-2 c κs =
     let i3 = c .before .before in let i2 = i3 .before .before .before .before in let i = i2 .before .before .before .before .before in let sa2 = i .before .before .before in
     let sa = sa2 .before .before in let s = sa .before .before .before .before in let g = s .pre .0 in
     let lt = block-lt g (omega (arith, s .pre .2)) _ _ _ (omega (arith, last-small g)) (sa .slot-at .ensures .0) (sa2 .slot-at2 .ensures .0) in
-    (omega (arith, g .at .head .bitsAt .below, i3 .img3 .given, i2 .img2 .given, i .img .given), omega (arith, lt .0, g .at .ready .whole .most))
+    omega (arith, g .at .head .bitsAt .fits, i3 .img3 .given, i2 .img2 .given, i .img .given, lt .0)
 
 returns : tie.Need-returns
 returns c =

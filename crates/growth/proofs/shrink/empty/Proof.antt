@@ -24,12 +24,12 @@ enter-requires c κs =
 clear-requires : tie.Need-clear-requires
 clear-requires c κs =
     let i = c .before .before in let sa = i .before .before .before .before in let s = sa .before .before .before in let g = s .pre .0 in
-    (omega (arith, g .at .head .bitsAt .below, i .img .given), omega (arith, empty-lt g (s .pre .1) _ (sa .slot-at .ensures .0), g .at .ready .whole .most))
+    omega (arith, g .at .head .bitsAt .fits, i .img .given, empty-lt g (s .pre .1) _ (sa .slot-at .ensures .0))
 
 clear-requires-2 : tie.Need-clear-requires-2
 clear-requires-2 c κs =
     let i2 = c .before .before in let i = i2 .before .before .before .before in let s = i .before .before .before .before .before .before .before in let g = s .pre .0 in
-    (omega (arith, g .at .head .bitsAt .below, i2 .img2 .given, i .img .given), omega (arith, top-lt g, g .at .ready .whole .most))
+    omega (arith, g .at .head .bitsAt .fits, i2 .img2 .given, i .img .given, top-lt g)
 
 returns : tie.Need-returns
 returns c =

@@ -36,20 +36,20 @@ clear-requires : tie.Need-clear-requires
 clear-requires c κs =
     let i = c .before .before in let sa3 = i .before .before .before .before in let sa2 = sa3 .before .before in let s = sa2 .before .before .before .before .before in let g = s .pre .0 in
     let lt = block-lt g (omega (arith, s .pre .1)) 1 _ _ (omega arith) (sa2 .slot-at2 .ensures .0) (sa3 .slot-at3 .ensures .0) in
-    (omega (arith, g .at .head .bitsAt .below, i .img .given), omega (arith, lt .1, g .at .ready .whole .most))
+    omega (arith, g .at .head .bitsAt .fits, i .img .given, lt .1)
 
 clear-requires-2 : tie.Need-clear-requires-2
 clear-requires-2 c κs =
     let i2 = c .before .before in let i = i2 .before .before .before .before in let sa3 = i .before .before .before .before in let sa2 = sa3 .before .before in
     let s = sa2 .before .before .before .before .before in let g = s .pre .0 in
     let lt = block-lt g (omega (arith, s .pre .1)) 1 _ _ (omega arith) (sa2 .slot-at2 .ensures .0) (sa3 .slot-at3 .ensures .0) in
-    (omega (arith, g .at .head .bitsAt .below, i2 .img2 .given, i .img .given), omega (arith, lt .0, g .at .ready .whole .most))
+    omega (arith, g .at .head .bitsAt .fits, i2 .img2 .given, i .img .given, lt .0)
 
 clear-requires-3 : tie.Need-clear-requires-3
 clear-requires-3 c κs =
     let i3 = c .before .before in let i2 = i3 .before .before .before .before in let i = i2 .before .before .before .before in
     let s = i .before .before .before .before .before .before .before .before .before .before .before in let g = s .pre .0 in
-    (omega (arith, g .at .head .bitsAt .below, i3 .img3 .given, i2 .img2 .given, i .img .given), omega (arith, top-lt g, g .at .ready .whole .most))
+    omega (arith, g .at .head .bitsAt .fits, i3 .img3 .given, i2 .img2 .given, i .img .given, top-lt g)
 
 returns : tie.Need-returns
 returns c =

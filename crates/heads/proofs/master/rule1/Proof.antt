@@ -1,6 +1,5 @@
 use native.Mathlib.Omega.{arith}
 use Rattle.book.specs.Decides.{holds, fails}
-use Rattle.book.specs.Bits.{bitPages}
 use borrow.Author.Needs.{needs}
 use Rattle.heads.proofs.master.rule1.Statement.{statement}
 use Rattle.heads.proofs.master.rule1.Tie as tie
@@ -30,15 +29,12 @@ bit-pages-requires : tie.Need-bit-pages-requires
 bit-pages-requires c κs = search needs
 
 add-if4 : tie.Need-add-if4
-unfolding bitPages
 add-if4 c = omega arith
 
 returns-4 : tie.Need-returns-4
-unfolding bitPages
 returns-4 c = λ r. omega (arith, r .fits)
 
 returns-5 : tie.Need-returns-5
-unfolding bitPages
 returns-5 c =
     let l = c .before .before .before .before .before .before .before in
     record { name = holds (l .legal-at .result) _ (l .legal-at .ensures) (c .before .before .before .before .before .before .if1 .left); unflagged = omega arith; start = omega arith; fits = omega arith }

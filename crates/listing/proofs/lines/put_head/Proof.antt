@@ -13,9 +13,9 @@ use Rattle.listing.proofs.lines.put_head.Tie as tie
 
 reserved-requires : tie.Need-reserved-requires
 reserved-requires c κs = let a = (c .before .before .before) .args in let R = (c .before .before .before) .pre in
-    let B = bits-at (pages (a .img .now)) (vol (a .img .now)) (R .whole .most) (R .sound .r1) in
+    let B = bits-at (pages (a .img .now)) (vol (a .img .now)) (R .sound .r1) in
     let e = c .page-at .ensures .0 in
-    (omega (arith, B .below, R .whole .even), subst (BitsAt (pages (a .img .now)) (vol (a .img .now))) (sym e) B)
+    (omega arith, subst (BitsAt (pages (a .img .now)) (vol (a .img .now))) (sym e) B)
 
 returns : tie.Need-returns
 unfolding headLine

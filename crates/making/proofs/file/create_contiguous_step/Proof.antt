@@ -40,7 +40,7 @@ used-pages-requires c κs =
 claim-run-requires : tie.Need-claim-run-requires
 claim-run-requires c κs =
     let bp = c .before .before .before .before .before .before .before .before in let s = bp .before .before .before .before .before .before .before .before .before .before in
-    let i = s .args .img .now in let R = run-inside (pages i) _ (s .args .n) (s .args .s) (s .pre .8) (s .pre .9) in (omega (arith, bp .bit-page .ensures .below), omega (arith, R), omega (arith, R, s .pre .0 .whole .most), s .pre .9)
+    let i = s .args .img .now in let R = run-inside (pages i) _ (s .args .n) (s .args .s) (s .pre .8) (s .pre .9) in (omega (arith, R, bp .bit-page .ensures .fits), omega (arith, R), s .pre .9)
 
 cast-object-entry : tie.Need-cast-object-entry
 cast-object-entry c =

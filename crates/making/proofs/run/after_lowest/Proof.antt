@@ -26,7 +26,7 @@ free-from-requires c κs = c .before .before .before .pre
 add-s : tie.Need-add-s Inv-loop μ-loop
 add-s c =
     let st = c .before .before .before .before in let a = st .args in
-    omega (arith, c .free-from .ensures, from-most (a .count) (vol (a .img .now)) (c .before .before .loop .s), st .pre .1 .most)
+    omega (arith, c .free-from .ensures, from-most (a .count) (vol (a .img .now)) (c .before .before .loop .s), st .pre .0)
 
 add-k : tie.Need-add-k Inv-loop μ-loop
 add-k c = omega arith

@@ -18,11 +18,11 @@ bit-page-requires : tie.Need-bit-page-requires
 bit-page-requires c κs = c .before .before .before .pre .0
 
 after-lowest-requires : tie.Need-after-lowest-requires
-after-lowest-requires c κs = let B = c .bit-page .ensures in (omega (arith, B .below), B)
+after-lowest-requires c κs = (omega arith, c .bit-page .ensures)
 
 highest-run-requires : tie.Need-highest-run-requires
 highest-run-requires c κs =
-    let s = c .before .before .before .before .before in let B = c .before .bit-page .ensures in (omega (arith, B .below), B, s .pre .5 .0)
+    let s = c .before .before .before .before .before in (omega arith, c .before .bit-page .ensures, s .pre .5 .0, s .pre .0 .whole .most)
 
 returns : tie.Need-returns
 returns c =

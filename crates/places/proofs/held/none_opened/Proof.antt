@@ -4,7 +4,7 @@ use Rattle.places.proofs.held.none_opened.Statement.{statement}
 use Rattle.places.proofs.held.none_opened.Tie as tie
 
 returns : tie.Need-returns
-returns c = unopened 16384 refl
+returns c = unopened 17592 refl
 
 pub none-opened-spec : {M : Type 1} → statement M
 none-opened-spec = tie.close (tie.spec returns)

@@ -3,8 +3,6 @@ use Rattle.book.specs.Trees.{Below}
 use Rattle.book.specs.Image.{pages}
 use Rattle.book.specs.Words.{vol}
 use native.Mathlib.Omega.{arith}
-use Prim.Native.Nat.{_-_}
-use mathlib.Core.Path.{refl}
 use borrow.Author.Needs.{needs}
 use Rattle.places.proofs.meet.meet_subindex.Statement.{statement}
 use Rattle.places.proofs.meet.meet_subindex.Tie as tie
@@ -17,22 +15,15 @@ returns c =
 meet-requires : tie.Need-meet-requires
 meet-requires c κs = search needs
 
-element-copy-out-n : tie.Need-element-copy-out-n
+open-block-requires : tie.Need-open-block-requires
 unfolding Below
-element-copy-out-n c = let s = c .before .before .before .before in omega (arith, s .pre .3 .0, s .pre .1 .few, s .pre .2)
+open-block-requires c κs = let s = c .before .before .before .before .before in (omega (arith, s .pre .1 .few, s .pre .3 .0), s .pre .2)
 
 returns-2 : tie.Need-returns-2
 unfolding Below
 returns-2 c =
-    let m = c .before .before in let s = m .before .before .before .before in let a = s .args in let P = pages (a .img .now) in let v = vol (a .img .now) in let d = s .pre in
-    sub-skip P v _ _ _ _ (d .1 .size) (d .2) (a .t) (d .1 .few) (d .3 .0) _ _ (m .meet .ensures) _ refl (omega arith)
-
-add-twos : tie.Need-add-twos
-add-twos c = search needs
-
-element-write-twos : tie.Need-element-write-twos
-unfolding Below
-element-write-twos c = let s = c .before .before .before .before .before .before in omega (arith, s .pre .3 .0, s .pre .1 .few, s .pre .2)
+    let o = c .before in let m = o .before .before in let s = m .before .before .before .before in let a = s .args in let P = pages (a .img .now) in let v = vol (a .img .now) in let d = s .pre in
+    sub-skip P v _ _ _ _ (d .1 .size) (d .2) (a .t) (d .3 .0) _ _ (m .meet .ensures) _ (o .open-block .result) (o .open-block .ensures) (c .if2 .taken)
 
 meet-indexes-requires : tie.Need-meet-indexes-requires
 meet-indexes-requires c κs = search needs
@@ -40,8 +31,8 @@ meet-indexes-requires c κs = search needs
 returns-3 : tie.Need-returns-3
 unfolding Below
 returns-3 c =
-    let m = c .before .before .before .before .before in let s = m .before .before .before .before in let a = s .args in let P = pages (a .img .now) in let v = vol (a .img .now) in let d = s .pre in
-    sub-open P v _ _ _ _ (d .1 .size) (d .2) (a .t) (d .1 .few) (d .3 .0) _ _ (m .meet .ensures) _ refl _ _ _ (c .meet-indexes .ensures)
+    let i = c .before .before .before in let o = i .before in let m = o .before .before in let s = m .before .before .before .before in let a = s .args in let P = pages (a .img .now) in let v = vol (a .img .now) in let d = s .pre in
+    sub-open P v _ _ _ _ (d .1 .size) (d .2) (a .t) (d .3 .0) _ _ (m .meet .ensures) _ (o .open-block .result) (o .open-block .ensures) (i .if2 .left) _ _ _ (c .meet-indexes .ensures)
 
 pub meet-subindex-spec : {M : Type 1} → statement M
 meet-subindex-spec =
@@ -49,9 +40,7 @@ meet-subindex-spec =
     (tie.spec
     returns
     meet-requires
-    element-copy-out-n
+    open-block-requires
     returns-2
-    add-twos
-    element-write-twos
     meet-indexes-requires
     returns-3)

@@ -18,18 +18,18 @@ loop-holds : tie.Need-loop-holds Inv-loop μ-loop
 loop-holds c = (omega arith, passed-none _)
 
 test-requires : tie.Need-test-requires Inv-loop μ-loop
-test-requires c κs = let d = c .before .before .before .pre in (d .inside, omega (arith, d .count, d .bits .most))
+test-requires c κs = let d = c .before .before .before .before .pre in omega (arith, d .count, d .bits .fits)
 
 mark-of-requires : tie.Need-mark-of-requires Inv-loop μ-loop
-mark-of-requires c κs = let d = c .before .before .before .before .pre in (omega (arith, d .count, d .bits .most), d .size)
+mark-of-requires c κs = let d = c .before .before .before .before .before .pre in omega (arith, d .count, d .room)
 
 bit-place-requires : tie.Need-bit-place-requires Inv-loop μ-loop
-bit-place-requires c κs = let d = c .before .before .before .before .before .before .pre in (omega (arith, d .bits .below, d .bits .most), omega (arith, d .count, d .bits .most))
+bit-place-requires c κs = let d = c .before .before .before .before .before .before .before .pre in omega (arith, d .count, d .most, d .bits .fits)
 
 returns : tie.Need-returns Inv-loop μ-loop
 unfolding spots9
 returns c =
-    let m = c .before .before in let t = m .before in let l = t .before .before in let s = l .before .before in let h : l .loop .p < pages (s .args .img .now) = omega (arith, s .pre .count) in
+    let m = c .before .before in let t = m .before in let l = t .before .before in let s = l .before .before .before in let h : l .loop .p < pages (s .args .img .now) = omega (arith, s .pre .count) in
     each-first _ (bitRow (pages (s .args .img .now)) (vol (s .args .img .now))) _ (l .loop .p) h (l .loop .inv .1)
     (bit-wrong _ (s .args .total) (s .args .b) _ (s .pre) (l .loop .p) h _ (c .bit-place .ensures) (λ e. omega (arith, e, t .test .ensures .0 _ (s .pre .bits) h, m .mark-of .ensures .0)))
 
@@ -41,13 +41,13 @@ loop-less c = omega arith
 
 loop-again : tie.Need-loop-again Inv-loop μ-loop
 loop-again c =
-    let m = c .before in let t = m .before in let l = t .before .before in let s = l .before .before in let h : l .loop .p < pages (s .args .img .now) = omega (arith, s .pre .count) in
+    let m = c .before in let t = m .before in let l = t .before .before in let s = l .before .before .before in let h : l .loop .p < pages (s .args .img .now) = omega (arith, s .pre .count) in
     (omega arith, passed-more (bitRow (pages (s .args .img .now)) (vol (s .args .img .now))) (l .loop .p) (l .loop .inv .1) (bit-right _ (s .args .total) (s .args .b) _ (s .pre) (l .loop .p) h (omega (arith, t .test .ensures .0 _ (s .pre .bits) h, m .mark-of .ensures .0))))
 
 returns-2 : tie.Need-returns-2 Inv-loop μ-loop
 unfolding spots9
 returns-2 c =
-    let l = c .before in let s = l .before .before in
+    let l = c .before in let s = l .before .before .before in
     each-all _ (l .loop .p) (bitRow (pages (s .args .img .now)) (vol (s .args .img .now))) (omega (arith, s .pre .count)) (l .loop .inv .1)
 
 pub first9-spec : {M : Type 1} → statement M

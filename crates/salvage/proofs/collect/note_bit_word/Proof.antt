@@ -1,6 +1,6 @@
-use mathlib.Core.Path.{refl, sym, _∙_}
+use mathlib.Core.Path.{sym, _∙_}
 use native.Mathlib.Omega.{arith}
-use Rattle.salvage.proofs.Collecting.{long, place, bits-below, bit-is}
+use Rattle.salvage.proofs.Collecting.{long, bits-below, bit-is, bit-place}
 use borrow.Author.Needs.{needs}
 use Rattle.salvage.proofs.collect.note_bit_word.Statement.{statement}
 use Rattle.salvage.proofs.collect.note_bit_word.Tie as tie
@@ -13,12 +13,12 @@ add-note-word c = search needs
 
 note-word-requires : tie.Need-note-word-requires
 note-word-requires c κs =
-    let s = c .before .before in let a = s .args in let h = s .pre .0 .good .whole in
+    let s = c .before .before in let a = s .args in
     let l = bits-below _ (s .pre .0) (a .b) (s .pre .1) in (
       s .pre .0,
       s .pre .4,
-      omega (arith, long _ (s .pre .0), l .1, s .pre .2, h .most),
-      bit-is _ (s .pre .0) (a .b) (s .pre .1) (a .k) (s .pre .2) (a .x) (s .fits .x .fits) (s .pre .3) ∙ sym (place _ (s .pre .0) (a .b) (a .k) _ (omega (arith, s .pre .2, h .most)) refl .0),
+      omega (arith, long _ (s .pre .0), l .1, s .pre .2),
+      bit-is _ (s .pre .0) (a .b) (s .pre .1) (a .k) (s .pre .2) (a .x) (s .fits .x .fits) (s .pre .3) ∙ sym (bit-place _ (s .pre .0) (a .b) (s .pre .1) (a .k)),
     )
 
 returns : tie.Need-returns

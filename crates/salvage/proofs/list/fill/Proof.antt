@@ -65,10 +65,10 @@ use Rattle.salvage.proofs.list.fill.Code as code
 
 -- the row of numbers, as a type
 abbrev Nums : RattleType
-Nums = Array u64 1539
+Nums = Array u64 9311
 
 abbrev stayed : Stays (fill′.ended .signature .params) (fill′.ended .kept)
-stayed = (stay-slice (0 ∷ []) tt (plain (λ _. T.the-row)), (stay-none-ref (1 ∷ []) tt (ArrayOf (plain (λ _. u64)) (λ _. tt) 1539) yes, (stay-none (λ _. usize) yes, tt)))
+stayed = (stay-slice (0 ∷ []) tt (plain (λ _. T.the-row)), (stay-none-ref (1 ∷ []) tt (ArrayOf (plain (λ _. u64)) (λ _. tt) 9311) yes, (stay-none (λ _. usize) yes, tt)))
 
 -- ---- truth values and numbers
 holds : (t : Bool) → Holds t → t ≡ true
@@ -123,7 +123,7 @@ module _ {M : Type 1} (𝓤 : URA M) (H : Heap 𝓤) (A : Atoms 𝓤) (W : Given
   abbrev to : ℕ → ToldAt 𝓤 H A mem run .Ghost
   to k = (((κ′, tt), (q′, tt), tt, (p, (k, tt)), (s′ ∷ [], (vint w64 k ∷ [], tt))), tt)
 
-  goes : (k : ℕ) → k < 1539 → ent 𝓤 (sep 𝓤 (sep 𝓤 (A .lft κ′ q′) (sem 𝓤 H A ftrue)) (sem 𝓤 H A (Shr κ′))) (ToldAt 𝓤 H A mem run .pre (to k))
+  goes : (k : ℕ) → k < 9311 → ent 𝓤 (sep 𝓤 (sep 𝓤 (A .lft κ′ q′) (sem 𝓤 H A ftrue)) (sem 𝓤 H A (Shr κ′))) (ToldAt 𝓤 H A mem run .pre (to k))
   goes k small =
       qed W ((‵ (flft κ′ q′) ⊛ ‵ ftrue) ∷ ‵ (Shr κ′) ∷ []) ∵ says ! small $ frame ! $
       nothing ! $ owned ! usize (Is usize) (uint-makes 𝓤 H A W w64) k _ (refl, fits) $ fjoin ! $ move ! (1 ∷ 0 ∷ []) $ fjoin ! $ done !
@@ -144,7 +144,7 @@ module _ {M : Type 1} (𝓤 : URA M) (H : Heap 𝓤) (A : Atoms 𝓤) (W : Given
       nothing ! $ owned ! usize (Is usize) (uint-makes 𝓤 H A W w64) n _ (refl, n-fits) $ fjoin ! $ move ! (2 ∷ 0 ∷ []) $ fjoin ! $ move ! (1 ∷ 0 ∷ []) $ fjoin ! $
       feqI ! (List Val) (vunit ∷ []) (vunit ∷ []) refl $ move ! (1 ∷ 0 ∷ []) $ done !
 
-  module _ (𝓣 : Tables 𝓤 H) (known : Triple 𝓤 (𝓣 .C #salvage·list·told-at) (ToldAt 𝓤 H A mem run)) (room : Room T.the-row (length ys)) (within : n ≤ length ys) (few : n ≤ 1539) (full : length rw ≡ 1539)
+  module _ (𝓣 : Tables 𝓤 H) (known : Triple 𝓤 (𝓣 .C #salvage·list·told-at) (ToldAt 𝓤 H A mem run)) (room : Room T.the-row (length ys)) (within : n ≤ length ys) (few : n ≤ 9311) (full : length rw ≡ 9311)
       (l₀ l₁ l₂ l₃ l₄ l₅ l₆ l₇ l₈ : ℕ) where
     abbrev C : Calls 𝓤 H
     C = 𝓣 .C
@@ -219,7 +219,7 @@ module _ {M : Type 1} (𝓤 : URA M) (H : Heap 𝓤) (A : Atoms 𝓤) (W : Given
         c : Change
         c = unpacked (getD rw k 0)
 
-        short : k < 1539
+        short : k < 9311
         short = omega (arith, small, few)
 
         inside : k < length ys
@@ -265,7 +265,7 @@ module _ {M : Type 1} (𝓤 : URA M) (H : Heap 𝓤) (A : Atoms 𝓤) (W : Given
     loops = via 𝓤 (Inv n) (into n 0 (omega arith)) (loop-rule 𝓤 H (W .laws) 𝓣 _<_ (Nat·lt-wfRel .wf) En code.Mir.turn-1 Left Inv turns n)
 
   -- the MIR, up to the loop
-  walk : (𝓣 : Tables 𝓤 H) → Triple 𝓤 (𝓣 .C #salvage·list·told-at) (ToldAt 𝓤 H A mem run) → Room T.the-row (length ys) → (n ≤ length ys) × (n ≤ 1539)
+  walk : (𝓣 : Tables 𝓤 H) → Triple 𝓤 (𝓣 .C #salvage·list·told-at) (ToldAt 𝓤 H A mem run) → Room T.the-row (length ys) → (n ≤ length ys) × (n ≤ 9311)
       → ent 𝓤 (onEntry 𝓤 H A fill′.signature (κ, (κ′, tt)) (q, (q′, tt)) a vals) (WpFn 𝓤 H (𝓣 .C) (𝓣 .Λ) code.function (s ∷ s′ ∷ vint w64 n ∷ []) Post)
   walk 𝓣 known room small =
       qed W ((‵ (flft κ q) ⊛ ‵ (flft κ′ q′) ⊛ ‵ ftrue) ∷ ‵ (owns (MutSlice (named 0) κ T.the-row ∷ ShrRef (named 1) κ′ Nums ∷ usize ∷ []) a vals) ∷ []) ∵ enter ! (𝓣 .C) (𝓣 .Λ) code.function (s ∷ s′ ∷ vint w64 n ∷ []) _ $
@@ -278,7 +278,7 @@ module _ {M : Type 1} (𝓤 : URA M) (H : Heap 𝓤) (A : Atoms 𝓤) (W : Given
       -- [the records; the open borrow; obs; auth; the row's token; list's fact; the others'; _8; …]
       move ! (6 ∷ []) $ fsplit ! $ use1 W (‵ (Shr κ′) ⊛ ‵ (Shr κ′)) (shr-copy 𝓤 H A W (named 1) κ′ Nums .twice p (s′ ∷ [])) $ split ! $ fsplit3 ! $
       move ! (9 ∷ []) $ split ! $ move ! (4 ∷ 0 ∷ []) $
-      looks ! tt Nums (Is Nums) (shows 𝓤 H A Nums) (array-vals (uint-vals w64)) (array-tells u64 (uint-vals w64) (uint-tells w64) 1539) (array-copy 𝓤 H A W u64 (uint-copy 𝓤 H A W w64) 1539) rw (p .ptr .0) (p .ptr .1) (λ t vs.
+      looks ! tt Nums (Is Nums) (shows 𝓤 H A Nums) (array-vals (uint-vals w64)) (array-tells u64 (uint-vals w64) (uint-tells w64) 9311) (array-copy 𝓤 H A W u64 (uint-copy 𝓤 H A W w64) 9311) rw (p .ptr .0) (p .ptr .1) (λ t vs.
       move ! (1 ∷ []) $ peeks ! Nums (Is Nums) (shows 𝓤 H A Nums) rw vs (λ is. move ! (1 ∷ 0 ∷ []) $ shuts ! tt Nums t rw vs (p .ptr .0) (p .ptr .1) $ move ! (0 ∷ 2 ∷ []) $ join ! $
       -- [the row's token; the shared borrow; its place; its value; the row's reference; at's; the records; the open borrow; obs; auth; list's fact; _8; …]
       keep ! (6 ∷ 19 ∷ 4 ∷ 0 ∷ 17 ∷ 15 ∷ 13 ∷ 11 ∷ 25 ∷ 23 ∷ 21 ∷ 27 ∷ 7 ∷ 8 ∷ 9 ∷ 28 ∷ 26 ∷ 24 ∷ 22 ∷ 20 ∷ 18 ∷ 16 ∷ 14 ∷ 12 ∷ []) $
@@ -288,14 +288,14 @@ module _ {M : Type 1} (𝓤 : URA M) (H : Heap 𝓤) (A : Atoms 𝓤) (W : Given
   fill-walks : (𝓣 : Tables 𝓤 H) → Triple 𝓤 (𝓣 .C #salvage·list·told-at) (ToldAt 𝓤 H A mem run) → Walks 𝓤 H A fill′.ended stayed (WpFn 𝓤 H (𝓣 .C) (𝓣 .Λ) code.function) (fill′.clauses 𝓤 H A mem run)
   fill-walks 𝓣 known = walked 𝓤 H A fill′.ended stayed (fill′.clauses 𝓤 H A mem run) (WpFn 𝓤 H (𝓣 .C) (𝓣 .Λ) code.function)
       (λ κs. (slice-vals, (ptr-vals, (uint-vals w64, tt)))) (λ κs. (mut-slice-tells (named 0) (κs .0) T.the-row, (shr-tells (named 1) (κs .1 .0) Nums, (uint-tells w64, tt))))
-      (λ κs qs bounds a g are. needs 𝓤 ((a .1 .1 .0 ≤ length (a .0 .now)) × (a .1 .1 .0 ≤ 1539)) _
+      (λ κs qs bounds a g are. needs 𝓤 ((a .1 .1 .0 ≤ length (a .0 .now)) × (a .1 .1 .0 ≤ 9311)) _
       (walk 𝓤 H A W mem run (κs .0) (κs .1 .0) (qs .0) (qs .1 .0) (a .0 .ptr .0) (a .0 .ptr .1) (a .0 .name) (a .0 .now) (a .1 .0) (a .1 .1 .0) (are .1 .1 .0 .1) 𝓣 known (are .0 .0 .1)))
 
 fill-meets : {M : Type 1} (𝓤 : URA M) (H : Heap 𝓤) (A : Atoms 𝓤) → Given 𝓤 H A → (mem : Memory → SProp 𝓤) (run : Routine → Fun 𝓤) (𝓣 : Tables 𝓤 H) → Triple 𝓤 (𝓣 .C #salvage·list·told-at) (ToldAt 𝓤 H A mem run)
     → Meets 𝓤 H A fill′.signature (WpFn 𝓤 H (𝓣 .C) (𝓣 .Λ) code.function) (fill′.spec 𝓤 H A mem run)
 fill-meets 𝓤 H A W mem run 𝓣 known =
     walk-meets 𝓤 H A fill′.ended stayed W
-    (goes-slice 𝓤 H A W 2 0 tt (plain (λ _. T.the-row)), (goes-none-ref 𝓤 H A W 2 (1 ∷ []) tt (ArrayOf (plain (λ _. u64)) (λ _. tt) 1539) yes, (goes-none 𝓤 H A W 2 (λ _. usize) yes (λ κs x f. refl), tt)))
+    (goes-slice 𝓤 H A W 2 0 tt (plain (λ _. T.the-row)), (goes-none-ref 𝓤 H A W 2 (1 ∷ []) tt (ArrayOf (plain (λ _. u64)) (λ _. tt) 9311) yes, (goes-none 𝓤 H A W 2 (λ _. usize) yes (λ κs x f. refl), tt)))
     (fill′.clauses 𝓤 H A mem run) (WpFn 𝓤 H (𝓣 .C) (𝓣 .Λ) code.function) (WpFn-mono 𝓤 H (W .laws) 𝓣 code.function) (fill-walks 𝓤 H A W mem run 𝓣 known)
 
 pub fill-spec : {M : Type 1} → stated.statement M

@@ -8,10 +8,10 @@ use Rattle.shape.proofs.block.subindex_ok.Statement.{statement}
 use Rattle.shape.proofs.block.subindex_ok.Tie as tie
 
 returns : tie.Need-returns
-returns c = let a = c .before .before .args in tested-no _ _ (λ f. omega (arith, filled-top _ (vol (a .img .now)) (a .n) (omega arith) 2 (a .t) f .0))
+returns c = let a = c .before .before .before .args in tested-no _ _ (λ f. omega (arith, filled-top _ (vol (a .img .now)) (a .n) (omega arith) 2 (a .t) f .0))
 
 returns-2 : tie.Need-returns-2
-returns-2 c = let a = c .before .before .before .args in tested-no _ _ (λ f. omega (arith, filled-top _ (vol (a .img .now)) (a .n) (omega arith) 2 (a .t) f .1))
+returns-2 c = let a = c .before .before .before .before .args in tested-no _ _ (λ f. omega (arith, filled-top _ (vol (a .img .now)) (a .n) (omega arith) 2 (a .t) f .1))
 
 mul-a : tie.Need-mul-a
 mul-a c = search needs
@@ -36,9 +36,12 @@ subindex-block-requires c κs = search needs
 
 returns-3 : tie.Need-returns-3
 returns-3 c =
-    let a = c .before .before .before .before .before .before .args in
-    tested-as _ _ (c .subindex-block .result) _
-    (decides-subindex (a .img .now) (pages (a .img .now)) (a .t) (a .n) (omega arith) (omega arith) (omega arith) (omega arith) (c .subindex-block .result)) (c .subindex-block .ensures)
+    let a = c .before .before .before .before .before .before .before .before .before .args in
+    tested-as _ _ (c .before .before .subindex-block .result) _
+    (decides-subindex (a .img .now) (pages (a .img .now)) (a .t) (a .n) (omega arith) (omega arith) (omega arith) (omega arith) (c .before .before .subindex-block .result)) (c .before .before .subindex-block .ensures)
+
+same-length : tie.Need-same-length
+same-length c = search needs
 
 pub subindex-ok-spec : {M : Type 1} → statement M
 subindex-ok-spec =
@@ -53,4 +56,5 @@ subindex-ok-spec =
     part-subindex-block-start
     part-subindex-block-end
     subindex-block-requires
+    same-length
     returns-3)

@@ -20,7 +20,7 @@ bytes-ok-requires c κs = search needs
 
 returns : tie.Need-returns
 returns c =
-    let a = c .before .before .before .before .before .args in let v = vol (a .img .now) in
+    let a = c .before .before .before .before .before .before .before .args in let v = vol (a .img .now) in
     tested-no _ _ (wrong-bytes (pages (a .img .now)) v (entryIn v (a .q) (a .e)) _ _ _ _ refl refl (c .before .before .before .entry-two .ensures .0) (c .before .before .entry-two2 .ensures .0)
     (fails (c .before .bytes-ok .result) _ (c .before .bytes-ok .ensures) (c .if1 .taken)))
 
@@ -38,10 +38,16 @@ shape-ok-requires c κs = search needs
 
 returns-2 : tie.Need-returns-2
 returns-2 c =
-    let a = c .before .before .before .before .before .before .before .before .before .before .args in let v = vol (a .img .now) in
-    tested-as _ _ (c .shape-ok .result) _ (decides-shaped (pages (a .img .now)) v (entryIn v (a .q) (a .e)) _ _ _ _ (c .before .before .before .before .entry-flags .ensures .0) (c .before .before .before .entry-page .ensures .0)
-    (c .before .before .before .before .before .before .before .before .entry-two .ensures .0) (c .before .before .before .before .before .before .before .entry-two2 .ensures .0) (c .shape-ok .result)
-    (holds (c .before .before .before .before .before .before .bytes-ok .result) _ (c .before .before .before .before .before .before .bytes-ok .ensures) (c .before .before .before .before .before .if1 .left))) (c .shape-ok .ensures)
+    let a = c .before .before .before .before .before .before .before .before .before .before .before .before .before .before .before .before .args in let v = vol (a .img .now) in
+    tested-as _ _ (c .before .before .before .before .shape-ok .result) _ (decides-shaped (pages (a .img .now)) v (entryIn v (a .q) (a .e)) _ _ _ _ (c .before .before .before .before .before .before .before .before .entry-flags .ensures .0) (c .before .before .before .before .before .before .before .entry-page .ensures .0)
+    (c .before .before .before .before .before .before .before .before .before .before .before .before .entry-two .ensures .0) (c .before .before .before .before .before .before .before .before .before .before .before .entry-two2 .ensures .0) (c .before .before .before .before .shape-ok .result)
+    (holds (c .before .before .before .before .before .before .before .before .before .before .bytes-ok .result) _ (c .before .before .before .before .before .before .before .before .before .before .bytes-ok .ensures) (c .before .before .before .before .before .before .before .before .before .if1 .left))) (c .before .before .before .before .shape-ok .ensures)
+
+same-length : tie.Need-same-length
+same-length c = search needs
+
+same-length-2 : tie.Need-same-length-2
+same-length-2 c = search needs
 
 pub file-ok-spec : {M : Type 1} → statement M
 file-ok-spec =
@@ -55,4 +61,6 @@ file-ok-spec =
     entry-page-requires
     cast-shape-ok
     shape-ok-requires
+    same-length
+    same-length-2
     returns-2)

@@ -17,7 +17,10 @@ index-once-requires c κs = search needs
 
 returns-3 : tie.Need-returns-3
 returns-3 c =
-    tested-as _ _ (c .index-once .result) _ (decides-iff (c .index-once .result) _ _ (λ h. (omega arith, omega arith, h .0, h .1)) (λ h. (h .2, h .3))) (c .index-once .ensures)
+    tested-as _ _ (c .before .before .index-once .result) _ (decides-iff (c .before .before .index-once .result) _ _ (λ h. (omega arith, omega arith, h .0, h .1)) (λ h. (h .2, h .3))) (c .before .before .index-once .ensures)
+
+same-length : tie.Need-same-length
+same-length c = search needs
 
 pub indexed-ok-spec : {M : Type 1} → statement M
-indexed-ok-spec = tie.close (tie.spec returns returns-2 index-once-requires returns-3)
+indexed-ok-spec = tie.close (tie.spec returns returns-2 index-once-requires same-length returns-3)

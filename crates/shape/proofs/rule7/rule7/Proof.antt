@@ -1,4 +1,4 @@
-use Prim.Native.Nat.{_-_, _+_, _*_, _≤_}
+use Prim.Native.Nat.{_-_, _*_, _≤_}
 use borrow.Author.Tests.{not-false}
 use Rattle.book.specs.Image.{pages}
 use Rattle.book.specs.Words.{vol}
@@ -36,8 +36,8 @@ plain-position-requires c κs =
       omega (arith, s .pre .4 .most),
     )
 
-rest-ok-requires : tie.Need-rest-ok-requires Inv-loop μ-loop
-rest-ok-requires c κs =
+rest-recalled-requires : tie.Need-rest-recalled-requires Inv-loop μ-loop
+rest-recalled-requires c κs =
     let l = c .before .before .before .loop in let s = c .before .before .before .before .before .before .before in (s .pre .0, s .pre .1, s .pre .2, s .pre .3, s .pre .4, l .inv .0, l .inv .1)
 
 returns : tie.Need-returns Inv-loop μ-loop
@@ -70,7 +70,7 @@ rule7-spec =
     cast-top
     loop-holds
     plain-position-requires
-    rest-ok-requires
+    rest-recalled-requires
     returns
     add-n
     loop-less

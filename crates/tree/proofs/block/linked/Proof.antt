@@ -1,4 +1,4 @@
-use Prim.Native.Nat.{_-_, _≤_}
+use Prim.Native.Nat.{_+_, _-_, _*_, _≤_}
 use mathlib.Core.Path.{_≡_}
 use borrow.Author.Count.{below-none, below-more}
 use Rattle.tree.specs.Blocks.{Linked}
@@ -9,10 +9,11 @@ use Rattle.tree.proofs.block.linked.Statement.{statement}
 use Rattle.tree.proofs.block.linked.Tie as tie
 
 abbrev Inv-loop : tie.InvT-loop
-Inv-loop block n least total bad₀ i₀ bad i = (i ≤ n) × (bad ≤ i) × (bad ≡ 0 → Linked least total block i) × (Linked least total block i → bad ≡ 0)
+Inv-loop block n least top rest bad₀ i₀ bad i =
+    (i ≤ n) × (bad ≤ i) × (bad ≡ 0 → Linked least (top * 65536 + rest) block i) × (Linked least (top * 65536 + rest) block i → bad ≡ 0)
 
 abbrev μ-loop : tie.MeasureT-loop
-μ-loop block n least total bad₀ i₀ bad i = n - i
+μ-loop block n least top rest bad₀ i₀ bad i = n - i
 
 loop-holds : tie.Need-loop-holds Inv-loop μ-loop
 loop-holds c = (omega arith, omega arith, (λ z. below-none _), λ h. omega arith)
@@ -53,7 +54,7 @@ loop-less c = omega arith
 loop-again : tie.Need-loop-again Inv-loop μ-loop
 loop-again c =
     let a = c .before .before .before .before .before .before .args in let l = c .before .before .before .before .loop in
-    let w = wrong-at (a .block .now) (l .i) (a .least) (a .total) (c .wrong .result) (c .wrong .ensures) in (
+    let w = wrong-at (a .block .now) (l .i) (a .least) (a .top * 65536 + a .rest) (c .wrong .result) (c .wrong .ensures) in (
       omega arith,
       omega (arith, w .most),
       (λ z. below-more _ (l .i) (l .inv .2 (omega arith)) (w .right (omega arith))),

@@ -27,7 +27,7 @@ add-mark-entry c = search needs
 
 mark-entry-requires : tie.Need-mark-entry-requires Inv-loop μ-loop
 mark-entry-requires c κs =
-    let s = c .before .before .before .before in let a = s .args in let l = c .before .before .loop in (
+    let s = c .before .before .before .before .before in let a = s .args in let l = c .before .before .loop in (
       files-walking (a .img .now) (s .pre .1) (a .n) (l .i) (s .pre .2) (l .inv .0) _ _ _ _ (s .pre .0) (l .inv .1),
       s .pre .1,
       omega arith,
@@ -43,8 +43,8 @@ enum-told c = c .match .keys2
 
 returns : tie.Need-returns Inv-loop μ-loop
 returns c =
-    let s = c .before .before .before .before .before .before .before in let a = s .args in let l = c .before .before .before .before .before .loop in
-    row-met _ _ _ (filesOf (a .img .now) (a .n)) (l .i) _ _ (l .inv .1) _ (λ g. refl) _ _ (c .before .before .mark-entry .ensures) (c .enum-told .given .1) 32 (omega arith) (a .marks .now)
+    let s = c .before .before .before .before .before .before .before .before .before .before in let a = s .args in let l = c .before .before .before .before .before .before .before .loop in
+    row-met _ _ _ (filesOf (a .img .now) (a .n)) (l .i) _ _ (l .inv .1) _ (λ g. refl) _ _ (c .before .before .before .before .mark-entry .ensures) (c .enum-told .given .1) 32 (omega arith) (a .marks .now)
 
 add-i : tie.Need-add-i Inv-loop μ-loop
 add-i c = search needs
@@ -54,13 +54,19 @@ loop-less c = search needs
 
 loop-again : tie.Need-loop-again Inv-loop μ-loop
 loop-again c =
-    let s = c .before .before .before .before .before .before .before .before in let a = s .args in let l = c .before .before .before .before .before .before .loop in
-    (omega arith, row-on _ _ _ (filesOf (a .img .now) (a .n)) (l .i) _ _ (l .inv .1) _ (λ g. refl) _ _ (c .before .before .before .mark-entry .ensures) _ (c .before .x .given .1))
+    let s = c .before .before .before .before .before .before .before .before .before .before .before in let a = s .args in let l = c .before .before .before .before .before .before .before .before .loop in
+    (omega arith, row-on _ _ _ (filesOf (a .img .now) (a .n)) (l .i) _ _ (l .inv .1) _ (λ g. refl) _ _ (c .before .before .before .before .before .mark-entry .ensures) _ (c .before .x .given .1))
 
 returns-2 : tie.Need-returns-2 Inv-loop μ-loop
 returns-2 c =
-    let s = c .before .before .before in let a = s .args in let l = c .before .loop in
+    let s = c .before .before .before .before in let a = s .args in let l = c .before .loop in
     row-end _ _ _ (filesOf (a .img .now) (a .n)) _ _ _ _ (let e : l .i ≡ 32 = omega arith in e) (l .inv .1)
+
+same-length : tie.Need-same-length Inv-loop μ-loop
+same-length c = search needs
+
+same-length-2 : tie.Need-same-length-2 Inv-loop μ-loop
+same-length-2 c = search needs
 
 pub mark-entries-spec : {M : Type 1} → statement M
 mark-entries-spec =
@@ -74,8 +80,10 @@ mark-entries-spec =
     mark-entry-requires
     enum-known-x
     enum-told
+    same-length
     returns
     add-i
     loop-less
     loop-again
+    same-length-2
     returns-2)

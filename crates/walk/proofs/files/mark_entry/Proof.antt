@@ -13,7 +13,7 @@ entry-used-requires c κs = search needs
 
 returns : tie.Need-returns
 returns c =
-    let s = c .before .before .before in let a = s .args in let v = vol (a .img .now) in let P = pages (a .img .now) in let m = a .marks .now in
+    let s = c .before .before .before .before in let a = s .args in let v = vol (a .img .now) in let P = pages (a .img .now) in let m = a .marks .now in
     walked-empty P m (a .visited) v _ (file-in-none v (a .e) (a .q) (s .pre .3) (fails (c .before .entry-used .result) _ (c .before .entry-used .ensures) (c .if1 .taken)))
 
 entry-flags-requires : tie.Need-entry-flags-requires
@@ -30,7 +30,7 @@ cast-count c = search needs
 
 mark-root-requires : tie.Need-mark-root-requires
 mark-root-requires c κs =
-    let s = c .before .before .before .before .before .before .before in let a = s .args in let v = vol (a .img .now) in let P = pages (a .img .now) in let m = a .marks .now in
+    let s = c .before .before .before .before .before .before .before .before in let a = s .args in let v = vol (a .img .now) in let P = pages (a .img .now) in let m = a .marks .now in
     let u = (holds (c .before .before .before .before .before .entry-used .result) _ (c .before .before .before .before .before .entry-used .ensures) (c .before .before .before .before .if1 .left)) in (
       s .pre .0,
       below-same v P _ _ (read-file v (a .e) (a .q) (s .pre .3) u (c .before .before .before .entry-flags .result) (c .before .before .entry-page .result) (c .before .entry-two .result) (c .before .before .before .entry-flags .ensures .0) (c .before .before .entry-page .ensures .0) (c .before .entry-two .ensures .0)) (s .pre .1 .below (a .e) (s .pre .2)),
@@ -39,9 +39,12 @@ mark-root-requires c κs =
 
 returns-2 : tie.Need-returns-2
 returns-2 c =
-    let s = c .before .before .before .before .before .before .before .before in let a = s .args in let v = vol (a .img .now) in let P = pages (a .img .now) in let m = a .marks .now in
-    let u = (holds (c .before .before .before .before .before .before .entry-used .result) _ (c .before .before .before .before .before .before .entry-used .ensures) (c .before .before .before .before .before .if1 .left)) in
-    walked-root P m (a .visited) v _ _ (read-file v (a .e) (a .q) (s .pre .3) u (c .before .before .before .before .entry-flags .result) (c .before .before .before .entry-page .result) (c .before .before .entry-two .result) (c .before .before .before .before .entry-flags .ensures .0) (c .before .before .before .entry-page .ensures .0) (c .before .before .entry-two .ensures .0)) (c .mark-root .last .1 .0) (c .mark-root .result) (c .mark-root .ensures)
+    let s = c .before .before .before .before .before .before .before .before .before .before .before in let a = s .args in let v = vol (a .img .now) in let P = pages (a .img .now) in let m = a .marks .now in
+    let u = (holds (c .before .before .before .before .before .before .before .before .entry-used .result) _ (c .before .before .before .before .before .before .before .before .entry-used .ensures) (c .before .before .before .before .before .before .before .if1 .left)) in
+    walked-root P m (a .visited) v _ _ (read-file v (a .e) (a .q) (s .pre .3) u (c .before .before .before .before .before .before .entry-flags .result) (c .before .before .before .before .before .entry-page .result) (c .before .before .before .before .entry-two .result) (c .before .before .before .before .before .before .entry-flags .ensures .0) (c .before .before .before .before .before .entry-page .ensures .0) (c .before .before .before .before .entry-two .ensures .0)) (c .before .before .mark-root .last .1 .0) (c .before .before .mark-root .result) (c .before .before .mark-root .ensures)
+
+same-length : tie.Need-same-length
+same-length c = search needs
 
 pub mark-entry-spec : {M : Type 1} → statement M
 mark-entry-spec =
@@ -54,4 +57,5 @@ mark-entry-spec =
     entry-two-requires
     cast-count
     mark-root-requires
+    same-length
     returns-2)

@@ -32,7 +32,7 @@ loop-holds c = (omega arith, row-start _ _ _ _)
 
 mark-position-requires : tie.Need-mark-position-requires Inv-loop μ-loop
 mark-position-requires c κs =
-    let s = c .before .before .before .before .before .before in let a = s .args in let l = c .before .before .loop in (
+    let s = c .before .before .before .before .before .before .before in let a = s .args in let l = c .before .before .loop in (
       positions-walking (a .img .now) (s .pre .2) (l .n) (omega (arith, l .inv .0, s .pre .3 .most)) _ _ _ _ (s .pre .0) (l .inv .1),
       s .pre .2,
       omega (arith, s .pre .3 .most),
@@ -48,8 +48,8 @@ enum-told c = c .match .keys2
 
 returns : tie.Need-returns Inv-loop μ-loop
 returns c =
-    let s = c .before .before .before .before .before .before .before .before .before in let a = s .args in let l = c .before .before .before .before .before .loop in
-    walked-files (pages (a .img .now)) (a .marks .now) (a .visited) (a .img .now) (a .ends) (s .pre .3) (a .marks .now) Met (row-met (pages (a .img .now)) (a .marks .now) (a .visited) (positionsOf (a .img .now)) (l .n) _ _ (l .inv .1) _ (λ g. refl) _ _ (c .before .before .mark-position .ensures) (c .enum-told .given .1) (a .ends) (omega arith) (a .marks .now))
+    let s = c .before .before .before .before .before .before .before .before .before .before .before .before in let a = s .args in let l = c .before .before .before .before .before .before .before .loop in
+    walked-files (pages (a .img .now)) (a .marks .now) (a .visited) (a .img .now) (a .ends) (s .pre .3) (a .marks .now) Met (row-met (pages (a .img .now)) (a .marks .now) (a .visited) (positionsOf (a .img .now)) (l .n) _ _ (l .inv .1) _ (λ g. refl) _ _ (c .before .before .before .before .mark-position .ensures) (c .enum-told .given .1) (a .ends) (omega arith) (a .marks .now))
 
 add-n : tie.Need-add-n Inv-loop μ-loop
 add-n c = search needs
@@ -59,13 +59,19 @@ loop-less c = search needs
 
 loop-again : tie.Need-loop-again Inv-loop μ-loop
 loop-again c =
-    let s = c .before .before .before .before .before .before .before .before .before .before in let a = s .args in let l = c .before .before .before .before .before .before .loop in
-    (omega arith, row-on _ _ _ (positionsOf (a .img .now)) (l .n) _ _ (l .inv .1) _ (λ g. refl) _ _ (c .before .before .before .mark-position .ensures) _ (c .before .x .given .1))
+    let s = c .before .before .before .before .before .before .before .before .before .before .before .before .before in let a = s .args in let l = c .before .before .before .before .before .before .before .before .loop in
+    (omega arith, row-on _ _ _ (positionsOf (a .img .now)) (l .n) _ _ (l .inv .1) _ (λ g. refl) _ _ (c .before .before .before .before .before .mark-position .ensures) _ (c .before .x .given .1))
 
 returns-2 : tie.Need-returns-2 Inv-loop μ-loop
 returns-2 c =
-    let s = c .before .before .before .before .before in let a = s .args in let l = c .before .loop in
+    let s = c .before .before .before .before .before .before in let a = s .args in let l = c .before .loop in
     walked-files _ _ _ (a .img .now) (a .ends) (s .pre .3) _ (On (l .v)) (row-end _ _ _ (positionsOf (a .img .now)) _ _ _ _ (let e : l .n ≡ a .ends = omega arith in e) (l .inv .1))
+
+same-length : tie.Need-same-length Inv-loop μ-loop
+same-length c = search needs
+
+same-length-2 : tie.Need-same-length-2 Inv-loop μ-loop
+same-length-2 c = search needs
 
 pub mark-files-spec : {M : Type 1} → statement M
 mark-files-spec =
@@ -80,8 +86,10 @@ mark-files-spec =
     mark-position-requires
     enum-known-x
     enum-told
+    same-length
     returns
     add-n
     loop-less
     loop-again
+    same-length-2
     returns-2)

@@ -83,7 +83,7 @@ mark-block-pointers-requires t c κs = omega arith
 
 mark-block-mark-pages-requires : (t : ℕ) → mark-block-lts.Need-mark-pages-requires (block-calls t) (mark-block-at t) mark-block.Post mark-block-Inv-loop mark-block-μ-loop
 mark-block-mark-pages-requires t c κs =
-    let s = c .before .before .before .before .before in let a = s .args in let img = a .img .now in let bk = a .block .now in (
+    let s = c .before .before .before .before .before .before in let a = s .args in let img = a .img .now in let bk = a .block .now in (
       s .pre .1 .0,
       subst (λ (l : ℕ). PointersBelow img bk l) (c .before .if1 .taken) (s .pre .1 .1),
       c .before .before .pointers .ensures .0,
@@ -91,9 +91,9 @@ mark-block-mark-pages-requires t c κs =
 
 mark-block-returns : (t : ℕ) → mark-block-lts.Need-returns (block-calls t) (mark-block-at t) mark-block.Post mark-block-Inv-loop mark-block-μ-loop
 mark-block-returns t c =
-    let s = c .before .before .before .before .before .before in let a = s .args in let img = a .img .now in let bk = a .block .now in let n = c .before .before .before .pointers in
-    block-all img bk (a .level) (a .count) (s .pre .1 .2) (n .result) (n .ensures .0) (n .ensures .1) (pages img) (a .marks .now) (a .visited) (c .mark-pages .last .1 .0) (c .mark-pages .result)
-    (row-level img bk (a .level) (c .before .before .if1 .taken) (n .result) (pages img) (a .marks .now) (a .visited) (c .mark-pages .last .1 .0) (c .mark-pages .result) (c .mark-pages .ensures))
+    let s = c .before .before .before .before .before .before .before .before .before in let a = s .args in let img = a .img .now in let bk = a .block .now in let n = c .before .before .before .before .before .pointers in
+    block-all img bk (a .level) (a .count) (s .pre .1 .2) (n .result) (n .ensures .0) (n .ensures .1) (pages img) (a .marks .now) (a .visited) (c .before .before .mark-pages .last .1 .0) (c .before .before .mark-pages .result)
+    (row-level img bk (a .level) (c .before .before .before .before .if1 .taken) (n .result) (pages img) (a .marks .now) (a .visited) (c .before .before .mark-pages .last .1 .0) (c .before .before .mark-pages .result) (c .before .before .mark-pages .ensures))
 
 mark-block-loop-holds : (t : ℕ) → mark-block-lts.Need-loop-holds (block-calls t) (mark-block-at t) mark-block.Post mark-block-Inv-loop mark-block-μ-loop
 mark-block-loop-holds t c = (omega arith, row-start _ _ _ _)
@@ -112,7 +112,7 @@ mark-block-under-requires t c κs = omega arith
 
 mark-block-mark-pointer-requires : (t : ℕ) → mark-block-lts.Need-mark-pointer-requires (block-calls t) (mark-block-at t) mark-block.Post mark-block-Inv-loop mark-block-μ-loop
 mark-block-mark-pointer-requires t c κs =
-    let s = c .before .before .before .before .before .before .before .before .before in let a = s .args in let img = a .img .now in let bk = a .block .now in let l = c .before .before .before .before .loop in let e = pointer-read bk (l .i) _ (c .before .before .dword .ensures .0) in (
+    let s = c .before .before .before .before .before .before .before .before .before .before in let a = s .args in let img = a .img .now in let bk = a .block .now in let l = c .before .before .before .before .loop in let e = pointer-read bk (l .i) _ (c .before .before .dword .ensures .0) in (
       omega (arith, s .pre .0),
       (
         block-walking img bk _ (s .pre .1 .1) (l .i) (omega arith) _ _ _ _ (s .pre .1 .0) (l .inv .1),
@@ -131,10 +131,10 @@ mark-block-enum-told t c = c .match .keys2
 
 mark-block-returns-2 : (t : ℕ) → mark-block-lts.Need-returns-2 (block-calls t) (mark-block-at t) mark-block.Post mark-block-Inv-loop mark-block-μ-loop
 mark-block-returns-2 t c =
-    let s = c .before .before .before .before .before .before .before .before .before .before .before .before in let a = s .args in let img = a .img .now in let bk = a .block .now in let l = c .before .before .before .before .before .before .before .loop in let n = c .before .before .before .before .before .before .before .before .before .pointers in
+    let s = c .before .before .before .before .before .before .before .before .before .before .before .before .before .before .before in let a = s .args in let img = a .img .now in let bk = a .block .now in let l = c .before .before .before .before .before .before .before .before .before .loop in let n = c .before .before .before .before .before .before .before .before .before .before .before .pointers in
     block-all img bk (a .level) (a .count) (s .pre .1 .2) (n .result) (n .ensures .0) (n .ensures .1) (pages img) (a .marks .now) (a .visited) (a .marks .now) Met
-    (row-met _ _ _ (slotsOf img (a .level) bk) (l .i) _ _ (l .inv .1) _ (slot-weigh img bk _ (s .pre .1 .1) (l .i) _ (pointer-read bk (l .i) _ (c .before .before .before .before .before .dword .ensures .0))) _ _
-    (c .before .before .mark-pointer .ensures) (c .enum-told .given .1) (n .result) (omega arith) (a .marks .now))
+    (row-met _ _ _ (slotsOf img (a .level) bk) (l .i) _ _ (l .inv .1) _ (slot-weigh img bk _ (s .pre .1 .1) (l .i) _ (pointer-read bk (l .i) _ (c .before .before .before .before .before .before .before .dword .ensures .0))) _ _
+    (c .before .before .before .before .mark-pointer .ensures) (c .enum-told .given .1) (n .result) (omega arith) (a .marks .now))
 
 mark-block-add-i : (t : ℕ) → mark-block-lts.Need-add-i (block-calls t) (mark-block-at t) mark-block.Post mark-block-Inv-loop mark-block-μ-loop
 mark-block-add-i t c = search needs
@@ -144,46 +144,46 @@ mark-block-loop-less t c = search needs
 
 mark-block-loop-again : (t : ℕ) → mark-block-lts.Need-loop-again (block-calls t) (mark-block-at t) mark-block.Post mark-block-Inv-loop mark-block-μ-loop
 mark-block-loop-again t c =
-    let s = c .before .before .before .before .before .before .before .before .before .before .before .before .before in let a = s .args in let img = a .img .now in let bk = a .block .now in let l = c .before .before .before .before .before .before .before .before .loop in (
+    let s = c .before .before .before .before .before .before .before .before .before .before .before .before .before .before .before .before in let a = s .args in let img = a .img .now in let bk = a .block .now in let l = c .before .before .before .before .before .before .before .before .before .before .loop in (
       omega arith,
-      row-on _ _ _ (slotsOf img (a .level) bk) (l .i) _ _ (l .inv .1) _ (slot-weigh img bk _ (s .pre .1 .1) (l .i) _ (pointer-read bk (l .i) _ (c .before .before .before .before .before .before .dword .ensures .0))) _ _
-          (c .before .before .before .mark-pointer .ensures) _ (c .before .x .given .1),
+      row-on _ _ _ (slotsOf img (a .level) bk) (l .i) _ _ (l .inv .1) _ (slot-weigh img bk _ (s .pre .1 .1) (l .i) _ (pointer-read bk (l .i) _ (c .before .before .before .before .before .before .before .before .dword .ensures .0))) _ _
+          (c .before .before .before .before .before .mark-pointer .ensures) _ (c .before .x .given .1),
     )
 
 mark-block-returns-3 : (t : ℕ) → mark-block-lts.Need-returns-3 (block-calls t) (mark-block-at t) mark-block.Post mark-block-Inv-loop mark-block-μ-loop
 mark-block-returns-3 t c =
-    let s = c .before .before .before .before .before .before in let a = s .args in let img = a .img .now in let bk = a .block .now in let l = c .before .loop in let n = c .before .before .before .pointers in
+    let s = c .before .before .before .before .before .before .before in let a = s .args in let img = a .img .now in let bk = a .block .now in let l = c .before .loop in let n = c .before .before .before .pointers in
     block-all img bk (a .level) (a .count) (s .pre .1 .2) (n .result) (n .ensures .0) (n .ensures .1) (pages img) (a .marks .now) (a .visited) _ (On (l .v))
     (row-end _ _ _ (slotsOf img (a .level) bk) _ _ _ _ (let e : l .i ≡ n .result = omega arith in e) (l .inv .1))
 
 mark-pointer-returns : (t : ℕ) → mark-pointer-lts.Need-returns (pointer-calls t) (mark-pointer-at t) mark-pointer.Post
 mark-pointer-returns t c =
-    let s = c .before .before in let a = s .args in let img = a .img .now in
+    let s = c .before .before .before in let a = s .args in let img = a .img .now in
     pointer-none img _ _ _ _ _ (c .if1 .taken)
 
 mark-pointer-mark-requires : (t : ℕ) → mark-pointer-lts.Need-mark-requires (pointer-calls t) (mark-pointer-at t) mark-pointer.Post
 mark-pointer-mark-requires t c κs =
-    let s = c .before .before .before in let a = s .args in let img = a .img .now in
-    let i = below-top _ _ _ _ (s .pre .1 .1) in (omega arith, s .pre .1 .0 .size)
+    let s = c .before .before .before .before in let a = s .args in let img = a .img .now in
+    let i = below-top _ _ _ _ (s .pre .1 .1) in omega (arith, s .pre .1 .0 .room)
 
 mark-pointer-returns-2 : (t : ℕ) → mark-pointer-lts.Need-returns-2 (pointer-calls t) (mark-pointer-at t) mark-pointer.Post
 mark-pointer-returns-2 t c =
-    let s = c .before .before .before .before .before in let a = s .args in let img = a .img .now in
-    pointer-met img _ _ (a .visited) _ _ (omega arith) (below-top _ _ _ _ (s .pre .1 .1)) (marking-old _ _ _ (c .before .mark .result) (c .before .mark .ensures) (c .if2 .taken) .0) (a .marks .now)
+    let s = c .before .before .before .before .before .before .before .before in let a = s .args in let img = a .img .now in
+    pointer-met img _ _ (a .visited) _ _ (omega arith) (below-top _ _ _ _ (s .pre .1 .1)) (marking-old _ _ _ (c .before .before .before .mark .result) (c .before .before .before .mark .ensures) (c .if2 .taken) .0) (a .marks .now)
 
 mark-pointer-mul-a : (t : ℕ) → mark-pointer-lts.Need-mul-a (pointer-calls t) (mark-pointer-at t) mark-pointer.Post
 mark-pointer-mul-a t c =
-    let s = c .before .before .before .before .before in let a = s .args in let img = a .img .now in
+    let s = c .before .before .before .before .before .before .before .before in let a = s .args in let img = a .img .now in
     let i = below-top _ _ _ _ (s .pre .1 .1) in omega arith
 
 mark-pointer-add-z : (t : ℕ) → mark-pointer-lts.Need-add-z (pointer-calls t) (mark-pointer-at t) mark-pointer.Post
 mark-pointer-add-z t c =
-    let s = c .before .before .before .before .before in let a = s .args in let img = a .img .now in
+    let s = c .before .before .before .before .before .before .before .before in let a = s .args in let img = a .img .now in
     let i = below-top _ _ _ _ (s .pre .1 .1) in omega arith
 
 mark-pointer-mul-mark-block : (t : ℕ) → mark-pointer-lts.Need-mul-mark-block (pointer-calls t) (mark-pointer-at t) mark-pointer.Post
 mark-pointer-mul-mark-block t c =
-    let s = c .before .before .before .before .before .before in let a = s .args in let img = a .img .now in
+    let s = c .before .before .before .before .before .before .before .before .before in let a = s .args in let img = a .img .now in
     let i = below-top _ _ _ _ (s .pre .1 .1) in omega arith
 
 mark-pointer-sub-mark-block : (t : ℕ) → mark-pointer-lts.Need-sub-mark-block (pointer-calls t) (mark-pointer-at t) mark-pointer.Post
@@ -194,7 +194,7 @@ mark-pointer-part-mark-block-start t c = search needs
 
 mark-pointer-part-mark-block-end : (t : ℕ) → mark-pointer-lts.Need-part-mark-block-end (pointer-calls t) (mark-pointer-at t) mark-pointer.Post
 mark-pointer-part-mark-block-end t c =
-    let s = c .before .before .before .before .before .before in let a = s .args in let img = a .img .now in
+    let s = c .before .before .before .before .before .before .before .before .before in let a = s .args in let img = a .img .now in
     let i = below-top _ _ _ _ (s .pre .1 .1) in omega arith
 
 mark-pointer-sub-mark-block-2 : (t : ℕ) → mark-pointer-lts.Need-sub-mark-block-2 (pointer-calls t) (mark-pointer-at t) mark-pointer.Post
@@ -202,16 +202,16 @@ mark-pointer-sub-mark-block-2 t c = search needs
 
 mark-pointer-add-mark-block : (t : ℕ) → mark-pointer-lts.Need-add-mark-block (pointer-calls t) (mark-pointer-at t) mark-pointer.Post
 mark-pointer-add-mark-block t c =
-    let s = c .before .before .before .before .before .before .before in let a = s .args in let img = a .img .now in
-    omega (arith, mark-fits img _ _ _ _ (marking-new _ _ _ (c .before .before .before .mark .result) (c .before .before .before .mark .ensures) (c .before .before .if2 .left)) (below-top _ _ _ _ (s .pre .1 .1)) (s .pre .1 .0))
+    let s = c .before .before .before .before .before .before .before .before .before .before in let a = s .args in let img = a .img .now in
+    omega (arith, mark-fits img _ _ _ _ (marking-new _ _ _ (c .before .before .before .before .before .mark .result) (c .before .before .before .before .before .mark .ensures) (c .before .before .if2 .left)) (below-top _ _ _ _ (s .pre .1 .1)) (s .pre .1 .0))
 
 mark-pointer-mark-block-requires : (t : ℕ) → mark-pointer-lts.Need-mark-block-requires (pointer-calls t) (mark-pointer-at t) mark-pointer.Post
 mark-pointer-mark-block-requires t c κs =
-    let s = c .before .before .before .before .before .before .before in let a = s .args in let img = a .img .now in
+    let s = c .before .before .before .before .before .before .before .before .before .before in let a = s .args in let img = a .img .now in
     let i = below-top _ _ _ _ (s .pre .1 .1) in (
       omega (arith, s .pre .0, s .pre .1 .3),
       (
-        mark-walking img _ _ _ _ (marking-new _ _ _ (c .before .before .before .mark .result) (c .before .before .before .mark .ensures) (c .before .before .if2 .left)) i (s .pre .1 .0),
+        mark-walking img _ _ _ _ (marking-new _ _ _ (c .before .before .before .before .before .mark .result) (c .before .before .before .before .before .mark .ensures) (c .before .before .if2 .left)) i (s .pre .1 .0),
         block-below img (a .page) _ refl (omega arith) (a .level) (s .pre .1 .3) (search needs) (s .pre .1 .1),
         block-short img (a .page) _ refl (omega arith) (a .level) (a .count) (s .pre .1 .3) (s .pre .1 .2),
         omega arith,
@@ -220,8 +220,23 @@ mark-pointer-mark-block-requires t c κs =
 
 mark-pointer-returns-3 : (t : ℕ) → mark-pointer-lts.Need-returns-3 (pointer-calls t) (mark-pointer-at t) mark-pointer.Post
 mark-pointer-returns-3 t c =
-    let s = c .before .before .before .before .before .before .before .before in let a = s .args in let img = a .img .now in
-    pointer-block img (pages img) (a .marks .now) (a .visited) _ _ (omega arith) _ (marking-new _ _ _ (c .before .before .before .before .mark .result) (c .before .before .before .before .mark .ensures) (c .before .before .before .if2 .left)) (s .pre .1 .3) _ refl (c .mark-block .last .1 .0) (c .mark-block .result) (c .mark-block .ensures)
+    let s = c .before .before .before .before .before .before .before .before .before .before .before .before .before in let a = s .args in let img = a .img .now in
+    pointer-block img (pages img) (a .marks .now) (a .visited) _ _ (omega arith) _ (marking-new _ _ _ (c .before .before .before .before .before .before .before .before .mark .result) (c .before .before .before .before .before .before .before .before .mark .ensures) (c .before .before .before .before .before .if2 .left)) (s .pre .1 .3) _ refl (c .before .before .mark-block .last .1 .0) (c .before .before .mark-block .result) (c .before .before .mark-block .ensures)
+
+mark-block-same-length : (t : ℕ) → mark-block-lts.Need-same-length (block-calls t) (mark-block-at t) mark-block.Post mark-block-Inv-loop mark-block-μ-loop
+mark-block-same-length t c = search needs
+
+mark-block-same-length-2 : (t : ℕ) → mark-block-lts.Need-same-length-2 (block-calls t) (mark-block-at t) mark-block.Post mark-block-Inv-loop mark-block-μ-loop
+mark-block-same-length-2 t c = search needs
+
+mark-block-same-length-3 : (t : ℕ) → mark-block-lts.Need-same-length-3 (block-calls t) (mark-block-at t) mark-block.Post mark-block-Inv-loop mark-block-μ-loop
+mark-block-same-length-3 t c = search needs
+
+mark-pointer-same-length : (t : ℕ) → mark-pointer-lts.Need-same-length (pointer-calls t) (mark-pointer-at t) mark-pointer.Post
+mark-pointer-same-length t c = search needs
+
+mark-pointer-same-length-2 : (t : ℕ) → mark-pointer-lts.Need-same-length-2 (pointer-calls t) (mark-pointer-at t) mark-pointer.Post
+mark-pointer-same-length-2 t c = search needs
 
 pub +mark-block+mark-pointer-spec : {M : Type 1} → statement M
 +mark-block+mark-pointer-spec = close μ-mark-block μ-mark-pointer (λ t. mark-block-lts.spec (block-calls t)
@@ -231,6 +246,7 @@ pub +mark-block+mark-pointer-spec : {M : Type 1} → statement M
     mark-block-μ-loop
     (mark-block-pointers-requires t)
     (mark-block-mark-pages-requires t)
+    (mark-block-same-length t)
     (mark-block-returns t)
     (mark-block-loop-holds t)
     (mark-block-mul-dword t)
@@ -240,16 +256,19 @@ pub +mark-block+mark-pointer-spec : {M : Type 1} → statement M
     (mark-block-mark-pointer-requires t)
     (mark-block-enum-known-x t)
     (mark-block-enum-told t)
+    (mark-block-same-length-2 t)
     (mark-block-returns-2 t)
     (mark-block-add-i t)
     (mark-block-loop-less t)
     (mark-block-loop-again t)
+    (mark-block-same-length-3 t)
     (mark-block-returns-3 t))
     λ t. mark-pointer-lts.spec (pointer-calls t)
     (mark-pointer-at t)
     mark-pointer.Post
     (mark-pointer-returns t)
     (mark-pointer-mark-requires t)
+    (mark-pointer-same-length t)
     (mark-pointer-returns-2 t)
     (mark-pointer-mul-a t)
     (mark-pointer-add-z t)
@@ -260,4 +279,5 @@ pub +mark-block+mark-pointer-spec : {M : Type 1} → statement M
     (mark-pointer-sub-mark-block-2 t)
     (mark-pointer-add-mark-block t)
     (mark-pointer-mark-block-requires t)
+    (mark-pointer-same-length-2 t)
     (mark-pointer-returns-3 t)

@@ -1,26 +1,27 @@
-use Rattle.walk.proofs.Pointers.{low-read}
+-- `walk::pages::page_of` meets its contract. Assumes nothing.
 use borrow.Author.Needs.{needs}
+use Rattle.tree.proofs.Blocks.{pointer-read}
 use Rattle.walk.proofs.pages.page_of.Statement.{statement}
 use Rattle.walk.proofs.pages.page_of.Tie as tie
 
-mul-wide : tie.Need-mul-wide
-mul-wide c = search needs
+mul-dword : tie.Need-mul-dword
+mul-dword c = search needs
 
-add-wide : tie.Need-add-wide
-add-wide c = search needs
+dword-requires : tie.Need-dword-requires
+dword-requires c κs = search needs
 
-mul-wide-2 : tie.Need-mul-wide-2
-mul-wide-2 c = search needs
-
-shared-slice-read-wide : tie.Need-shared-slice-read-wide
-shared-slice-read-wide c = search needs
-
-wide-requires : tie.Need-wide-requires
-wide-requires c κs = search needs
+cast-result : tie.Need-cast-result
+cast-result c = search needs
 
 returns : tie.Need-returns
-returns c = let s = c .before .before .before in low-read (s .args .block .now) (s .args .i) (c .wide .result) (s .pre .2) (c .wide .ensures)
+returns c = let a = c .before .before .before .args in pointer-read (a .block .now) (a .i) _ (c .dword .ensures .0)
+
+near-page-requires : tie.Need-near-page-requires
+near-page-requires c κs = let s = c .before .before in (s .pre .0, s .pre .1, s .pre .2 (c .if1 .left))
+
+returns-2 : tie.Need-returns-2
+returns-2 c = search needs
 
 pub page-of-spec : {M : Type 1} → statement M
 page-of-spec =
-    tie.close (tie.spec mul-wide add-wide mul-wide-2 shared-slice-read-wide wide-requires returns)
+    tie.close (tie.spec mul-dword dword-requires cast-result returns near-page-requires returns-2)

@@ -24,7 +24,7 @@ add-mark-page c = search needs
 
 mark-page-requires : tie.Need-mark-page-requires Inv-loop μ-loop
 mark-page-requires c κs =
-    let s = c .before .before .before .before in let a = s .args in let l = c .before .before .loop in
+    let s = c .before .before .before .before .before in let a = s .args in let l = c .before .before .loop in
     (run-walking _ _ _ (s .pre .1) _ _ _ _ _ (l .inv .0) (s .pre .0) (l .inv .1), page-below _ _ _ (omega arith))
 
 enum-known-n : tie.Need-enum-known-n Inv-loop μ-loop
@@ -35,8 +35,8 @@ enum-told c = c .match .keys2
 
 returns : tie.Need-returns Inv-loop μ-loop
 returns c =
-    let s = c .before .before .before .before .before .before .before in let a = s .args in let l = c .before .before .before .before .before .loop in
-    row-met _ _ _ (runOf (a .start)) (l .i) _ _ (l .inv .1) _ (page-weigh (vol (a .img .now)) _) _ _ (c .before .before .mark-page .ensures) (c .enum-told .given .1) (a .count) (omega arith) (a .marks .now)
+    let s = c .before .before .before .before .before .before .before .before .before .before in let a = s .args in let l = c .before .before .before .before .before .before .before .loop in
+    row-met _ _ _ (runOf (a .start)) (l .i) _ _ (l .inv .1) _ (page-weigh (vol (a .img .now)) _) _ _ (c .before .before .before .before .mark-page .ensures) (c .enum-told .given .1) (a .count) (omega arith) (a .marks .now)
 
 add-i : tie.Need-add-i Inv-loop μ-loop
 add-i c = search needs
@@ -46,13 +46,19 @@ loop-less c = search needs
 
 loop-again : tie.Need-loop-again Inv-loop μ-loop
 loop-again c =
-    let s = c .before .before .before .before .before .before .before .before in let a = s .args in let l = c .before .before .before .before .before .before .loop in
-    (omega arith, row-on _ _ _ (runOf (a .start)) (l .i) _ _ (l .inv .1) _ (page-weigh (vol (a .img .now)) _) _ _ (c .before .before .before .mark-page .ensures) _ (c .before .n .given .1))
+    let s = c .before .before .before .before .before .before .before .before .before .before .before in let a = s .args in let l = c .before .before .before .before .before .before .before .before .loop in
+    (omega arith, row-on _ _ _ (runOf (a .start)) (l .i) _ _ (l .inv .1) _ (page-weigh (vol (a .img .now)) _) _ _ (c .before .before .before .before .before .mark-page .ensures) _ (c .before .n .given .1))
 
 returns-2 : tie.Need-returns-2 Inv-loop μ-loop
 returns-2 c =
-    let s = c .before .before .before in let a = s .args in let l = c .before .loop in
+    let s = c .before .before .before .before in let a = s .args in let l = c .before .loop in
     row-end _ _ _ (runOf (a .start)) _ _ _ _ (let e : l .i ≡ a .count = omega arith in e) (l .inv .1)
+
+same-length : tie.Need-same-length Inv-loop μ-loop
+same-length c = search needs
+
+same-length-2 : tie.Need-same-length-2 Inv-loop μ-loop
+same-length-2 c = search needs
 
 pub mark-run-spec : {M : Type 1} → statement M
 mark-run-spec =
@@ -65,8 +71,10 @@ mark-run-spec =
     mark-page-requires
     enum-known-n
     enum-told
+    same-length
     returns
     add-i
     loop-less
     loop-again
+    same-length-2
     returns-2)

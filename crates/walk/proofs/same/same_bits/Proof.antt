@@ -1,5 +1,7 @@
 use mathlib.Core.Path.{refl}
 use Rattle.walk.proofs.Lows.{same-part}
+use Prim.Native.Nat.{_+_, _-_, _*_, _/_}
+use native.Mathlib.Omega.{arith}
 use borrow.Author.Needs.{needs}
 use Rattle.walk.proofs.same.same_bits.Statement.{statement}
 use Rattle.walk.proofs.same.same_bits.Tie as tie
@@ -26,7 +28,12 @@ same-words-requires : tie.Need-same-words-requires
 same-words-requires c κs = search needs
 
 returns : tie.Need-returns
-returns c = let s = c .before .before .before .before in same-part (s .args .img .now) (s .args .b) (s .args .pages) (s .pre .1) _ refl (s .args .marks .now) (c .same-words .result) (c .same-words .ensures)
+returns c =
+    let s = c .before .before .before .before in let a = s .args in
+    same-part (a .img .now) (a .b) (a .pages) (1024 * a .b + (a .pages + 15) / 16 - 1024 * a .b) (s .pre .1) _ refl (omega arith) (a .marks .now) (c .same-words .result) (c .same-words .ensures)
+
+add-z-2 : tie.Need-add-z-2
+add-z-2 c = search needs
 
 pub same-bits-spec : {M : Type 1} → statement M
 same-bits-spec =
@@ -34,6 +41,7 @@ same-bits-spec =
     (tie.spec
     mul-a
     add-z
+    add-z-2
     mul-same-words
     sub-same-words
     part-same-words-start

@@ -18,15 +18,25 @@ bit-pages-requires c κs = search needs
 
 mark-run-requires : tie.Need-mark-run-requires
 mark-run-requires c κs =
-    let s = c .before .before .before .before in let a = s .args in let v = vol (a .img .now) in let P = pages (a .img .now) in let m = a .marks .now in
+    let s = c .before .before .before .before .before in let a = s .args in let v = vol (a .img .now) in let P = pages (a .img .now) in let m = a .marks .now in
     (s .pre .0, bits-below P v (c .before .before .page-at .result) (c .bit-pages .result) (c .before .before .page-at .ensures .0) (c .bit-pages .ensures ∙ ap bitPages (s .pre .2)) (s .pre .1 .within .bits))
 
 returns : tie.Need-returns
 returns c =
-    let s = c .before .before .before .before .before in let a = s .args in let v = vol (a .img .now) in let P = pages (a .img .now) in let m = a .marks .now in
-    walked-bits P v (c .before .before .before .page-at .result) (c .before .bit-pages .result) (c .before .before .before .page-at .ensures .0) (c .before .bit-pages .ensures ∙ ap bitPages (s .pre .2))
-    m (a .visited) (c .mark-run .last .1 .0) (c .mark-run .result) (c .mark-run .ensures)
+    let s = c .before .before .before .before .before .before .before .before in let a = s .args in let v = vol (a .img .now) in let P = pages (a .img .now) in let m = a .marks .now in
+    walked-bits P v (c .before .before .before .before .before .page-at .result) (c .before .before .before .bit-pages .result) (c .before .before .before .before .before .page-at .ensures .0) (c .before .before .before .bit-pages .ensures ∙ ap bitPages (s .pre .2))
+    m (a .visited) (c .before .before .mark-run .last .1 .0) (c .before .before .mark-run .result) (c .before .before .mark-run .ensures)
+
+same-length : tie.Need-same-length
+same-length c = search needs
 
 pub mark-bits-spec : {M : Type 1} → statement M
 mark-bits-spec =
-    tie.close (tie.spec page-at-requires cast-start bit-pages-requires mark-run-requires returns)
+    tie.close
+    (tie.spec
+    page-at-requires
+    cast-start
+    bit-pages-requires
+    mark-run-requires
+    same-length
+    returns)

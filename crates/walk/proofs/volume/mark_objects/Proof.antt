@@ -22,7 +22,7 @@ object-positions-requires c κs = search needs
 
 mark-tree-requires : tie.Need-mark-tree-requires
 mark-tree-requires c κs =
-    let s = c .before .before .before .before .before in let a = s .args in let v = vol (a .img .now) in let P = pages (a .img .now) in let m = a .marks .now in
+    let s = c .before .before .before .before .before .before in let a = s .args in let v = vol (a .img .now) in let P = pages (a .img .now) in let m = a .marks .now in
     let e = object-root v (c .before .before .before .flags-at .result) (c .before .before .page-at .result) (c .before .before .before .flags-at .ensures .0) (c .before .before .page-at .ensures .0) in (
       s .pre .0,
       below-same v P _ _ e (s .pre .1 .within .objs),
@@ -31,8 +31,11 @@ mark-tree-requires c κs =
 
 returns : tie.Need-returns
 returns c =
-    let s = c .before .before .before .before .before .before in let a = s .args in let v = vol (a .img .now) in let P = pages (a .img .now) in let m = a .marks .now in
-    walked-root P m (a .visited) v _ _ (object-root v (c .before .before .before .before .flags-at .result) (c .before .before .before .page-at .result) (c .before .before .before .before .flags-at .ensures .0) (c .before .before .before .page-at .ensures .0)) (c .mark-tree .last .1 .0) (c .mark-tree .result) (c .mark-tree .ensures)
+    let s = c .before .before .before .before .before .before .before .before .before in let a = s .args in let v = vol (a .img .now) in let P = pages (a .img .now) in let m = a .marks .now in
+    walked-root P m (a .visited) v _ _ (object-root v (c .before .before .before .before .before .before .flags-at .result) (c .before .before .before .before .before .page-at .result) (c .before .before .before .before .before .before .flags-at .ensures .0) (c .before .before .before .before .before .page-at .ensures .0)) (c .before .before .mark-tree .last .1 .0) (c .before .before .mark-tree .result) (c .before .before .mark-tree .ensures)
+
+same-length : tie.Need-same-length
+same-length c = search needs
 
 pub mark-objects-spec : {M : Type 1} → statement M
 mark-objects-spec =
@@ -43,4 +46,5 @@ mark-objects-spec =
     cast-top
     object-positions-requires
     mark-tree-requires
+    same-length
     returns)

@@ -5,7 +5,7 @@ use native.Mathlib.Omega.{arith}
 use borrow.Author.Needs.{needs}
 use Rattle.book.specs.Words.{vol}
 use Rattle.book.specs.Trees.{upto, pageAt}
-use Rattle.book.specs.Bits.{bitFile, bitPages}
+use Rattle.book.specs.Bits.{bitFile}
 use Rattle.book.specs.Image.{pages}
 use Rattle.who.specs.Turns.{positions}
 use Rattle.who.proofs.Leasts.{least-by}
@@ -13,7 +13,6 @@ use Rattle.who.proofs.kinds.bits_from.Statement.{statement}
 use Rattle.who.proofs.kinds.bits_from.Tie as tie
 
 run-from-requires : tie.Need-run-from-requires
-unfolding bitPages
 run-from-requires c κs = let s = c .before .before .before in (s .pre .1, s .pre .2, omega (arith, c .bit-pages .ensures, s .pre .0 .whole .most))
 
 returns : tie.Need-returns

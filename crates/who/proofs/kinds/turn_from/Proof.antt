@@ -1,79 +1,63 @@
 -- `who::kinds::turn_from` meets its contract. Assumes nothing.
-use mathlib.Core.Path.{_≡_, refl, sym, _∙_}
-use Prim.Native.Nat.{ℕ, _+_, _-_, _*_, _/_, _%_, _≤_, _<_}
 use native.Mathlib.Omega.{arith}
 use borrow.Author.Needs.{needs}
-use Rattle.book.specs.Words.{vol}
-use Rattle.book.specs.Image.{pages}
-use Rattle.who.specs.Least.{None}
-use Rattle.who.specs.Turns.{turns, kindPage, turnPage}
-use Rattle.who.specs.Search.{Search}
-use Rattle.who.proofs.Leasts.{none-yet, least-end, part-at, part-none}
-use Rattle.who.proofs.Passing.{passed-none}
-use Rattle.who.proofs.ByKind.{kind-turn}
+use Rattle.who.proofs.Passing.{search-none}
 use Rattle.who.proofs.kinds.turn_from.Statement.{statement}
 use Rattle.who.proofs.kinds.turn_from.Tie as tie
 
-abbrev Inv-loop : tie.InvT-loop
-Inv-loop img ends x kinds p seen₀ tops₀ z y₀ seen tops y = (x ≤ y) × (y ≤ turns * kinds) × None (λ (i : ℕ). turnPage (pages img) (vol img) i ≡ p) x y × Search img p seen tops
+few-marks-requires : tie.Need-few-marks-requires
+few-marks-requires c κs = search needs
 
-abbrev μ-loop : tie.MeasureT-loop
-μ-loop img ends x kinds p seen₀ tops₀ z y₀ seen tops y = turns * kinds - y
+few-marks-requires-2 : tie.Need-few-marks-requires-2
+few-marks-requires-2 c κs = search needs
 
-no-marks-requires : tie.Need-no-marks-requires Inv-loop μ-loop
-no-marks-requires c κs = search needs
+slice-aggregate-kinds-from : tie.Need-slice-aggregate-kinds-from
+slice-aggregate-kinds-from c = search needs
 
-no-marks-requires-2 : tie.Need-no-marks-requires-2 Inv-loop μ-loop
-no-marks-requires-2 c κs = search needs
+slice-aggregate-kinds-from-2 : tie.Need-slice-aggregate-kinds-from-2
+slice-aggregate-kinds-from-2 c = search needs
 
-mul-z : tie.Need-mul-z Inv-loop μ-loop
-mul-z c = let s = c .before .before .before in omega (arith, s .pre .4)
+kinds-from-requires : tie.Need-kinds-from-requires
+kinds-from-requires c κs =
+    let s = c .before .before .before .before .before .before in
+    (search-none _ _ 16384 (omega (arith, s .pre .0 .whole .most)) (s .pre .0 .whole .most) (s .pre .2) _ _ (c .before .before .before .few-marks .ensures) (c .before .before .few-marks2 .ensures), s .pre .0, s .pre .1, s .pre .3, s .pre .4)
 
-loop-holds : tie.Need-loop-holds Inv-loop μ-loop
-loop-holds c = let nm = c .before in let s = nm .before .before in
-    (omega arith, s .pre .3, none-yet _ _ _ refl, record { few = s .pre .0 .whole .most; page = s .pre .2; blocks = passed-none _ _ (nm .no-marks .ensures); trees = passed-none _ _ (c .no-marks2 .ensures) })
+returns : tie.Need-returns
+returns c = search needs
 
-kind-from-requires : tie.Need-kind-from-requires Inv-loop μ-loop
-kind-from-requires c κs = let l = c .before .before .before in let s = l .before .before .before .before in
-    (l .loop .inv .3, s .pre .0, s .pre .1, omega (arith, s .pre .4), omega arith)
+most-marks-requires : tie.Need-most-marks-requires
+most-marks-requires c κs = search needs
 
-mul-result : tie.Need-mul-result Inv-loop μ-loop
-mul-result c = omega arith
+most-marks-requires-2 : tie.Need-most-marks-requires-2
+most-marks-requires-2 c κs = search needs
 
-add-result : tie.Need-add-result Inv-loop μ-loop
-add-result c = omega arith
+slice-aggregate-kinds-from-3 : tie.Need-slice-aggregate-kinds-from-3
+slice-aggregate-kinds-from-3 c = search needs
 
-returns : tie.Need-returns Inv-loop μ-loop
-returns c =
-    let kf = c .before in let lo = kf .before .before .before .before in let s = lo .before .before .before .before in
-    let a = s .args in let P = pages (a .img .now) in let v = vol (a .img .now) in let l = lo .loop in let k = l .y / turns in let r = kf .kind-from .result in
-    let at : l .y ≡ turns * k + l .y % turns = omega arith in
-    let into : (j : ℕ) → j < turns → turnPage P v (turns * k + j) ≡ a .p → kindPage P v k j ≡ a .p = λ j h q. sym (kind-turn P v k j h) ∙ q in
-    part-at (λ (y : ℕ). turnPage P v y ≡ a .p) (λ (y : ℕ). kindPage P v k y ≡ a .p) (turns * k) (l .y % turns) turns (a .x) (l .y) r (kf .kind-from .ensures .0) at into (l .inv .2) (turns * a .kinds) (l .inv .0) (omega arith) (c .if1 .taken) (λ q. kind-turn P v k r (c .if1 .taken) ∙ q)
+slice-aggregate-kinds-from-4 : tie.Need-slice-aggregate-kinds-from-4
+slice-aggregate-kinds-from-4 c = search needs
 
-mul-y : tie.Need-mul-y Inv-loop μ-loop
-mul-y c = omega arith
+kinds-from-requires-2 : tie.Need-kinds-from-requires-2
+kinds-from-requires-2 c κs =
+    let s = c .before .before .before .before .before .before in
+    (search-none _ _ 140733 (omega (arith, s .pre .0 .whole .most)) (s .pre .0 .whole .most) (s .pre .2) _ _ (c .before .before .before .most-marks .ensures) (c .before .before .most-marks2 .ensures), s .pre .0, s .pre .1, s .pre .3, s .pre .4)
 
-add-y : tie.Need-add-y Inv-loop μ-loop
-add-y c = omega arith
-
-loop-less : tie.Need-loop-less Inv-loop μ-loop
-loop-less c = omega arith
-
-loop-again : tie.Need-loop-again Inv-loop μ-loop
-loop-again c =
-    let kf = c .before in let lo = kf .before .before .before .before in let s = lo .before .before .before .before in
-    let a = s .args in let P = pages (a .img .now) in let v = vol (a .img .now) in let l = lo .loop in let k = l .y / turns in let r = kf .kind-from .result in
-    let at : l .y ≡ turns * k + l .y % turns = omega arith in
-    let into : (j : ℕ) → j < turns → turnPage P v (turns * k + j) ≡ a .p → kindPage P v k j ≡ a .p = λ j h q. sym (kind-turn P v k j h) ∙ q in
-    (omega arith, omega arith, part-none (λ (y : ℕ). turnPage P v y ≡ a .p) (λ (y : ℕ). kindPage P v k y ≡ a .p) (turns * k) (l .y % turns) turns (a .x) (l .y) r (kf .kind-from .ensures .0) at into (l .inv .2) (c .if1 .left), kf .kind-from .ensures .1)
-
-returns-2 : tie.Need-returns-2 Inv-loop μ-loop
-returns-2 c = let lo = c .before in let s = lo .before .before .before .before in let a = s .args in let l = lo .loop in
-    least-end (λ (i : ℕ). turnPage (pages (a .img .now)) (vol (a .img .now)) i ≡ a .p) (a .x) (turns * a .kinds) (l .y) (s .pre .3) (omega arith) (l .inv .2)
+returns-2 : tie.Need-returns-2
+returns-2 c = search needs
 
 pub turn-from-spec : {M : Type 1} → statement M
 turn-from-spec =
     tie.close
     (tie.spec
-    Inv-loop μ-loop no-marks-requires no-marks-requires-2 mul-z loop-holds kind-from-requires mul-result add-result returns mul-y add-y loop-less loop-again returns-2)
+    few-marks-requires
+    few-marks-requires-2
+    slice-aggregate-kinds-from
+    slice-aggregate-kinds-from-2
+    kinds-from-requires
+    returns
+    most-marks-requires
+    most-marks-requires-2
+    slice-aggregate-kinds-from-3
+    slice-aggregate-kinds-from-4
+    kinds-from-requires-2
+    returns-2)

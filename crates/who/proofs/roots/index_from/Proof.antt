@@ -15,14 +15,14 @@ use Rattle.who.proofs.roots.index_from.Statement.{statement}
 use Rattle.who.proofs.roots.index_from.Tie as tie
 
 returns : tie.Need-returns
-returns c = let i1 = c .before in let s = i1 .before .before in let a = s .args in let v = vol (a .img .now) in let t = c .top-from in (
+returns c = let i1 = c .before in let s = i1 .before .before .before .before in let a = s .args in let v = vol (a .img .now) in let t = c .top-from in (
   least-by (λ (i : ℕ). upto i 1 (a .top)) (λ (i : ℕ). classPage v (rootBy (a .flags) (a .top) (a .count)) 1 i) (a .p) (a .n) positions (t .result)
       (λ i h. sym (index-one v (a .flags) (a .top) (a .count) i (i1 .if1 .taken))) (t .ensures),
   s .pre .0,
 )
 
 level-from-requires : tie.Need-level-from-requires
-level-from-requires c κs = let b = c .before in let i2 = b .before in let s = i2 .before .before .before in let a = s .args in (
+level-from-requires c κs = let b = c .before in let i2 = b .before in let s = i2 .before .before .before .before .before in let a = s .args in (
   s .pre .0,
   slots-two (vol (a .img .now)) _ (a .flags) (a .top) (a .count) (s .pre .1 .below) (i2 .if2 .taken) 0 0 (omega arith) (omega arith) .0,
   end-two (vol (a .img .now)) (a .flags) (a .top) (a .count) (a .count) (b .subindex-slots .result) (i2 .if2 .taken) (s .pre .2) (b .subindex-slots .ensures .0) (b .subindex-slots .ensures .1),
@@ -30,16 +30,33 @@ level-from-requires c κs = let b = c .before in let i2 = b .before in let s = i
 )
 
 returns-2 : tie.Need-returns-2
-returns-2 c = let i2 = c .before .before .before in let s = i2 .before .before .before in let a = s .args in let v = vol (a .img .now) in let t = c .level-from in (
+returns-2 c = let i2 = c .before .before .before .before .before in let s = i2 .before .before .before .before .before in let a = s .args in let v = vol (a .img .now) in let t = c .before .before .level-from in (
   least-by (λ (i : ℕ). upto i 512 (slot v (a .top) i)) (λ (i : ℕ). classPage v (rootBy (a .flags) (a .top) (a .count)) 1 i) (a .p) (a .n) positions (t .result)
       (λ i h. sym (index-two v (a .flags) (a .top) (a .count) i (i2 .if2 .taken))) (t .ensures .0),
   t .ensures .1,
 )
 
 returns-3 : tie.Need-returns-3
-returns-3 c = let i1 = c .before in let s = i1 .before .before in let a = s .args in let v = vol (a .img .now) in
+returns-3 c = let i1 = c .before in let s = i1 .before .before .before .before in let a = s .args in let v = vol (a .img .now) in
     (least-zero (λ (i : ℕ). classPage v (rootBy (a .flags) (a .top) (a .count)) 1 i) (a .p) (a .n) positions (s .pre .0 .page) (s .pre .3) (λ i. index-other v (a .flags) (a .top) (a .count) i (i1 .if1 .left) (c .if2 .left)), s .pre .0)
+
+top-from-requires : tie.Need-top-from-requires
+top-from-requires c = search needs
+
+subindex-slots-requires : tie.Need-subindex-slots-requires
+subindex-slots-requires c = search needs
+
+same-length : tie.Need-same-length
+same-length c = search needs
 
 pub index-from-spec : {M : Type 1} → statement M
 index-from-spec =
-    tie.close (tie.spec (λ c κs. search needs) returns (λ c κs. search needs) level-from-requires returns-2 returns-3)
+    tie.close
+    (tie.spec
+    top-from-requires
+    returns
+    subindex-slots-requires
+    level-from-requires
+    same-length
+    returns-2
+    returns-3)

@@ -19,13 +19,13 @@ returns : tie.Need-returns
 returns c = let s = c .before .before in let a = s .args in told-master (pages (a .img .now)) (vol (a .img .now)) (a .p) (c .if1 .taken)
 
 test-requires : tie.Need-test-requires
-test-requires c κs = let s = c .before .before .before in let a = s .args in let v = vol (a .img .now) in let P = pages (a .img .now) in let g = c .page-at in let f = subst (BitsAt P v) (sym (g .ensures .0)) (bits-at P v (s .pre .0 .whole .most) (s .pre .0 .sound .r1)) in
-    (omega (arith, f .below), omega (arith, s .pre .1, s .pre .0 .whole .most))
+test-requires c κs = let s = c .before .before .before in let a = s .args in let v = vol (a .img .now) in let P = pages (a .img .now) in let g = c .page-at in let f = subst (BitsAt P v) (sym (g .ensures .0)) (bits-at P v (s .pre .0 .sound .r1)) in
+    omega (arith, f .fits, s .pre .1)
 
 returns-2 : tie.Need-returns-2
 returns-2 c =
     let pa = c .before .before in let s = pa .before .before .before in
-    let a = s .args in let v = vol (a .img .now) in let P = pages (a .img .now) in let g = pa .page-at in let f = subst (BitsAt P v) (sym (g .ensures .0)) (bits-at P v (s .pre .0 .whole .most) (s .pre .0 .sound .r1)) in
+    let a = s .args in let v = vol (a .img .now) in let P = pages (a .img .now) in let g = pa .page-at in let f = subst (BitsAt P v) (sym (g .ensures .0)) (bits-at P v (s .pre .0 .sound .r1)) in
     told-free P v (s .pre .0 .sound) (a .p) (s .pre .1) (sym (c .before .test .ensures .0 P f (s .pre .1)) ∙ c .if2 .taken)
 
 object-ends-requires : tie.Need-object-ends-requires
