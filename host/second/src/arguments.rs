@@ -1,6 +1,7 @@
 //! What a caller's numbers may be (number 2).
 
 use crate::entry::ENTRIES;
+use crate::image::MOST_PAGES;
 use crate::reply::{Refusal, BAD_ARGUMENT};
 
 /// A caller's number, where it is at most the bound: it is judged in its full
@@ -15,9 +16,10 @@ pub(crate) fn index(index: usize) -> Result<u32, Refusal> {
     at_most(index, ENTRIES - 1)
 }
 
-/// A page count, 1..16,384.
+/// A page count: at least 1, and at most as many as the largest volume has, however
+/// small this one is.
 pub(crate) fn count(count: usize) -> Result<u32, Refusal> {
-    at_most(count, 16_384).and_then(|count| if count == 0 { Err(BAD_ARGUMENT) } else { Ok(count) })
+    at_most(count, MOST_PAGES).and_then(|count| if count == 0 { Err(BAD_ARGUMENT) } else { Ok(count) })
 }
 
 /// A page number below P.

@@ -1,6 +1,30 @@
-//! The bit file: one bit for each page, 1 is reserved.
+//! The bit file: one bit for each page, 1 is reserved. It is a run of pages, as
+//! many as P wants (document 02, T-06). The words of a run lie one after the
+//! other, so here they are counted from its start on, over all of its pages.
 
-/// The word and the bit (from the right) of a page.
+use crate::image::PAGE_WORDS;
+
+/// Pages of the volume for which one page of the bit file has bits.
+pub const PAGES_TO_A_BIT_PAGE: u32 = 16 * PAGE_WORDS as u32;
+
+/// Pages of the bit file of a volume of so many.
+pub fn bit_pages(pages: u32) -> u32 {
+    pages.div_ceil(PAGES_TO_A_BIT_PAGE)
+}
+
+/// Whether a bit file that starts with this page lies in 1..P-1, all of it.
+pub fn lies_within(first: u32, pages: u32) -> bool {
+    first >= 1 && u64::from(first) + u64::from(bit_pages(pages)) <= u64::from(pages)
+}
+
+/// The page of the bit file, from 0, and the word of it, in which a page has its
+/// bit.
+pub fn page_and_word(page: u32) -> (u32, u32) {
+    (page / PAGES_TO_A_BIT_PAGE, page % PAGES_TO_A_BIT_PAGE / 16)
+}
+
+/// The word, from the start of the bit file, and the bit (from the right) of a
+/// page.
 pub fn bit_place(page: u32) -> (usize, u32) {
     (page as usize / 16, page % 16)
 }

@@ -1,7 +1,7 @@
 //! The check: the ten rules in order, each judged only where all lower ones
 //! hold, and where it is asked.
 
-use crate::bits::{bits_below, words_in_use};
+use crate::bits::{bits_below, lies_within, words_in_use};
 use crate::entry::{entry_words, file_pointer, is_used, object, stored_name, stored_type, user, EntryPlace, ENTRIES, ENTRIES_TO_A_PAGE};
 use crate::image::{all_zero, page_count, page_words, pair, BIT_POINTER, OBJECT_POINTER, UNRESERVED, USER_POINTER};
 use crate::name::Stored;
@@ -9,7 +9,7 @@ use crate::place::broken;
 use crate::pointer::{pages_held, slot, Pointer, SLOTS};
 use crate::reply::{Outcome, Refusal, Reply};
 use crate::rules::Asked;
-use crate::volume::volume_name;
+use crate::volume::{bit_run, bits, volume_name};
 use crate::walk::Walk;
 
 /// Checks the image; with 0, the value is the number of visits.
@@ -105,7 +105,7 @@ impl<'a> Parts<'a> {
     }
 
     fn judge(mut self) -> Result<Held, u32> {
-        let bit_page = self.rule_1()?;
+        self.rule_1()?;
         let (user_pointer, object_pointer) = self.rule_2()?;
         if let Pointer::Indexed(block) = user_pointer {
             let user_pages = self.rule_3(block)?;
@@ -117,7 +117,7 @@ impl<'a> Parts<'a> {
         self.rule_7(&mut walk)?;
         rule(8, !walk.met_twice())?;
         if self.asked.with_counts() {
-            self.rule_9(bit_page, walk.held())?;
+            self.rule_9(walk.held())?;
             self.rule_10()?;
         }
         Ok(Held {
@@ -132,12 +132,12 @@ impl<'a> Parts<'a> {
         (1..self.pages).contains(&page)
     }
 
-    /// The volume's name and the bit pointer; gives the bit page.
-    fn rule_1(&mut self) -> Result<u32, u32> {
-        let bit_page = pair(self.image, BIT_POINTER);
-        rule(1, volume_name(self.image).is_name() && self.in_range(bit_page))?;
-        self.system.push(bit_page);
-        Ok(bit_page)
+    /// The volume's name and the bit pointer, which with a flag is far above P.
+    fn rule_1(&mut self) -> Judged {
+        let first = pair(self.image, BIT_POINTER);
+        rule(1, volume_name(self.image).is_name() && lies_within(first, self.pages))?;
+        self.system.extend(bit_run(self.image));
+        Ok(())
     }
 
     /// The user pointer and the object pointer.
@@ -262,8 +262,8 @@ impl<'a> Parts<'a> {
     }
 
     /// The bit file against the pages that are held.
-    fn rule_9(&self, bit_page: u32, held: &[u16]) -> Judged {
-        let bits = page_words(self.image, bit_page);
+    fn rule_9(&self, held: &[u16]) -> Judged {
+        let bits = bits(self.image);
         rule(
             9,
             (0..words_in_use(self.pages)).all(|word| bits[word] & bits_below(self.pages, word) == held[word]),

@@ -4,10 +4,10 @@ use crate::arguments;
 use crate::bits::is_reserved;
 use crate::check::demand_sound;
 use crate::entry::{ENTRIES, ENTRIES_TO_A_PAGE};
-use crate::image::{page_count, pair, BIT_POINTER};
+use crate::image::page_count;
 use crate::pointer::{Pointer, SLOTS};
 use crate::reply::{kind, Holder, HolderReply, Refusal, Reply};
-use crate::volume::{all_files, bits, file_pages, object_index, object_page, object_pointer, user_page, user_pointer, Role};
+use crate::volume::{all_files, bit_run, bits, file_pages, object_index, object_page, object_pointer, user_page, user_pointer, Role};
 
 /// The holder of a page, or that it is free.
 pub fn who_holds(image: &[u16], page: usize) -> HolderReply {
@@ -33,8 +33,9 @@ fn try_who_holds(image: &[u16], page: usize) -> Result<Holder, Refusal> {
 /// is one at most.
 pub(crate) fn system_holders(image: &[u16], page: u32) -> impl Iterator<Item = Holder> + '_ {
     let is = |kind, held: bool| at(kind, u32::from(held), |_| true);
+    let bit_run = bit_run(image);
     is(kind::MASTER, page == 0)
-        .chain(is(kind::BIT_FILE, page == pair(image, BIT_POINTER)))
+        .chain(at(kind::BIT_FILE, bit_run.len() as u32, move |n| bit_run.start + n == page))
         .chain(is(kind::USER_INDEX, user_pointer(image) == Pointer::Indexed(page)))
         .chain(at(kind::USER_PAGE, ENTRIES / ENTRIES_TO_A_PAGE, move |n| {
             user_page(image, n) == Some(page)

@@ -6,6 +6,11 @@ use crate::reply::{demand, Refusal, BAD_LENGTH};
 /// Words of a page.
 pub const PAGE_WORDS: usize = 1024;
 
+/// Pages of the smallest and of the largest volume (document 02, T-06); the latter
+/// is the largest page count of a call, too.
+pub const FEWEST_PAGES: u32 = 8;
+pub const MOST_PAGES: u32 = 140_733;
+
 /// The directory entry, as words of page 0.
 pub const VOLUME_NAME: usize = 1008;
 pub const OBJECT_POINTER: usize = 1016;
@@ -13,12 +18,17 @@ pub const USER_POINTER: usize = 1018;
 pub const BIT_POINTER: usize = 1020;
 pub const UNRESERVED: usize = 1022;
 
-/// P, where the length is a whole number of pages within 8..16,384.
+/// P, where the length is a whole number of pages, not too few and not too many.
 pub(crate) fn page_count(image: &[u16]) -> Result<u32, Refusal> {
-    let pages = image.len() / PAGE_WORDS;
     demand(image.len().is_multiple_of(PAGE_WORDS), BAD_LENGTH)?;
-    demand((8..=16_384).contains(&pages), BAD_LENGTH)?;
-    Ok(pages as u32)
+    let pages = u32::try_from(image.len() / PAGE_WORDS).map_err(|_| BAD_LENGTH)?;
+    demand((FEWEST_PAGES..=MOST_PAGES).contains(&pages), BAD_LENGTH)?;
+    Ok(pages)
+}
+
+/// P of an image whose length is known to be right.
+pub fn pages_of(image: &[u16]) -> u32 {
+    (image.len() / PAGE_WORDS) as u32
 }
 
 /// A two-word number, the more significant word first.

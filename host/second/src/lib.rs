@@ -7,7 +7,9 @@
 //! where the image is broken (document 02, T-01). Free pages are searched a word
 //! of the bit file at a step (T-02). Short names end in an apostrophe (T-03);
 //! what old volumes have behind them, zeros, is converted to it and back (T-04).
-//! Stale bits and counts are salvaged from what the pointers hold (T-05).
+//! Stale bits and counts are salvaged from what the pointers hold (T-05). A
+//! volume has up to 140,733 pages, and a bit file of as many pages as it wants
+//! (T-06).
 
 #![forbid(unsafe_code)]
 

@@ -3,7 +3,7 @@
 use crate::bits::reserved_count;
 use crate::check::check;
 use crate::entry::{file_pointer, object, stored_name, stored_type, user};
-use crate::image::{pair, PAGE_WORDS};
+use crate::image::{pages_of, pair, PAGE_WORDS};
 use crate::name::Stored;
 use crate::pointer::Pointer;
 use crate::volume::{bits, files, unreserved, users, volume_name};
@@ -31,7 +31,7 @@ fn text(name: Stored) -> String {
 }
 
 fn list_sound(image: &[u16]) -> String {
-    let pages = (image.len() / PAGE_WORDS) as u32;
+    let pages = pages_of(image);
     let mut lines = format!(
         "VOLUME {} PAGES {pages} RESERVED {} UNRESERVED {}\n",
         text(volume_name(image)),

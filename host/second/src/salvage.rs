@@ -5,9 +5,9 @@
 use crate::bits::{bits_below, words_in_use};
 use crate::check::{demand_pointers, Held};
 use crate::entry::{user, ENTRIES};
-use crate::image::{page_count, page_start, pair, put_pair, BIT_POINTER, PAGE_WORDS, UNRESERVED};
+use crate::image::{page_count, page_start, put_pair, PAGE_WORDS, UNRESERVED};
 use crate::reply::{demand, Outcome, Reply, LIST_SHORT, OVERDRAWN};
-use crate::volume::user_entry;
+use crate::volume::{bit_run, user_entry};
 
 /// One changed word: word 0..1,023 of a page, its old and its new value.
 #[derive(Clone, Copy, Debug, Default, PartialEq, Eq)]
@@ -64,9 +64,10 @@ fn count(at: usize, value: u32) -> [Wanted; 2] {
     [(at, words[0]), (at + 1, words[1])]
 }
 
-/// The bit file's words: a bit for each held page; those from P on stay.
+/// The words of the bit file, of all its pages: a bit for each held page; those from
+/// P on stay.
 fn bits<'a>(image: &'a [u16], pages: u32, held: &'a Held) -> impl Iterator<Item = Wanted> + 'a {
-    let start = page_start(pair(image, BIT_POINTER));
+    let start = page_start(bit_run(image).start);
     (0..words_in_use(pages)).map(move |word| {
         let beyond = image[start + word] & !bits_below(pages, word);
         (start + word, held.bits[word] | beyond)

@@ -3,22 +3,18 @@
 //! they count as reserved.
 
 use crate::bits::{free_in_word, words_in_use};
-use crate::image::PAGE_WORDS;
+use crate::image::pages_of;
 use crate::volume;
 
 /// The lowest free page of a sound image from page `from` on.
 pub fn lowest_free(image: &[u16], from: u32) -> Option<u32> {
-    lowest_free_of(volume::bits(image), page_count(image), from)
+    lowest_free_of(volume::bits(image), pages_of(image), from)
 }
 
 /// The highest start with `n` free pages in a row on a sound image; `n` is
 /// not 0.
 pub fn highest_run(image: &[u16], n: u32) -> Option<u32> {
-    highest_run_of(volume::bits(image), page_count(image), n)
-}
-
-fn page_count(image: &[u16]) -> u32 {
-    (image.len() / PAGE_WORDS) as u32
+    highest_run_of(volume::bits(image), pages_of(image), n)
 }
 
 /// The lowest free page from page `from` on, by the bit file's words: full

@@ -1,12 +1,13 @@
 //! Reading a sound image: its users, its files, and where their pages are.
-//! Nothing here is asked before the check has passed.
+//! Nothing here is asked before the check has passed, or format has written it.
 
-use crate::bits::{release, reserve};
+use crate::bits::{bit_pages, release, reserve};
 use crate::entry::{entry_words, file_pointer, is_used, object, object_number, EntryPlace, ENTRIES};
-use crate::image::{page_words, page_words_mut, pair, BIT_POINTER, OBJECT_POINTER, UNRESERVED, USER_POINTER, VOLUME_NAME};
+use crate::image::{page_start, page_words_mut, pages_of, pair, BIT_POINTER, OBJECT_POINTER, UNRESERVED, USER_POINTER, VOLUME_NAME};
 use crate::name::{Stored, NAME_WORDS};
 use crate::pointer::{block_and_slot, index_blocks, slot, Pointer};
 use crate::search::lowest_free;
+use std::ops::Range;
 
 /// What a page of a file is to it.
 #[derive(Clone, Copy, PartialEq, Eq)]
@@ -33,13 +34,22 @@ pub(crate) fn unreserved(image: &[u16]) -> u32 {
     pair(image, UNRESERVED)
 }
 
-/// The bit file's words.
-pub(crate) fn bits(image: &[u16]) -> &[u16] {
-    page_words(image, pair(image, BIT_POINTER))
+/// The pages of the bit file.
+pub(crate) fn bit_run(image: &[u16]) -> Range<u32> {
+    let first = pair(image, BIT_POINTER);
+    first..first + bit_pages(pages_of(image))
 }
 
-fn bits_mut(image: &mut [u16]) -> &mut [u16] {
-    page_words_mut(image, pair(image, BIT_POINTER))
+/// The words of the bit file, of all its pages.
+pub(crate) fn bits(image: &[u16]) -> &[u16] {
+    let run = bit_run(image);
+    &image[page_start(run.start)..page_start(run.end)]
+}
+
+/// The same words, to change.
+pub(crate) fn bits_mut(image: &mut [u16]) -> &mut [u16] {
+    let run = bit_run(image);
+    &mut image[page_start(run.start)..page_start(run.end)]
 }
 
 /// A pointer where there is one.

@@ -18,8 +18,8 @@ fn index(chance: &mut Chance) -> usize {
 fn count(chance: &mut Chance) -> usize {
     let count = match chance.below(30) {
         0 => 0,
-        1 => 16_385,
-        2 => chance.below(16_384),
+        1 => 140_734,
+        2 => chance.below(140_734),
         _ => 1 + chance.below(12),
     };
     count as usize
@@ -138,6 +138,28 @@ fn small_volumes() {
     let expected = [0, 2, 4, 5, 6, 7, 9, 10, 11, 12];
     assert!(expected.iter().all(|&n| met[n] > 0), "numbers met: {met:?}");
     assert_eq!((met[1], met[3]), (0, 0));
+}
+
+/// Volumes with a bit file of more than one page, most of which are held by one
+/// contiguous file: what is left lies over the border of two bit pages.
+#[test]
+fn larger_packs() {
+    for (pages, below, above, seed) in [(16_400, 16_360, 0, 5), (32_790, 32_740, 10, 6)] {
+        let mut chance = Chance::new(seed);
+        let mut image = dock_from(pages, 1, pages - 25);
+        assert_eq!(create_contiguous(&mut image, 0, b"ABOVE", b"", 0, pages - below - above), done(0));
+        assert_eq!(create_contiguous(&mut image, 0, b"BELOW", b"", 0, below - 30), done(1));
+        assert_eq!(delete_file(&mut image, 0, 0), done(0));
+        let mut met = [0; 13];
+        for _ in 0..150 {
+            let before = pair(&image, 1022);
+            let (name, reply) = call(&mut image, &mut chance);
+            met[reply.number as usize] += 1;
+            assert_sound(&image, name);
+            assert!(reply.number == 0 || pair(&image, 1022) == before);
+        }
+        assert!(met[0] > 25 && met[3] == 0, "numbers met: {met:?}");
+    }
 }
 
 /// A file that passes 512 and 1,024 pages up and down by chance, another one

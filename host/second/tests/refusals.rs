@@ -82,7 +82,7 @@ fn number_2_for_indexes_and_counts() {
         refuses(&image, 2, |image| write_page(image, 0, bad, 0, &[0; 1024]));
         refuses(&image, 2, |image| note_open(image, 0, bad));
     }
-    for bad in [0, 16_385, LARGE, WIDE, WIDE + 1] {
+    for bad in [0, 140_734, LARGE, WIDE, WIDE + 1] {
         refuses(&image, 2, |image| give(image, 0, bad));
         refuses(&image, 2, |image| take(image, 0, bad));
         refuses(&image, 2, |image| create_contiguous(image, 0, b"NEW", b"", 0, bad));
@@ -92,6 +92,18 @@ fn number_2_for_indexes_and_counts() {
     }
     refuses(&image, 2, |image| write_page(image, 0, 0, 0, &[0; 1023]));
     refuses(&image, 2, |image| write_page(image, 0, 0, 0, &[0; 1025]));
+}
+
+/// The largest page count is that of the largest volume: on a small one, counts far
+/// above P are right arguments, and other numbers are given.
+#[test]
+fn a_count_is_not_held_against_p() {
+    let image = two_users();
+    for count in [33, 16_384, 16_385, 32_769, 65_536, 140_733] {
+        refuses(&image, 10, |image| give(image, 0, count));
+        refuses(&image, 9, |image| take(image, 0, count));
+        refuses(&image, 9, |image| create_contiguous(image, 0, b"NEW", b"", 0, count));
+    }
 }
 
 #[test]
@@ -165,10 +177,10 @@ fn number_4() {
     refuses(&image, 4, |image| address(image, 0, 255, 0));
     refuses(&image, 4, |image| address(image, 255, 0, 0));
     refuses(&image, 4, |image| delete_user(image, 2));
-    refuses(&image, 4, |image| give(image, 2, 16_384));
-    refuses(&image, 4, |image| take(image, 2, 16_384));
+    refuses(&image, 4, |image| give(image, 2, 140_733));
+    refuses(&image, 4, |image| take(image, 2, 140_733));
     refuses(&image, 4, |image| create_indexed(image, 2, b"NEW", b"", 0));
-    refuses(&image, 4, |image| create_contiguous(image, 2, b"NEW", b"", 0, 16_384));
+    refuses(&image, 4, |image| create_contiguous(image, 2, b"NEW", b"", 0, 140_733));
     refuses(&image, 4, |image| grow(image, 0, 1));
     refuses(&image, 4, |image| shrink(image, 1, 0));
     refuses(&image, 4, |image| delete_file(image, 0, 1));
@@ -185,7 +197,7 @@ fn number_5() {
     let image = two_users();
     refuses(&image, 5, |image| create_user(image, b"RAMS"));
     refuses(&image, 5, |image| create_indexed(image, 0, b"READS", b"DATA", 0));
-    refuses(&image, 5, |image| create_contiguous(image, 0, b"READS", b"DATA", 0, 16_384));
+    refuses(&image, 5, |image| create_contiguous(image, 0, b"READS", b"DATA", 0, 140_733));
     assert_eq!(create_indexed(&mut image.clone(), 0, b"READS", b"DAT", 0), done(1));
     assert_eq!(create_indexed(&mut image.clone(), 1, b"READS", b"DATA", 0), done(0));
 }

@@ -255,7 +255,7 @@ fn the_order_of_refusals() {
         refuses_with(&image[..length], 0, refused(1));
         refuses_with(&image[..length], 3, refused(1));
     }
-    refuses_with(&vec![0; 16_385 * 1024], 1, refused(1));
+    refuses_with(&vec![0; 140_734 * 1024], 1, refused(1));
 }
 
 /// 14 exactly if more words change than there are records; its value is 0.
@@ -316,6 +316,76 @@ fn the_smallest_and_the_largest() {
     let (reply, list) = salvaged(&mut image, 1_024);
     assert_eq!((reply, list), (done(1_024), bits));
     assert!(image == sound, "not the fresh volume");
+}
+
+/// Turns the bits of some pages over, ascending and each in a word of its own; gives
+/// what is told of their words once they are put right.
+fn stale_bits(image: &mut [u16], pages: &[usize]) -> Vec<Change> {
+    let bit_page = pair(image, 1020) as usize;
+    let turned = pages.iter().map(|&page| {
+        let (n, word) = (page / 16_384, page / 16 % 1_024);
+        let at = (bit_page + n) * 1024 + word;
+        let right = u32::from(image[at]);
+        image[at] ^= 1 << (page % 16);
+        change((bit_page + n) as u32, word as u32, u32::from(image[at]), right)
+    });
+    turned.collect()
+}
+
+/// Stale bits in several pages of the bit file (document 02, T-06), one of a bit page
+/// among them, with a used count and unreserved. The user's page lies before the bit
+/// file, then behind it.
+#[test]
+fn stale_bits_in_several_bit_pages() {
+    for (pages, first, user) in [(32_769, 16_420, 2), (140_733, 70_366, 2), (140_733, 1, 11)] {
+        let sound = dock_from(pages, first, 10);
+        let mut image = sound.clone();
+        let mut wrong = [first + 1, 16_383, 16_384, 32_767, 32_768, 40_000 % pages, pages - 1].to_vec();
+        wrong.sort_unstable();
+        wrong.dedup();
+        let bits = stale_bits(&mut image, &wrong);
+        put_pair(&mut image, user * 1024 + USED, 1 << 16);
+        put_pair(&mut image, UNRESERVED, 7 << 16 | 7);
+        let right = pair(&sound, UNRESERVED);
+        let mut told = vec![change(0, 1022, 7, right >> 16), change(0, 1023, 7, right & 0xFFFF)];
+        let used = [change(user as u32, 16, 1, 0)];
+        if user < first {
+            told.extend(used.into_iter().chain(bits));
+        } else {
+            told.extend(bits.into_iter().chain(used));
+        }
+        let stale = image.clone();
+        assert_eq!(salvaged(&mut image, told.len() - 1).0, refused(14));
+        assert!(image == stale, "{pages} pages from {first}: changed by a refusal");
+        assert_eq!(salvaged(&mut image, told.len()), (done(told.len() as u32), told));
+        assert!(image == sound, "{pages} pages from {first}: not the volume before");
+        assert_eq!(salvaged(&mut image, 0), (done(0), vec![]));
+    }
+}
+
+/// Every word of the bit file is wrong, the words behind the last one in use are no
+/// page's: the changes are 8,796, and with one record less it is 14.
+#[test]
+fn all_bits_of_the_largest() {
+    let sound = volume(140_733);
+    let mut image = sound.clone();
+    let bits = 70_366 * 1024;
+    image[bits..bits + 9 * 1024].iter_mut().for_each(|word| *word = !*word);
+    let stale = image.clone();
+    assert_eq!(salvaged(&mut image, 8_795), (refused(14), vec![LEFT; 8_795]));
+    assert!(image == stale);
+    let (reply, list) = salvaged(&mut image, 8_797);
+    assert_eq!((reply, list[8_796]), (done(8_796), LEFT));
+    for (word, told) in (0..).zip(&list[..8_796]) {
+        let (old, new) = (u32::from(stale[bits + word as usize]), u32::from(image[bits + word as usize]));
+        assert_eq!(*told, change(70_366 + word / 1_024, word % 1_024, old, new));
+    }
+    // Page 140,732 is bit 12 of its word: the three bits behind it stay.
+    assert_eq!((image[bits + 8_795], image[bits + 8_796]), (0xE000, 0xFFFF));
+    assert!(image[bits + 8_796..bits + 9 * 1024].iter().all(|&word| word == 0xFFFF));
+    image[bits + 8_795] = 0;
+    image[bits + 8_796..bits + 9 * 1024].fill(0);
+    assert!(image == sound);
 }
 
 /// Used counts are of data, index and subindex pages, contiguous files among

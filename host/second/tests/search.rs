@@ -10,13 +10,14 @@ fn sizes() -> impl Iterator<Item = u32> {
     (8..=40).chain(153..=176).chain(1_600..=1_616)
 }
 
-/// An image of so many pages with its bit file on page 1: words of the bit
+/// An image of so many pages with its bit file from page 1 on: words of the bit
 /// file all ones, all zeros or with some bits the other way.
 fn chance_bits(chance: &mut Chance, pages: u32) -> Vec<u16> {
     let mut image = vec![0; 1024 * pages as usize];
     put_pair(&mut image, 1020, 1);
     let full = 1 + chance.below(8);
-    for word in &mut image[1024..2048] {
+    let bits = 1024..1024 * (1 + pages.div_ceil(16_384) as usize);
+    for word in &mut image[bits] {
         *word = if chance.below(8) < full { u16::MAX } else { 0 };
         if chance.once_in(2) {
             for _ in 0..1 + chance.below(5) {
@@ -68,15 +69,44 @@ fn the_highest_run_is_found() {
     }
 }
 
-/// One run alone on a full volume: every start of a word, every length up to
-/// three whole words and parts on both sides; one page more is not there.
+/// A bit file of two and of three pages: both searches near each border.
 #[test]
-fn a_run_is_found_wherever_it_lies() {
-    let mut image = vec![0; 1024 * 160];
+fn searches_near_a_border() {
+    let chance = &mut Chance::new(23);
+    for (pages, border) in [
+        (16_385, 16_384),
+        (16_500, 16_384),
+        (32_769, 32_768),
+        (33_000, 16_384),
+        (33_000, 32_768),
+    ] {
+        for _ in 0..3 {
+            let mut image = chance_bits(chance, pages);
+            // Full words around the border, so that most searches go over it.
+            image[1024 + border as usize / 16 - 5..][..7].fill(u16::MAX);
+            for from in border - 200..(border + 40).min(pages) {
+                let by_bits = (from..pages).find(|&page| is_free(&image, page));
+                assert_eq!(lowest_free(&image, from), by_bits, "{pages} pages, from {from}");
+            }
+            image[1024 + border as usize / 16 - 5..][..7].fill(0);
+            for n in [1, 2, 15, 16, 17, 60, 80, 81, 96, 97, 112, 113, 128, 150, pages] {
+                let by_bits = highest_by_bits(&image, pages, n);
+                assert_eq!(highest_run(&image, n), by_bits, "{pages} pages, {n} in a row");
+            }
+        }
+    }
+}
+
+/// One run alone on a full volume, whose bits of these pages are all set: every
+/// start of a word, every length up to three whole words and parts on both sides;
+/// one page more is not there.
+fn a_run_is_found(pages: usize, starts: impl Iterator<Item = u32>) {
+    let mut image = vec![0; 1024 * pages];
     put_pair(&mut image, 1020, 1);
-    for start in 32..48 {
+    let bits = 1024..1024 * (1 + pages.div_ceil(16_384));
+    for start in starts {
         for n in 1..=80 {
-            image[1024..2048].fill(u16::MAX);
+            image[bits.clone()].fill(u16::MAX);
             for page in start..start + n {
                 image[1024 + page as usize / 16] ^= 1 << (page % 16);
             }
@@ -91,11 +121,25 @@ fn a_run_is_found_wherever_it_lies() {
     }
 }
 
+#[test]
+fn a_run_is_found_wherever_it_lies() {
+    a_run_is_found(160, 32..48);
+}
+
+/// The same where bit pages meet (document 02, T-06): the run is in one of them, or
+/// begins in one and goes on in the next.
+#[test]
+fn a_run_is_found_over_a_border() {
+    a_run_is_found(16_500, 16_384 - 81..16_384 + 17);
+    a_run_is_found(33_000, (32_768 - 81..32_768 + 17).step_by(3));
+    a_run_is_found(140_733, [16_383, 65_500, 65_535, 65_536, 131_071, 131_072, 140_653].into_iter());
+}
+
 /// A volume whose bits below P are all ones, those from P on all zeros: no
 /// page is free. With the last page free a run of one is there, none of two.
 #[test]
 fn bits_from_p_on_are_not_read() {
-    for pages in sizes() {
+    for pages in sizes().chain([16_384, 16_385, 16_399, 32_768, 32_769, 37_035, 140_733]) {
         let mut image = vec![0; 1024 * pages as usize];
         put_pair(&mut image, 1020, 1);
         (0..pages).for_each(|page| image[1024 + page as usize / 16] |= 1 << (page % 16));

@@ -2,7 +2,7 @@
 
 mod common;
 use common::*;
-use second::bits::bit_place;
+use second::bits::{bit_place, page_and_word};
 use second::entry::{object_number, EntryPlace};
 use second::pointer::{block_and_slot, pages_held, pages_to_grow, Pointer};
 use second::*;
@@ -11,6 +11,10 @@ use second::*;
 fn bits_count_from_the_right() {
     assert_eq!(bit_place(77), (4, 13));
     assert_eq!(bit_place(16_383), (1_023, 15));
+    assert_eq!(page_and_word(16_383), (0, 1_023));
+    // Document 02, T-06: the bits go on in the next page of the bit file.
+    assert_eq!(page_and_word(16_384), (1, 0));
+    assert_eq!((page_and_word(140_732), bit_place(140_732).1), ((8, 603), 12));
 }
 
 #[test]
@@ -69,10 +73,10 @@ fn opens_come_round() {
 
 #[test]
 fn lengths() {
-    for pages in [8, 16_384] {
-        assert_eq!(check(&volume(pages)), done(2));
+    for (pages, bit_pages) in [(8, 1), (16_384, 1), (16_385, 2), (140_733, 9)] {
+        assert_eq!(check(&volume(pages)), done(1 + bit_pages));
     }
-    for pages in [7, 16_385] {
+    for pages in [7, 140_734] {
         let mut image = vec![0; pages * 1024];
         assert_eq!(format(&mut image, b"YARD", None), refused(1));
         assert_eq!(check(&image), refused(1));

@@ -2,11 +2,11 @@
 //! where its bit does not say so.
 
 use super::Place;
-use crate::bits::{bit_place, is_reserved};
+use crate::bits::{is_reserved, page_and_word};
 use crate::entry::{file_pointer, object, ENTRIES, ENTRIES_TO_A_PAGE};
-use crate::image::{pair, BIT_POINTER};
+use crate::image::pair;
 use crate::pointer::{named, Pointer, SLOTS};
-use crate::volume::{all_files, bits, object_index, object_page, object_pointer, user_page, user_pointer};
+use crate::volume::{all_files, bit_run, bits, object_index, object_page, object_pointer, user_page, user_pointer};
 
 /// Word 0 of the lowest page with two holders or more.
 pub(super) fn rule_8(image: &[u16], pages: u32) -> Option<Place> {
@@ -15,15 +15,14 @@ pub(super) fn rule_8(image: &[u16], pages: u32) -> Option<Place> {
     Some(Place { page, word: 0 })
 }
 
-/// The bit file's word of the lowest page whose bit is wrong.
+/// The word of the lowest page whose bit is wrong, in the page of the bit file that
+/// has it.
 pub(super) fn rule_9(image: &[u16], pages: u32) -> Option<Place> {
     let holders = holders(image, pages);
     let page = (0..pages).find(|&page| is_reserved(bits(image), page) != (holders[page as usize] > 0))?;
-    let (word, _) = bit_place(page);
-    Some(Place {
-        page: pair(image, BIT_POINTER),
-        word: word as u32,
-    })
+    let (n, word) = page_and_word(page);
+    let page = bit_run(image).start + n;
+    Some(Place { page, word })
 }
 
 /// How many holders each page has, where rules 1 to 7 hold. A block that so
@@ -67,7 +66,8 @@ fn add_named(image: &[u16], blocks: &[u64], to: &mut [u64]) {
 
 /// The pages that no file holds, as often as they are held.
 fn system_pages(image: &[u16]) -> Vec<u32> {
-    let mut held = vec![0, pair(image, BIT_POINTER)];
+    let mut held = vec![0];
+    held.extend(bit_run(image));
     if let Pointer::Indexed(block) = user_pointer(image) {
         held.push(block);
     }

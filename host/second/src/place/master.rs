@@ -1,16 +1,17 @@
 //! The directory entry: rules 1 and 2.
 
 use super::{in_master, in_range, wrong};
+use crate::bits::lies_within;
 use crate::image::{pair, BIT_POINTER, OBJECT_POINTER, USER_POINTER, VOLUME_NAME};
 use crate::pointer::Pointer;
 use crate::reply::Place;
 use crate::volume::{object_pointer, user_pointer, volume_name};
 
-/// The volume's name, then the bit pointer, whose flags would make it a number
-/// far above P.
+/// The volume's name, then the bit pointer, from which the whole bit file has to
+/// lie in 1..P-1; flags would make it a number far above P.
 pub(super) fn rule_1(image: &[u16], pages: u32) -> Option<Place> {
-    let bit_page = pair(image, BIT_POINTER);
-    wrong(!volume_name(image).is_name(), in_master(VOLUME_NAME)).or_else(|| wrong(!in_range(bit_page, pages), in_master(BIT_POINTER)))
+    let first = pair(image, BIT_POINTER);
+    wrong(!volume_name(image).is_name(), in_master(VOLUME_NAME)).or_else(|| wrong(!lies_within(first, pages), in_master(BIT_POINTER)))
 }
 
 /// The object pointer, where the two disagree or it is wrong by itself; then

@@ -3,10 +3,25 @@
 
 use second::*;
 
-/// A formatted volume with the default bit page.
+/// A formatted volume with the bit file where it is by default.
 pub fn volume(pages: usize) -> Vec<u16> {
     let mut image = vec![0; pages * 1024];
     assert_eq!(format(&mut image, b"YARD", None), done(0));
+    image
+}
+
+/// The same with the bit file from the page told on.
+pub fn volume_from(pages: usize, first: usize) -> Vec<u16> {
+    let mut image = vec![0; pages * 1024];
+    assert_eq!(format(&mut image, b"YARD", Some(first)), done(0));
+    image
+}
+
+/// That volume with user 0, DOCK, who is given so many pages.
+pub fn dock_from(pages: usize, first: usize, given: usize) -> Vec<u16> {
+    let mut image = volume_from(pages, first);
+    assert_eq!(create_user(&mut image, b"DOCK"), done(0));
+    assert_eq!(give(&mut image, 0, given), done(0));
     image
 }
 
@@ -86,6 +101,12 @@ pub fn refuses(image: &[u16], number: u32, call: impl FnOnce(&mut [u16]) -> Repl
     let mut after = image.to_vec();
     assert_eq!(call(&mut after), refused(number));
     assert!(after == image, "a refused call changed the image");
+}
+
+/// Turns the bit of a page over, wherever in the bit file it is.
+pub fn flip_bit(image: &mut [u16], page: usize) {
+    let bit_page = pair(image, 1020) as usize + page / 16_384;
+    image[bit_page * 1024 + page / 16 % 1024] ^= 1 << (page % 16);
 }
 
 /// A two-word number of the image.
