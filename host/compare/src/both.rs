@@ -55,6 +55,11 @@ impl Both {
         Both { proved: start.clone(), second: start.clone(), steps: Vec::new(), start }
     }
 
+    /// An image of so many words that are all zero. Its copies are not written before a step writes them: of a large volume most words never are.
+    pub fn zeros(words: usize) -> Both {
+        Both { proved: vec![0; words], second: vec![0; words], steps: Vec::new(), start: vec![0; words] }
+    }
+
     /// Back to the image it began with.
     pub fn restart(&mut self) {
         self.proved.copy_from_slice(&self.start);

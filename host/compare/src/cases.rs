@@ -75,7 +75,7 @@ fn meant(text: &str) -> Vec<&str> {
 fn make(text: &str) -> Result<Both, String> {
     let lines = meant(text);
     let first = lines.first().ok_or("image is empty")?;
-    let mut both = Both::new(vec![0; words_of(first)?]);
+    let mut both = Both::zeros(words_of(first)?);
     for line in &lines[1..] {
         let (times, line) = repeated(line)?;
         for n in 0..times {
@@ -131,14 +131,14 @@ fn lendable(both: &Both, lent: Option<usize>) -> Result<(), String> {
 
 /// A line of expect: the answer is as wanted, so are the changes in a list, whose other records stay, and a refused call has changed nothing.
 fn expect(both: &mut Both, asked: &str, call: Step, wanted: &str, tally: &mut Tally) -> Result<(), String> {
-    let before = both.image().to_vec();
     let (answer, changes) = answer_and_changes(wanted)?;
+    let before = (answer.number != 0).then(|| both.image().to_vec());
     let Answered { call: given, list, .. } = ask(both, call, tally)?;
     if given != answer || list.len() < changes.len() || list != written(list.len(), &changes) {
         let told = list.get(..given.value as usize).unwrap_or_default();
         return Err(format!("`{asked}` gives {},{wanted} is expected", answer_and_changes_in_words(&given, told)));
     }
-    if given.number != 0 && both.image() != before {
+    if before.is_some_and(|before| both.image() != before) {
         return Err(format!("`{asked}` was refused and changed the image"));
     }
     Ok(())
