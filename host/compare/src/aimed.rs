@@ -27,7 +27,7 @@ impl Damage<'_> {
         if self.random.one_in(2) {
             return self.wrong_name(VOLUME_NAME, 8);
         }
-        let wrong = if self.random.one_in(5) { 0 } else { self.no_page(self.scene.bit_page) };
+        let wrong = self.no_bit_page();
         self.two(BIT_POINTER, wrong)
     }
 
@@ -209,7 +209,8 @@ impl Damage<'_> {
         match self.random.below(6) {
             0 => {
                 let page = self.held_page();
-                self.two(BIT_POINTER, if page == scene.bit_page { scene.user_index.max(1) } else { page })
+                let page = if scene.bit_run().contains(&page) { scene.user_index.max(1) } else { page };
+                self.two(BIT_POINTER, page.min(last_bit_start(scene.pages)))
             }
             1 => self.over_first(),
             2 => {
@@ -254,7 +255,7 @@ impl Damage<'_> {
     /// Rule 9: a bit the other way, two bits changed places, bits from the left, a free page in a slot, an empty page that is not reserved.
     fn bits(&mut self) -> Option<()> {
         let scene = self.scene;
-        let at = |page: u32| scene.bit_page as usize * PAGE + page as usize / 16;
+        let at = |page: u32| scene.bit_at(page);
         let free = scene.free_pages(self.image);
         match self.random.below(5) {
             0 => {

@@ -1,7 +1,7 @@
 //! One image in two copies: the proved library works on the one, the second program on the other, and after every step they are compared.
 
 use crate::calls::{Answer, Call};
-use crate::lists::{from_second, in_words, to_second};
+use crate::lists::{differing, from_second, in_words, to_second};
 use crate::script::{Played, Script};
 use crate::tally::Tally;
 use crate::text::Step;
@@ -52,18 +52,15 @@ pub struct Both {
 
 impl Both {
     pub fn new(start: Vec<u16>) -> Both {
-        Both { proved: start.clone(), second: start.clone(), steps: Vec::new(), start }
-    }
-
-    /// An image of so many words that are all zero. Its copies are not written before a step writes them: of a large volume most words never are.
-    pub fn zeros(words: usize) -> Both {
-        Both { proved: vec![0; words], second: vec![0; words], steps: Vec::new(), start: vec![0; words] }
+        Both { proved: copy_of(&start), second: copy_of(&start), steps: Vec::new(), start }
     }
 
     /// Back to the image it began with.
     pub fn restart(&mut self) {
-        self.proved.copy_from_slice(&self.start);
-        self.second.copy_from_slice(&self.start);
+        for copy in [&mut self.proved, &mut self.second] {
+            let differing = copy.chunks_mut(PAGE).zip(self.start.chunks(PAGE)).filter(|(page, start)| page != start);
+            differing.for_each(|(page, start)| page.copy_from_slice(start));
+        }
         self.steps.clear();
     }
 
@@ -83,8 +80,9 @@ impl Both {
 
     /// Sets all words in which another image differs from this one.
     pub fn put_image(&mut self, other: &[u16]) {
-        let words = self.second.iter().zip(other).enumerate().filter(|(_, (old, new))| old != new);
-        let words: Vec<(usize, u16)> = words.map(|(at, (_, new))| (at, *new)).collect();
+        let changes = differing(&self.second, other);
+        let place = |change: &Change| change.page as usize * PAGE + change.word as usize;
+        let words: Vec<(usize, u16)> = changes.iter().map(|change| (place(change), change.new as u16)).collect();
         self.put(&words);
     }
 
@@ -209,6 +207,14 @@ impl Both {
         let (start, steps) = (std::mem::take(&mut self.start), std::mem::take(&mut self.steps));
         Box::new(Disagreement { start, steps, what, proved, second, word })
     }
+}
+
+/// A copy of an image. Pages of zeros are not written: a large volume that has mostly such takes little time and memory.
+pub fn copy_of(image: &[u16]) -> Vec<u16> {
+    let mut copy = vec![0; image.len()];
+    let written = copy.chunks_mut(PAGE).zip(image.chunks(PAGE)).filter(|(_, page)| page.iter().any(|&word| word != 0));
+    written.for_each(|(to, page)| to.copy_from_slice(page));
+    copy
 }
 
 /// The page and the word of a place in an image.

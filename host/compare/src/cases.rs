@@ -1,7 +1,7 @@
 //! Cases: a folder for each image that is broken, or that a call refuses, with the answers that both programs must give.
 //! host/cases/README.md has the format.
 
-use crate::both::{Answered, Both};
+use crate::both::{copy_of, Answered, Both};
 use crate::calls::Answer;
 use crate::lists::written;
 use crate::report::told;
@@ -75,7 +75,7 @@ fn meant(text: &str) -> Vec<&str> {
 fn make(text: &str) -> Result<Both, String> {
     let lines = meant(text);
     let first = lines.first().ok_or("image is empty")?;
-    let mut both = Both::zeros(words_of(first)?);
+    let mut both = Both::new(vec![0; words_of(first)?]);
     for line in &lines[1..] {
         let (times, line) = repeated(line)?;
         for n in 0..times {
@@ -132,7 +132,7 @@ fn lendable(both: &Both, lent: Option<usize>) -> Result<(), String> {
 /// A line of expect: the answer is as wanted, so are the changes in a list, whose other records stay, and a refused call has changed nothing.
 fn expect(both: &mut Both, asked: &str, call: Step, wanted: &str, tally: &mut Tally) -> Result<(), String> {
     let (answer, changes) = answer_and_changes(wanted)?;
-    let before = (answer.number != 0).then(|| both.image().to_vec());
+    let before = (answer.number != 0).then(|| copy_of(both.image()));
     let Answered { call: given, list, .. } = ask(both, call, tally)?;
     if given != answer || list.len() < changes.len() || list != written(list.len(), &changes) {
         let told = list.get(..given.value as usize).unwrap_or_default();

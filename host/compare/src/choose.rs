@@ -4,7 +4,7 @@ use crate::calls::{Call, Data, NAMES};
 use crate::random::Random;
 use crate::scene::{File, Scene, User};
 use crate::volumes::nth;
-use crate::words::{ENDS, PAGE};
+use crate::words::{last_bit_start, ENDS, MOST_PAGES, PAGE, TO_A_BIT_PAGE};
 
 /// What a sequence of calls is mostly about; each is a weight for every call in the order of `calls::NAMES`.
 pub type Profile = [u32; NAMES.len()];
@@ -130,8 +130,8 @@ impl Choice<'_> {
         let any = self.below(self.scene.pages);
         match self.random.below(16) {
             0 => self.too_large(pages, any),
-            1 => *self.random.pick(&[0, 1, pages - 1, pages / 2]),
-            2 => self.scene.bit_page as usize,
+            1 => *self.random.pick(&[0, 1, pages - 1, pages / 2, last_bit_start(self.scene.pages) as usize]),
+            2 => self.random.between(self.scene.bit_run().start, self.scene.bit_run().end - 1) as usize,
             3 | 4 => self.some_file().map_or(1, |file| file.page() as usize),
             _ => any,
         }
@@ -223,11 +223,14 @@ impl Choice<'_> {
 
     /// A page count near a bound that matters.
     fn count_near(&mut self, bound: u32) -> usize {
-        let few = self.random.between(1, (bound / 2).clamp(1, 16_384)) as usize;
+        let few = self.random.between(1, (bound / 2).clamp(1, MOST_PAGES)) as usize;
         let bound = bound as usize;
         match self.random.below(12) {
-            0 if self.random.one_in(3) => *self.random.pick(&[0, 16_384]),
-            0 => self.too_large(16_385, few),
+            0 if self.random.one_in(3) => {
+                let one = TO_A_BIT_PAGE as usize;
+                *self.random.pick(&[0, 0, one, one + 1, MOST_PAGES as usize])
+            }
+            0 => self.too_large(MOST_PAGES as usize + 1, few),
             1 | 2 => bound,
             3 => bound + 1,
             4 => bound.saturating_sub(1),

@@ -61,6 +61,12 @@ pub enum Kind {
     SalvagesLarge,
     /// So many volumes, each damaged by chance several times and salvaged.
     Salvaged { volumes: u32 },
+    /// Searches where two pages of the bit file meet.
+    BorderSearches,
+    /// A fresh volume, with several bit pages or one: formats at each place, who holds them, limits of counts, wrong and stale bits in each.
+    Packs,
+    /// A volume whose pages below 65,536 are held by one file: all others, and what calls take, have a high word.
+    HighPages,
 }
 
 /// How a round gets its volume's size: one of its own, or by chance between two.
@@ -95,7 +101,8 @@ pub const CYCLE: &[(u32, Kind, Size)] = &[
     (8, Kind::Files, Size::Between(60, 520)),
     (1, Kind::AllFiles, Size::Of(16_384)),
     (2, Kind::Lengths, Size::Of(8)),
-    (1, Kind::Lengths, Size::Of(16_385)),
+    (1, Kind::Lengths, Size::Of(9)),
+    (1, Kind::Lengths, Size::Of(140_734)),
     (120, Kind::Scattered { calls: 25 }, Size::Between(8, 200)),
     (20, Kind::Scattered { calls: 25 }, Size::Of(8)),
     (6, Kind::Scattered { calls: 25 }, Size::Of(512)),
@@ -133,6 +140,19 @@ pub const CYCLE: &[(u32, Kind, Size)] = &[
     (3, Kind::Salvages { ground: Ground::LongFile, times: 2 }, Size::Of(1_100)),
     (1, Kind::SalvagesLarge, Size::Of(16_384)),
     (10, Kind::Salvaged { volumes: 5 }, Size::Between(8, 160)),
+    (1, Kind::BorderSearches, Size::Between(16_450, 16_600)),
+    (1, Kind::Packs, Size::Of(16_384)),
+    (1, Kind::Packs, Size::Of(16_385)),
+    (1, Kind::Packs, Size::Of(32_768)),
+    (1, Kind::Packs, Size::Of(32_769)),
+    (1, Kind::Packs, Size::Of(37_035)),
+    (1, Kind::Packs, Size::Of(140_733)),
+    (1, Kind::HighPages, Size::Of(140_733)),
+    (1, Kind::Sequence { calls: 20 }, Size::Between(16_385, 33_000)),
+    (1, Kind::Scattered { calls: 10 }, Size::Between(16_385, 33_000)),
+    (1, Kind::Scripts { scripts: 1, steps: 15 }, Size::Between(16_385, 33_000)),
+    (1, Kind::DamagedLarge, Size::Of(16_385)),
+    (1, Kind::SalvagesLarge, Size::Of(16_385)),
 ];
 
 /// One round: its kind and size by its number in the cycle.

@@ -39,7 +39,18 @@ impl<'a> Damage<'a> {
     /// A number that names no page of a volume, but looks like one that does.
     pub fn no_page(&mut self, page: u32) -> u32 {
         let pages = self.scene.pages;
-        *self.random.pick(&[pages, pages + 1, page + 65_536, page | I, page | S, page | S | I, page | 1 << 29, I - 1, u32::MAX])
+        let far = (page + 65_536).max(pages);
+        *self.random.pick(&[pages, pages + 1, far, page | I, page | S, page | S | I, page | 1 << 29, I - 1, u32::MAX])
+    }
+
+    /// A number that the bit file cannot start with: page 0, one that names no page, or one from which the run ends past the volume.
+    pub fn no_bit_page(&mut self) -> u32 {
+        let (pages, past) = (self.scene.pages, last_bit_start(self.scene.pages) + 1);
+        match self.random.below(5) {
+            0 => 0,
+            1 => self.random.between(past, pages),
+            _ => self.no_page(self.scene.bit_page),
+        }
     }
 
     pub fn some_file(&mut self, fits: impl Fn(&File) -> bool) -> Option<&'a File> {
@@ -84,7 +95,8 @@ impl<'a> Damage<'a> {
     /// A page that somebody holds.
     pub fn held_page(&mut self) -> u32 {
         let scene = self.scene;
-        let mut held = vec![scene.bit_page, scene.user_index, scene.object_block];
+        let mut held: Vec<u32> = scene.bit_run().collect();
+        held.extend([scene.user_index, scene.object_block]);
         held.extend(scene.user_pages.iter().chain(&scene.object_indexes).chain(&scene.object_pages).map(|&(_, page)| page));
         held.extend(scene.files.iter().filter(|file| file.pages > 0).map(|file| file.page()));
         held.retain(|&page| page != 0);
@@ -97,7 +109,8 @@ impl<'a> Damage<'a> {
             let at = self.place();
             let old = self.image[at];
             let pages = self.scene.pages as u16;
-            let near = [0, 1, pages - 1, pages, old.wrapping_add(1), old.wrapping_sub(1), 0x4000, 0x8000, 0xC000, u16::MAX, 2_048];
+            let near =
+                [0, 1, pages.wrapping_sub(1), pages, old.wrapping_add(1), old.wrapping_sub(1), 0x4000, 0x8000, 0xC000, u16::MAX, 2_048];
             let ended = [old & 0xFF, old & 0xFF00, old & 0xFF | 0x2700, old & 0xFF00 | 0x27];
             let value = match self.random.below(5) {
                 0 => old ^ 1 << self.random.below(16),
@@ -122,7 +135,10 @@ impl<'a> Damage<'a> {
                 file + self.random.below(32) as usize
             }
             4 | 5 => self.held_page() as usize * PAGE + self.random.below(40) as usize,
-            6 => scene.bit_page as usize * PAGE + self.random.below(scene.pages / 16 + 2).min(1_023) as usize,
+            6 => {
+                let words = bit_pages(scene.pages) * PAGE as u32;
+                scene.bit_at(0) + self.random.below((scene.pages / 16 + 2).min(words)) as usize
+            }
             _ => self.random.below(self.image.len() as u32) as usize,
         }
     }

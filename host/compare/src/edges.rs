@@ -1,6 +1,7 @@
 //! The edges of the searches for free pages (document 02, T-02), and how often each of them was met: by single calls, and by steps of runs.
 
 use crate::searched::Searched;
+use crate::words::TO_A_BIT_PAGE;
 use std::fmt::Write;
 
 /// How often at least each edge was met by single calls, and by steps of runs.
@@ -13,14 +14,25 @@ pub enum By {
     Step,
 }
 
-/// An edge: its words, and whether a call met it.
+/// An edge: its words, whether a call met it, and how often at least it was met.
 pub struct Edge {
     words: &'static str,
     met: fn(&Searched) -> bool,
+    least: [u64; 2],
 }
 
 const fn edge(words: &'static str, met: fn(&Searched) -> bool) -> Edge {
-    Edge { words, met }
+    Edge { words, met, least: LEAST }
+}
+
+/// An edge where two pages of the bit file meet (document 02, T-06): only large volumes have such, so they are met seldom.
+const fn border(words: &'static str, met: fn(&Searched) -> bool) -> Edge {
+    Edge { words, met, least: [1, 1] }
+}
+
+/// The page of the bit file that has a page's bit.
+fn bit_page(page: u32) -> u32 {
+    page / TO_A_BIT_PAGE
 }
 
 /// The bit of the last page of a run, by the page after it.
@@ -41,7 +53,7 @@ fn stretches_from(seen: &Searched, first: u32) -> Vec<(u32, u32)> {
 /// The edges. Two that one may look for are not among them, as no call comes to them. A search where no page below P is free: refusals 9 and
 /// 10 come first, as on a sound image there is a free page for each that is unreserved, or given and not used. And pages of an entry that
 /// break the highest run so that a lower one is left: they are the lowest free pages, so nothing is free below the last of them.
-pub const EDGES: [Edge; 45] = [
+pub const EDGES: [Edge; 53] = [
     edge("page after a full word", |s| s.single(|page| page >= 16)),
     edge("page after 100 full words", |s| s.single(|page| page >= 1_600)),
     edge("page P-1, P % 16 = 0", |s| s.pages % 16 == 0 && s.single(|page| page == s.pages - 1)),
@@ -104,7 +116,24 @@ pub const EDGES: [Edge; 45] = [
     edge("entry takes one page, of the only run: 11", |s| s.none(1) && s.runs_with(0)),
     edge("entry takes two pages, the first breaks the only run: 11", |s| s.none(2) && s.runs_with(0) && !s.runs_with(1)),
     edge("entry takes two pages, the second breaks the only run: 11", |s| s.none(2) && s.runs_with(1)),
+    border("page past a full bit page", |s| s.singles.first().is_some_and(|&page| bit_page(page) > 0)),
+    border("two pages of a step in two bit pages", |s| s.singles.windows(2).any(|two| bit_page(two[0]) != bit_page(two[1]))),
+    border("two pages of a step, side by side in two bit pages", |s| {
+        s.singles.windows(2).any(|two| bit_page(two[0]) != bit_page(two[1]) && two[1] == two[0] + 1)
+    }),
+    border("run over a bit page's end", |s| s.found(|first, end| bit_page(first) != bit_page(end - 1))),
+    border("run up to a bit page's end", |s| s.found(|_, end| end % TO_A_BIT_PAGE == 0 && end < s.pages)),
+    border("run from a bit page's start", |s| s.found(|first, _| first % TO_A_BIT_PAGE == 0)),
+    border("run below a full bit page", |s| s.found(|_, end| bit_page(end) < bit_page(s.pages - 1) && full_from(s, end))),
+    border("no run, one page too few over a bit page's end: 11", |s| s.none(s.singles.len()) && one_short(s)),
 ];
+
+/// Whether free pages over a bit page's end are one too few for the run.
+fn one_short(seen: &Searched) -> bool {
+    let wanted = seen.run.map_or(0, |run| run.count);
+    let over = |(first, length): &(u32, u32)| bit_page(*first) != bit_page(first + length - 1) && length + 1 == wanted;
+    Searched::stretches(&seen.left).iter().any(over)
+}
 
 /// Whether the last page was taken as a single one.
 fn last(seen: &Searched) -> bool {
@@ -153,11 +182,12 @@ impl Edges {
 
     /// What is demanded: words, how often it was met, and how often at least it must be.
     pub fn demands(&self) -> Vec<(String, u64, u64)> {
-        let two = |(words, met): (String, [u64; 2])| {
+        let two = |((words, met), least): ((String, [u64; 2]), [u64; 2])| {
             let name = |by: &str| format!("search {by}: {words}");
-            [(name("by a call"), met[0], LEAST[0]), (name("by a step"), met[1], LEAST[1])]
+            [(name("by a call"), met[0], least[0]), (name("by a step"), met[1], least[1])]
         };
-        self.all().into_iter().flat_map(two).collect()
+        let least = EDGES.iter().map(|edge| edge.least).chain(std::iter::repeat(LEAST));
+        self.all().into_iter().zip(least).flat_map(two).collect()
     }
 
     /// A line for each edge.

@@ -1,6 +1,6 @@
 //! Lists of changes that are lent to a salvage. They are filled before, so that a record which is not written is known.
 
-use crate::both::page_and_word;
+use crate::words::PAGE;
 use proved::Change;
 
 /// The n-th record as it is lent: no salvage writes such a place, and no two are alike.
@@ -25,12 +25,14 @@ pub fn written(room: usize, changes: &[Change]) -> Vec<Change> {
 
 /// The words in which an image differs from what it was before, as a salvage tells them.
 pub fn differing(before: &[u16], after: &[u16]) -> Vec<Change> {
-    let words = before.iter().zip(after).enumerate().filter(|(_, (old, new))| old != new);
-    let change = |(at, (&old, &new)): (usize, (&u16, &u16))| {
-        let (page, word) = page_and_word(at);
-        Change { page: page as u32, word: word as u32, old: old.into(), new: new.into() }
-    };
-    words.map(change).collect()
+    let pages = before.chunks(PAGE).zip(after.chunks(PAGE)).enumerate().filter(|(_, (old, new))| old != new);
+    pages.flat_map(|(page, (old, new))| differing_in(page as u32, old, new)).collect()
+}
+
+/// The same of one page.
+fn differing_in<'a>(page: u32, before: &'a [u16], after: &'a [u16]) -> impl Iterator<Item = Change> + 'a {
+    let words = (0..).zip(before.iter().zip(after)).filter(|(_, (old, new))| old != new);
+    words.map(move |(word, (&old, &new))| Change { page, word, old: old.into(), new: new.into() })
 }
 
 /// A list as the second program has it, and back.

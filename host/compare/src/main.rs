@@ -17,6 +17,8 @@ mod lists;
 mod meets;
 mod name_rounds;
 mod names;
+mod pack_rounds;
+mod packs;
 mod patterns;
 mod random;
 mod report;

@@ -5,7 +5,7 @@ use crate::choose::WIDE;
 use crate::scene::{File, Scene};
 use crate::script::{Asked, Part, Played, Script};
 use crate::tally::{Met, NUMBERS};
-use crate::words::OPENS;
+use crate::words::{MOST_PAGES, OPENS, TO_A_BIT_PAGE};
 
 /// What a call would meet on this image, with the number that it then answers.
 pub fn meets(image: &[u16], scene: &Scene, call: &Call) -> Vec<(Met, u32)> {
@@ -30,12 +30,30 @@ pub fn meets(image: &[u16], scene: &Scene, call: &Call) -> Vec<(Met, u32)> {
         }
         _ => {}
     }
+    met.extend(limit(scene, call));
     let mut whatever = wide(call);
     if scene.longest_run(image) == 0 {
         whatever.push(Met::FullVolume);
     }
     met.extend(whatever.into_iter().flat_map(|what| (0..NUMBERS as u32).map(move |number| (what, number))));
     met
+}
+
+/// A page count at one of its limits, with the numbers that the call may then answer: the largest is right on every volume.
+fn limit(scene: &Scene, call: &Call) -> Vec<(Met, u32)> {
+    let count = match call {
+        Call::Give { count, .. } | Call::Take { count, .. } | Call::CreateContiguous { count, .. } => *count,
+        _ => return Vec::new(),
+    };
+    let (most, one) = (MOST_PAGES as usize, TO_A_BIT_PAGE as usize);
+    let short = |what: Met| [9, 10, 11].map(|number| (what, number)).to_vec();
+    match count {
+        0 => vec![(Met::CountOf0, 2)],
+        _ if count == most => short(Met::MostCount),
+        _ if count == most + 1 => vec![(Met::AboveMost, 2)],
+        _ if count == one + 1 && scene.pages <= TO_A_BIT_PAGE => short(Met::AboveOneBitPage),
+        _ => Vec::new(),
+    }
 }
 
 /// The arguments of a call that 32 bits do not hold.

@@ -1,7 +1,9 @@
 //! Patterns of free pages, each aimed at an edge of the searches, with the call that meets it.
 
+mod borders;
 mod runs;
 
+pub use borders::Border;
 pub use runs::{Shape, SHAPES};
 
 use crate::calls::Call;
@@ -82,6 +84,12 @@ pub enum Aim {
     Tempting(u32, bool),
     Full,
     Chance,
+    /// The lowest free page has its bit in the last bit page, and so many pages are taken.
+    PastBitPage(u32),
+    /// Two pages of a step in the two last bit pages: side by side, or not.
+    TwoBitPages(bool),
+    /// Free pages where the last bit page begins; the entry takes so many pages.
+    AtBorder(Border, u32),
 }
 
 /// A volume's free pages being chosen.
@@ -112,6 +120,9 @@ impl Pattern<'_> {
             Aim::Tempting(place, lower) => self.tempting(place, lower),
             Aim::Full => self.ask_any(),
             Aim::Chance => self.chance(),
+            Aim::PastBitPage(takes) => self.past_bit_page(takes),
+            Aim::TwoBitPages(side_by_side) => self.two_bit_pages(side_by_side),
+            Aim::AtBorder(border, place) => self.at_border(border, place),
         };
         (self.wish(ask), ask)
     }

@@ -1,6 +1,6 @@
 //! The rounds of a run, each on one volume: what each kind does.
 
-use crate::both::{Answered, Both, Disagreement};
+use crate::both::{copy_of, Answered, Both, Disagreement};
 use crate::calls::{Call, NAMES};
 use crate::choose::{Choice, Profile, ASKING, FILES, GROWING, MIXED, PROFILES, RUNS, SHRINKING, USERS};
 use crate::converts::{all_filled, Way};
@@ -56,6 +56,9 @@ impl Round<'_> {
             Kind::Salvages { ground, times } => self.salvages(ground, pages, times),
             Kind::SalvagesLarge => self.salvages_large(pages),
             Kind::Salvaged { volumes } => self.salvaged(pages, volumes),
+            Kind::BorderSearches => self.border_searches(pages),
+            Kind::Packs => self.packs(pages),
+            Kind::HighPages => self.high_pages(pages),
         }
     }
 
@@ -74,9 +77,9 @@ impl Round<'_> {
     }
 
     /// One call, and what it met.
-    fn one(&mut self, both: &mut Both, scene: &Scene, lent: Option<usize>, call: Call) -> Result<Answered, Box<Disagreement>> {
+    pub fn one(&mut self, both: &mut Both, scene: &Scene, lent: Option<usize>, call: Call) -> Result<Answered, Box<Disagreement>> {
         let met = meets(both.image(), scene, &call);
-        let before = matches!(call, Call::Salvage { .. }).then(|| both.image().to_vec());
+        let before = matches!(call, Call::Salvage { .. }).then(|| copy_of(both.image()));
         let answered = both.lend(lent, call, self.tally)?;
         if let Some(before) = before {
             told_all(both, &before, lent, &answered)?;
@@ -101,7 +104,7 @@ impl Round<'_> {
     fn sequence(&mut self, pages: u32, calls: u32) -> Agreed {
         let mut both = Both::new(blank(&mut self.random, pages));
         both.call(Call::Check, self.tally)?;
-        let bit_page = if self.random.one_in(3) { None } else { Some(self.random.between(1, pages - 1) as usize) };
+        let bit_page = if self.random.one_in(3) { None } else { Some(self.random.between(1, last_bit_start(pages)) as usize) };
         both.call(Call::Format { name: b"YARD".to_vec(), bit_page }, self.tally)?;
         for part in 0..calls / 10 {
             let profile = if part == 0 { MIXED } else { *self.random.pick(&PROFILES) };
@@ -210,21 +213,24 @@ impl Round<'_> {
         Ok(())
     }
 
-    /// Every call with every wrong length of this image; then some with right ones.
+    /// Every call with every wrong length of this image, or, where it is one page too long, with one of those that are too long; then some
+    /// with right ones.
     fn lengths(&mut self, pages: u32) -> Agreed {
-        let words = pages as usize * PAGE;
+        let (words, most) = (pages as usize * PAGE, MOST_PAGES as usize * PAGE);
         let mut both = Both::new(vec![0; words]);
         let name = b"YARD".to_vec();
-        both.lend(Some(words.min(16_384 * PAGE)), Call::Format { name: name.clone(), bit_page: None }, self.tally)?;
+        both.lend(Some(words.min(most)), Call::Format { name: name.clone(), bit_page: None }, self.tally)?;
         let scene = Scene::read(both.image());
         for which in 0..NAMES.len() {
             let mut profile: Profile = [0; NAMES.len()];
             profile[which] = 1;
-            for lent in [words - 1, 16_384 * PAGE + 1, 7 * PAGE, 8 * PAGE - 1, 8 * PAGE + 1, 0] {
+            let lengths = match words > most {
+                true => vec![*self.random.pick(&[most + 1, words - 1, words])],
+                false => vec![words - 1, 7 * PAGE, 8 * PAGE - 1, 8 * PAGE + 1, 0],
+            };
+            for lent in lengths.into_iter().filter(|&lent| lent <= words) {
                 let call = Choice { random: &mut self.random, image: both.image(), scene: &scene }.call(&profile);
-                if lent <= words {
-                    both.lend(Some(lent), call, self.tally)?;
-                }
+                both.lend(Some(lent), call, self.tally)?;
             }
         }
         both.call(Call::Format { name, bit_page: Some(1) }, self.tally)?;

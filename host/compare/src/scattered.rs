@@ -2,13 +2,15 @@
 //! pages, object pages and index blocks, bits set past P, a subindexed object file with few users, any bits in word 0 of an entry, any bytes
 //! behind the end of a name.
 
+mod high;
 mod patterned;
 
+pub use high::{high, INDEXED, LOW_RUN, SHORT_RUN};
 pub use patterned::{patterned, Beyond, Crowd, Wish, FIRST, LATER, OTHER};
 
 use crate::fills::put_name;
 use crate::random::Random;
-use crate::volumes::some_name;
+use crate::volumes::{by_chance, some_name};
 use crate::words::*;
 
 /// A volume being made. Its words are all by chance at first; what must be zero is zeroed as it is taken.
@@ -46,8 +48,7 @@ pub fn scattered(random: &mut Random, pages: u32, users: u32, files: u32) -> Vec
 
 impl Making<'_> {
     fn new(random: &mut Random, pages: u32) -> Making<'_> {
-        let mut image = vec![0; pages as usize * PAGE];
-        random.fill(&mut image);
+        let image = by_chance(random, pages);
         let mut reserved = vec![false; pages as usize];
         let mut runs = Vec::new();
         for _ in 0..random.below(6).min(pages / 8) {
@@ -97,12 +98,28 @@ impl Making<'_> {
         page
     }
 
-    /// The volume's name and the bit page.
+    /// The volume's name and the bit file: of one page, or of a run of pages.
     fn master(&mut self) {
         let name = self.name(0);
         put_name(self.random, &mut self.image[VOLUME_NAME..VOLUME_NAME + 8], &name);
-        let page = self.system_page().expect("8 pages have room for the bit file");
-        put_pair(&mut self.image, BIT_POINTER, page);
+        let first = match bit_pages(self.pages) {
+            1 => self.system_page().expect("8 pages have room for the bit file"),
+            count => self.system_run(count),
+        };
+        put_pair(&mut self.image, BIT_POINTER, first);
+    }
+
+    /// A run of pages that nobody holds yet, for the system; gives the first.
+    fn system_run(&mut self, count: u32) -> u32 {
+        let mut is_free = vec![false; self.pages as usize];
+        self.free.iter().for_each(|&page| is_free[page as usize] = true);
+        let fits = |first: &u32| is_free[*first as usize..(first + count) as usize].iter().all(|&free| free);
+        let starts: Vec<u32> = (1..=self.pages - count).filter(fits).collect();
+        let first = *self.random.pick(&starts);
+        self.free.retain(|page| !(first..first + count).contains(page));
+        self.held.extend(first..first + count);
+        self.system += count;
+        first
     }
 
     fn name(&mut self, number: u32) -> Vec<u8> {

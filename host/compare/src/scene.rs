@@ -108,10 +108,20 @@ impl Scene {
         all.filter(|&(_, page)| self.in_range(page)).collect()
     }
 
+    /// The pages of the bit file.
+    pub fn bit_run(&self) -> std::ops::Range<u32> {
+        let first = self.bit_page.min(last_bit_start(self.pages));
+        first..first + bit_pages(self.pages)
+    }
+
+    /// Where the word lies that has a page's bit: the words of a run of pages follow on one another.
+    pub fn bit_at(&self, page: u32) -> usize {
+        self.bit_run().start as usize * PAGE + page as usize / 16
+    }
+
     /// Whether a page's bit is set.
     pub fn is_reserved(&self, image: &[u16], page: u32) -> bool {
-        let word = self.bit_page.min(self.pages - 1) as usize * PAGE + page as usize / 16;
-        image[word] >> (page % 16) & 1 == 1
+        image[self.bit_at(page)] >> (page % 16) & 1 == 1
     }
 
     /// The pages whose bits are clear.

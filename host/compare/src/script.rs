@@ -2,7 +2,7 @@
 
 use crate::calls::{Answer, Call};
 use crate::lent::Lent;
-use crate::words::PAGE;
+use crate::words::{MOST_PAGES, PAGE};
 
 /// The parts that a step names by their places in what is lent.
 #[derive(Clone, Copy, Debug, PartialEq, Eq, PartialOrd, Ord)]
@@ -110,7 +110,7 @@ impl Asked {
             Asked::Call(call) if is_step(call) => call.on_proved(image),
             _ => {
                 let pages = image.len() / PAGE;
-                let is_right = image.len().is_multiple_of(PAGE) && (8..=16_384).contains(&pages);
+                let is_right = image.len().is_multiple_of(PAGE) && (8..=MOST_PAGES as usize).contains(&pages);
                 Answer { number: if is_right { 2 } else { 1 }, ..Answer::default() }
             }
         }

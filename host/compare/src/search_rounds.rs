@@ -3,7 +3,7 @@
 use crate::both::Both;
 use crate::calls::Call;
 use crate::edges::By;
-use crate::patterns::{Aim, Ask, Gap, Pattern, Shape, SHAPES};
+use crate::patterns::{Aim, Ask, Border, Gap, Pattern, Shape, SHAPES};
 use crate::rounds::{Agreed, Round};
 use crate::scattered::{patterned, Beyond};
 use crate::script::{Asked, Script};
@@ -34,6 +34,18 @@ fn aims() -> Vec<Aim> {
 const LARGE: [Aim; 6] = [Aim::Bit(0, 1), Aim::Bit(15, 2), Aim::Bit(7, 3), Aim::Last(3, None), Aim::LowRun(0), Aim::LowRun(2)];
 const LARGEST: [Aim; 3] = [Aim::Last(2, None), Aim::LowRun(1), Aim::Run(Shape::Top, 1)];
 
+/// What is aimed at where two pages of the bit file meet.
+const BORDERS: [Aim; 8] = [
+    Aim::PastBitPage(2),
+    Aim::TwoBitPages(true),
+    Aim::TwoBitPages(false),
+    Aim::AtBorder(Border::Over, 1),
+    Aim::AtBorder(Border::UpTo, 0),
+    Aim::AtBorder(Border::From, 2),
+    Aim::AtBorder(Border::Below, 0),
+    Aim::AtBorder(Border::TooShort, 1),
+];
+
 impl Round<'_> {
     /// A volume for each aim, of about so many pages.
     pub fn searches(&mut self, pages: u32) -> Agreed {
@@ -57,6 +69,11 @@ impl Round<'_> {
     pub fn large_searches(&mut self, pages: u32) -> Agreed {
         let aims: &[Aim] = if pages < 16_384 { &LARGE } else { &LARGEST };
         aims.iter().try_for_each(|&aim| self.search(pages, aim))
+    }
+
+    /// The same where the second bit page begins, on volumes with not many pages more.
+    pub fn border_searches(&mut self, pages: u32) -> Agreed {
+        BORDERS.iter().try_for_each(|&aim| self.search(pages, aim))
     }
 
     /// One volume: the call that is aimed with, and some after it, by single calls; then the same by a run.
@@ -134,6 +151,19 @@ mod tests {
             assert!(round.searches(200).is_ok());
         }
         let never: Vec<String> = tally.edges.all().into_iter().filter(|(_, met)| met.contains(&0)).map(|(words, _)| words).collect();
-        assert_eq!(never, ["page after 100 full words", "three pages of a step", "run below 100 full words"]);
+        let large = ["page after 100 full words", "three pages of a step", "run below 100 full words"];
+        assert_eq!(never[..3], large);
+        assert!(never[3..].iter().all(|words| words.contains("bit page")), "{never:?}");
+    }
+
+    /// One round meets each edge of two bit pages, by calls and by steps.
+    #[test]
+    fn borders_are_met() {
+        let mut tally = Tally::default();
+        let mut round = Round { random: Random::of_round(10, 0), tally: &mut tally };
+        assert!(round.border_searches(16_500).is_ok());
+        let borders: Vec<(String, [u64; 2])> = tally.edges.all().into_iter().filter(|(words, _)| words.contains("bit page")).collect();
+        assert_eq!(borders.len(), BORDERS.len());
+        assert!(borders.iter().all(|(_, met)| !met.contains(&0)), "{borders:?}");
     }
 }

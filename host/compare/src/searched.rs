@@ -2,6 +2,7 @@
 
 use crate::calls::{Answer, Call};
 use crate::scene::Scene;
+use crate::words::{bit_pages, TO_A_BIT_PAGE};
 
 /// The bit file before a call.
 pub struct Before {
@@ -44,7 +45,8 @@ impl Before {
             Call::CreateContiguous { user, .. } => place_takes(&scene, *user as u32),
             _ => 0,
         };
-        Before { pages, free: (0..pages).map(is_free).collect(), beyond: (pages..word_end.min(16_384)).map(is_free).collect(), place }
+        let bits_end = bit_pages(pages) * TO_A_BIT_PAGE;
+        Before { pages, free: (0..pages).map(is_free).collect(), beyond: (pages..word_end.min(bits_end)).map(is_free).collect(), place }
     }
 
     /// With the image after the call and its answer.

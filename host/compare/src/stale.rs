@@ -49,15 +49,10 @@ pub fn right(sound: &[u16], scene: &Scene, damaged: &[u16]) -> Right {
     put_pair(&mut words, UNRESERVED, left as u32);
     scene.users.iter().for_each(|user| put_pair(&mut words, user.at + USED, user.used));
     for page in 0..scene.pages {
-        let (at, bit) = (bit_at(scene, page), 1 << (page % 16));
+        let (at, bit) = (scene.bit_at(page), 1 << (page % 16));
         words[at] = words[at] & !bit | sound[at] & bit;
     }
     Right::Words(words)
-}
-
-/// Where the word lies that has a page's bit.
-pub fn bit_at(scene: &Scene, page: u32) -> usize {
-    scene.bit_page as usize * PAGE + page as usize / 16
 }
 
 /// A volume being damaged.
@@ -76,7 +71,7 @@ impl<'a> Stale<'a> {
 
     /// A page's bit the other way.
     pub fn flip(&mut self, page: u32) {
-        self.image[bit_at(self.scene, page)] ^= 1 << (page % 16);
+        self.image[self.scene.bit_at(page)] ^= 1 << (page % 16);
     }
 
     pub fn some_page(&mut self) -> u32 {
@@ -95,7 +90,8 @@ impl<'a> Stale<'a> {
     /// Bits from P on, in the word that holds P and in those behind it, if there are any.
     pub fn beyond(&mut self, beyond: Beyond) {
         let words = self.scene.pages.div_ceil(16) as usize;
-        let all = bit_at(self.scene, 0)..bit_at(self.scene, 0) + PAGE;
+        let run = self.scene.bit_run();
+        let all = run.start as usize * PAGE..run.end as usize * PAGE;
         for at in all.clone().skip(words) {
             self.image[at] = self.random.word() | 1;
         }
@@ -209,7 +205,7 @@ impl<'a> Stale<'a> {
 
     /// One word of bits, or all of them, those from P on too.
     fn words_by_chance(&mut self) {
-        let first = bit_at(self.scene, 0);
+        let first = self.scene.bit_at(0);
         if self.random.one_in(6) {
             let words = self.scene.pages.div_ceil(16) as usize;
             let bits = &mut self.image[first..first + words];
@@ -220,7 +216,7 @@ impl<'a> Stale<'a> {
             }
         } else {
             let page = self.some_page();
-            self.image[bit_at(self.scene, page)] = self.random.word();
+            self.image[self.scene.bit_at(page)] = self.random.word();
         }
     }
 
@@ -266,7 +262,7 @@ mod tests {
         stale.beyond(Beyond::Ones);
         stale.give(&scene.users[1], scene.users[1].given + scene.unreserved);
         let Right::Words(words) = right(&sound, &scene, &stale.image) else { panic!("not overdrawn") };
-        assert_eq!((pair(&words, UNRESERVED), words[bit_at(&scene, 24)] >> 9), (0, 127));
+        assert_eq!((pair(&words, UNRESERVED), words[scene.bit_at(24)] >> 9), (0, 127));
         stale.give(&scene.users[1], scene.users[1].given + scene.unreserved + 1);
         assert_eq!(right(&sound, &scene, &stale.image), Right::Overdrawn { user: false, sum: true });
         stale.give(&scene.users[0], scene.users[0].used - 1);

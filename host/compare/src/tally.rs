@@ -5,6 +5,7 @@ use crate::calls::{Answer, NAMES};
 use crate::converts::ConvertEdges;
 use crate::edges::Edges;
 use crate::names::NameEdges;
+use crate::packs::PackEdges;
 use crate::salvages::SalvageEdges;
 use crate::script::{is_step, Asked, Played, Script};
 use crate::spots::{Spot, SPOTS};
@@ -31,7 +32,7 @@ const EACH_PAIR: u64 = 4;
 const EACH_CALL_DONE: u64 = 20;
 
 /// Sizes in pages that a run has on board.
-pub const SIZES: [u32; 10] = [8, 9, 16, 17, 32, 154, 512, 1_100, 2_048, 16_384];
+pub const SIZES: [u32; 15] = [8, 9, 16, 17, 32, 154, 512, 1_100, 2_048, 16_384, 16_385, 32_768, 32_769, 37_035, 140_733];
 
 /// Things that a run has met, beyond the numbers.
 #[derive(Clone, Copy, PartialEq, Eq, PartialOrd, Ord)]
@@ -55,6 +56,10 @@ pub enum Met {
     WidePosition,
     WidePage,
     WideCount,
+    CountOf0,
+    MostCount,
+    AboveMost,
+    AboveOneBitPage,
     RunWhole,
     RunRefused,
     RunOutOfRoom,
@@ -78,7 +83,7 @@ pub enum Met {
     SalvageNotAsCheck,
 }
 
-const MINIMUMS: [(Met, &str, u64); 40] = [
+const MINIMUMS: [(Met, &str, u64); 44] = [
     (Met::FilePast512, "files grown past 512 pages", 2),
     (Met::FilePast1024, "files grown past 1,024 pages", 2),
     (Met::BackTo512, "files shrunk back to 512 pages", 2),
@@ -98,6 +103,10 @@ const MINIMUMS: [(Met, &str, u64); 40] = [
     (Met::WidePosition, "positions from 2^32 up", 25),
     (Met::WidePage, "pages from 2^32 up", 25),
     (Met::WideCount, "counts from 2^32 up", 25),
+    (Met::CountOf0, "counts of 0, refused with 2", 20),
+    (Met::MostCount, "counts of 140,733, refused with 9, 10 or 11", 20),
+    (Met::AboveMost, "counts of 140,734, refused with 2", 20),
+    (Met::AboveOneBitPage, "counts of 16,385 on smaller volumes, refused with 9, 10 or 11", 10),
     (Met::RunWhole, "runs with all their steps done", 15),
     (Met::RunRefused, "runs that a refusal stopped before their last step", 50),
     (Met::RunOutOfRoom, "runs with room for fewer replies than steps, all done", 10),
@@ -154,6 +163,8 @@ pub struct Tally {
     pub converts: ConvertEdges,
     /// The edges of salvage.
     pub salvages: SalvageEdges,
+    /// The edges of larger packs.
+    pub packs: PackEdges,
     met: BTreeMap<Met, u64>,
 }
 
@@ -260,7 +271,7 @@ impl Tally {
             demand(words.to_string(), self.times(what), least);
         }
         let edges = self.edges.demands().into_iter().chain(self.names.demands()).chain(self.converts.demands());
-        edges.chain(self.salvages.demands()).for_each(|(words, met, least)| demand(words, met, least));
+        edges.chain(self.salvages.demands()).chain(self.packs.demands()).for_each(|(words, met, least)| demand(words, met, least));
         short
     }
 
@@ -290,6 +301,8 @@ impl Tally {
             + &self.converts.summary()
             + "\n"
             + &self.salvages.summary()
+            + "\n"
+            + &self.packs.summary()
     }
 
     /// How often each number was answered, and each rule was the lowest broken one: a line for a run of cases.
@@ -365,7 +378,7 @@ mod tests {
     use super::*;
 
     /// A run that met nothing is told so for each number, each rule twice, each call, each kind of place and pair of holders, each size,
-    /// each edge, and each edge of a search, of a name and of a conversion, most of them twice, and each of salvage.
+    /// each edge, and each edge of a search, of a name and of a conversion, most of them twice, and each of salvage and of larger packs.
     #[test]
     fn nothing_is_too_little() {
         let steps = NAMES.into_iter().filter(|name| can_be_a_step(name)).count();
@@ -373,6 +386,7 @@ mod tests {
             NUMBERS + step_numbers().count() + 10 + 10 + NAMES.len() + steps + SPOTS.len() + pairs().len() + SIZES.len() + MINIMUMS.len();
         let wanted = wanted + Edges::default().demands().len() + NameEdges::default().demands().len();
         let wanted = wanted + ConvertEdges::default().demands().len() + SalvageEdges::default().demands().len();
+        let wanted = wanted + PackEdges::default().demands().len();
         assert_eq!(Tally::default().too_little().len(), wanted);
     }
 }

@@ -6,13 +6,32 @@ use crate::random::Random;
 use crate::scene::Scene;
 use crate::words::*;
 
-/// An image of chance words, or of zeros.
-pub fn blank(random: &mut Random, pages: u32) -> Vec<u16> {
+/// Pages of the largest volume whose words are all by chance. Of a larger one every so many pages are, and those where bit pages mostly are or
+/// meet; the others are zero, as each word by chance would cost more than the calls on it.
+const DENSE: u32 = 17_000;
+const SOME: usize = 64;
+
+/// An image of words by chance.
+pub fn by_chance(random: &mut Random, pages: u32) -> Vec<u16> {
     let mut image = vec![0; pages as usize * PAGE];
-    if !random.one_in(4) {
+    if pages <= DENSE {
         random.fill(&mut image);
+        return image;
     }
+    let borders = (0..=bit_pages(pages)).map(|n| (n * TO_A_BIT_PAGE).min(pages));
+    let near: Vec<u32> = borders.chain([pages / 2]).collect();
+    let is_written = |page: usize| page.is_multiple_of(SOME) || near.iter().any(|&border| page.abs_diff(border as usize) < 16);
+    let written = image.chunks_mut(PAGE).enumerate().filter(|(page, _)| is_written(*page));
+    written.for_each(|(_, words)| random.fill(words));
     image
+}
+
+/// The same, or zeros.
+pub fn blank(random: &mut Random, pages: u32) -> Vec<u16> {
+    match random.one_in(4) {
+        true => vec![0; pages as usize * PAGE],
+        false => by_chance(random, pages),
+    }
 }
 
 /// A name for the n-th thing of a volume.
@@ -42,7 +61,7 @@ fn must(reply: second::Reply) -> usize {
 /// A formatted volume of chance words.
 pub fn formatted(random: &mut Random, pages: u32) -> Vec<u16> {
     let mut image = blank(random, pages);
-    let bit_page = if random.one_in(3) { None } else { Some(random.between(1, pages - 1) as usize) };
+    let bit_page = if random.one_in(3) { None } else { Some(random.between(1, last_bit_start(pages)) as usize) };
     must(second::format(&mut image, b"YARD", bit_page));
     refilled(random, &mut image);
     image
@@ -169,13 +188,12 @@ pub fn full_of_entries(random: &mut Random, length: u32, pointer: u32) -> Vec<u1
 pub fn all_files(random: &mut Random) -> Vec<u16> {
     let mut image = full_of_entries(random, 0, 0);
     let scene = Scene::read(&image);
-    let system = [0, scene.bit_page, scene.user_index, scene.object_block].into_iter();
+    let system = [0, scene.user_index, scene.object_block].into_iter().chain(scene.bit_run());
     let blocks = scene.user_pages.iter().chain(&scene.object_indexes).chain(&scene.object_pages).map(|&(_, page)| page);
     let held: Vec<u32> = system.chain(blocks).collect();
-    let bits = scene.bit_page as usize * PAGE;
-    image[bits..bits + PAGE].fill(0);
-    for page in &held {
-        image[bits + *page as usize / 16] |= 1 << (page % 16);
+    scene.bit_run().for_each(|page| image[page as usize * PAGE..][..PAGE].fill(0));
+    for &page in &held {
+        image[scene.bit_at(page)] |= 1 << (page % 16);
     }
     put_pair(&mut image, UNRESERVED, scene.pages - held.len() as u32);
     image

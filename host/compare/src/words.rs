@@ -3,6 +3,21 @@
 
 pub const PAGE: usize = 1024;
 
+/// Pages of the largest volume (document 02, T-06): also the largest page count that a call takes, on every volume.
+pub const MOST_PAGES: u32 = 140_733;
+
+/// Pages that have their bits in one page of the bit file.
+pub const TO_A_BIT_PAGE: u32 = 16_384;
+
+/// Pages of the bit file of a volume of so many, and the highest that it can start with.
+pub fn bit_pages(pages: u32) -> u32 {
+    pages.div_ceil(TO_A_BIT_PAGE)
+}
+
+pub fn last_bit_start(pages: u32) -> u32 {
+    pages - bit_pages(pages)
+}
+
 /// Words of the directory entry, in page 0.
 pub const VOLUME_NAME: usize = 1008;
 pub const OBJECT_POINTER: usize = 1016;

@@ -75,7 +75,7 @@ impl Pattern<'_> {
     }
 
     /// From the page after a run on: nothing, a stretch one page shorter with one page between, or shorter ones by chance.
-    fn shorter_above(&mut self, end: u32, count: u32) {
+    pub(super) fn shorter_above(&mut self, end: u32, count: u32) {
         if count == 1 || end + 2 > self.pages {
             return;
         }
@@ -166,11 +166,16 @@ impl Pattern<'_> {
             let first = self.random.between(8, self.pages - top - count - 1);
             self.set(first..first + count);
         }
+        self.single_pages(count + place);
+        Ask::Contiguous { place, count }
+    }
+
+    /// Single pages, the lowest ones, until so many are free.
+    pub(super) fn single_pages(&mut self, least: u32) {
         let mut page = self.random.between(1, 3);
-        while self.free_count() < count + place {
+        while self.free_count() < least {
             self.free[page as usize] = true;
             page += 2;
         }
-        Ask::Contiguous { place, count }
     }
 }

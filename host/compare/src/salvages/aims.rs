@@ -4,7 +4,7 @@ use super::*;
 use crate::damage::Damage;
 use crate::random::Random;
 use crate::scene::{File, Scene, User};
-use crate::stale::{bit_at, Stale};
+use crate::stale::Stale;
 use crate::words::*;
 
 /// The room of a list, by the changes that it would have to hold.
@@ -135,7 +135,7 @@ impl Stale<'_> {
 
     /// A used count, a bit, and with all three unreserved.
     fn beside_bits(&mut self, edge: Edge) -> Option<()> {
-        let bits = bit_at(self.scene, 0);
+        let bits = self.scene.bit_at(0);
         let half = self.some_half();
         self.some_used(half, |user| edge == Edge::AllThree || edge == Edge::UserPage(user.at < bits))?;
         if edge == Edge::AllThree {

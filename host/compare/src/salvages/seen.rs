@@ -4,7 +4,7 @@ use super::*;
 use crate::calls::Answer;
 use crate::lists::differing;
 use crate::scene::{File, Scene, User};
-use crate::stale::{bit_at, right, unused_users, Right};
+use crate::stale::{right, unused_users, Right};
 use crate::words::*;
 use proved::Change;
 
@@ -75,20 +75,22 @@ impl Seen<'_> {
 
     /// The changes of the bit file.
     fn bit_changes(&self) -> impl Iterator<Item = &Change> {
-        self.changes().iter().filter(|change| change.page == self.scene.bit_page)
+        let run = self.scene.bit_run();
+        self.changes().iter().filter(move |change| run.contains(&change.page))
     }
 
     fn bits(&self) -> Vec<Edge> {
         let mut edges = Vec::new();
-        let (pages, last) = (self.scene.pages, (self.scene.pages - 1) / 16);
+        let pages = self.scene.pages;
+        let last = self.scene.bit_at(pages - 1);
         for change in self.bit_changes() {
+            let is_last = change.page as usize * PAGE + change.word as usize == last;
             edges.extend((change.new & !change.old != 0).then_some(Edge::Set));
             edges.extend((change.old & !change.new != 0).then_some(Edge::Cleared));
-            if change.word == last && pages % 16 > 0 {
+            if is_last && pages % 16 > 0 {
                 edges.push(Edge::WordOfP(Rest::of(change.new as u16, pages)));
             }
-            let behind = bit_at(self.scene, 0) + last as usize + 1;
-            if change.word == last && pages % 16 == 0 && (pages == 16_384 || self.before[behind] != 0) {
+            if is_last && pages % 16 == 0 && (pages.is_multiple_of(TO_A_BIT_PAGE) || self.before[last + 1] != 0) {
                 edges.push(Edge::LastWord);
             }
         }
@@ -101,7 +103,7 @@ impl Seen<'_> {
     }
 
     fn users_edges(&self) -> Vec<Edge> {
-        let (users, bits) = (self.users(), bit_at(self.scene, 0));
+        let (users, bits) = (self.users(), self.scene.bit_at(0));
         let mut edges = Vec::new();
         for user in &users {
             edges.extend((user.index > 31).then_some(Edge::LaterUser));

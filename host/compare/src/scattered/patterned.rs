@@ -2,6 +2,7 @@
 
 use super::Making;
 use crate::random::Random;
+use crate::volumes::by_chance;
 use crate::words::*;
 
 /// The user whose files hold the pages: a new file of his takes no page for its entry. His first file is indexed and takes one page to grow,
@@ -58,8 +59,7 @@ pub fn patterned(random: &mut Random, wish: &Wish) -> Vec<u16> {
 impl Making<'_> {
     /// All pages but the free ones are still to be held.
     fn holding<'a>(random: &'a mut Random, wish: &Wish) -> Making<'a> {
-        let mut image = vec![0; wish.pages as usize * PAGE];
-        random.fill(&mut image);
+        let image = by_chance(random, wish.pages);
         let mut held = vec![true; wish.pages as usize];
         wish.free.iter().for_each(|&page| held[page as usize] = false);
         let mut left: Vec<u32> = (1..wish.pages).filter(|&page| held[page as usize]).collect();
@@ -67,7 +67,7 @@ impl Making<'_> {
         Making { random, image, pages: wish.pages, free: left, runs: Vec::new(), held: vec![0], system: 1, users: Vec::new() }
     }
 
-    fn crowd(&mut self, crowd: Crowd) {
+    pub(super) fn crowd(&mut self, crowd: Crowd) {
         let index = self.block().expect("a page for the user index");
         put_pair(&mut self.image, USER_POINTER, I | index);
         let users: Vec<u32> = match crowd {
@@ -136,7 +136,7 @@ impl Making<'_> {
 
     /// The bits from P on: they are not read, so the volume is sound with any.
     fn beyond(&mut self, wish: &Wish) {
-        if wish.pages == 16_384 {
+        if wish.pages.is_multiple_of(TO_A_BIT_PAGE) {
             return;
         }
         let at = pair(&self.image, BIT_POINTER) as usize * PAGE + wish.pages as usize / 16;

@@ -21,7 +21,7 @@ impl Damage<'_> {
     }
 
     pub(super) fn bit_pointer(&mut self) -> Option<Place> {
-        let wrong = if self.random.one_in(5) { 0 } else { self.no_page(self.scene.bit_page) };
+        let wrong = self.no_bit_page();
         self.two(BIT_POINTER, wrong).and(place(BIT_POINTER))
     }
 
@@ -161,7 +161,7 @@ impl Damage<'_> {
         let pages: Vec<u32> = (0..scene.pages).filter(|&page| scene.is_reserved(self.image, page) == held).collect();
         (!pages.is_empty()).then_some(())?;
         let page = *self.random.pick(&pages);
-        let at = scene.bit_page as usize * PAGE + page as usize / 16;
+        let at = scene.bit_at(page);
         self.word(at, self.image[at] ^ 1 << (page % 16)).and(place(at))
     }
 
