@@ -78,6 +78,11 @@ impl Both {
         }
     }
 
+    /// Sets a number of two words.
+    pub fn put_two(&mut self, at: usize, value: u32) {
+        self.put(&[(at, (value >> 16) as u16), (at + 1, value as u16)]);
+    }
+
     /// Sets all words in which another image differs from this one.
     pub fn put_image(&mut self, other: &[u16]) {
         let changes = differing(&self.second, other);

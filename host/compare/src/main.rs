@@ -12,6 +12,7 @@ mod damage;
 mod damaged_rounds;
 mod edges;
 mod fills;
+mod high_rounds;
 mod lent;
 mod lists;
 mod meets;

@@ -1,15 +1,11 @@
-//! Rounds of larger packs (document 02, T-06): calls on fresh volumes with one bit page and with several, and on one whose pages have high words.
-//! What must come out of a wrong bit or a wrong pointer is known from where it was put. Each call on a large volume takes long, so there are
-//! few, and none is made only by chance.
+//! Rounds of larger packs (document 02, T-06): calls on fresh volumes with one bit page and with several. What must come out of a wrong bit
+//! or a wrong pointer is known from where it was put. Each call on a large volume takes long, so there are few, and each has its aim.
 
 use crate::both::{Answered, Both, Disagreement};
-use crate::calls::{Answer, Call, Data};
-use crate::damage::Damage;
-use crate::packs::{Seen, HIGH};
+use crate::calls::{Answer, Call};
+use crate::packs::Seen;
 use crate::rounds::{Agreed, Round};
-use crate::scattered::{high, INDEXED, LOW_RUN, SHORT_RUN};
 use crate::scene::Scene;
-use crate::spots::SPOTS;
 use crate::volumes::blank;
 use crate::words::*;
 use proved::{Change, Holder, Place};
@@ -21,23 +17,6 @@ const LONG_RUN: u32 = 37_035;
 /// The kinds of holder that are told with rule 8 here.
 const BIT_FILE: u32 = 2;
 const FILE_DATA: u32 = 10;
-
-/// A page of every kind of holder from the user index on, with its kind.
-fn page_of_each_kind(image: &[u16], scene: &Scene) -> Vec<(u32, u32)> {
-    let slot = |block: u32| pair(image, slot_at(block, 0));
-    let subindexed = scene.files.iter().find(|file| file.is_subindexed()).map_or(0, |file| file.page());
-    let pages = [
-        scene.user_index,
-        scene.user_pages[0].1,
-        scene.object_block,
-        scene.object_indexes[0].1,
-        scene.object_pages[0].1,
-        subindexed,
-        slot(subindexed),
-        slot(slot(subindexed)),
-    ];
-    (3..).zip(pages).collect()
-}
 
 /// Number 3 with a rule and its place.
 fn unsound(rule: u32, page: u32, word: u32) -> Answer {
@@ -51,7 +30,7 @@ fn expect(both: &mut Both, given: Answer, wanted: Answer) -> Agreed {
 
 impl Round<'_> {
     /// A call, and the edges of packs that it met.
-    fn asked(&mut self, both: &mut Both, call: Call) -> Result<Answered, Box<Disagreement>> {
+    pub fn asked(&mut self, both: &mut Both, call: Call) -> Result<Answered, Box<Disagreement>> {
         let before = Scene::read(both.image());
         let answered = self.one(both, &before, None, call.clone())?;
         let seen = Seen { before: &before, call: &call, answered: &answered, image: both.image() };
@@ -82,7 +61,8 @@ impl Round<'_> {
         self.over_a_border(&mut both)
     }
 
-    /// Past each end, at each end, by default and anywhere. For the rest of the round it is one of these; where there will be a long run, the first.
+    /// Past each end, at each end, by default and anywhere. For the rest of the round it is one of these; where there will be a long run,
+    /// it is from page 1 on.
     fn formats(&mut self, both: &mut Both) -> Agreed {
         let pages = (both.image().len() / PAGE) as u32;
         let last = last_bit_start(pages);
@@ -113,7 +93,8 @@ impl Round<'_> {
     fn bit_pages_held(&mut self, both: &mut Both) -> Agreed {
         let scene = Scene::read(both.image());
         let run = scene.bit_run();
-        for position in BTreeSet::from([0, 1.min(run.len() as u32 - 1), run.len() as u32 - 1]) {
+        let last = bit_pages(scene.pages) - 1;
+        for position in BTreeSet::from([0, last.min(1), last]) {
             let page = run.start + position;
             let given = self.asked(both, Call::WhoHolds { page: page as usize })?.call;
             let holder = Holder { kind: BIT_FILE, position, ..Holder::default() };
@@ -142,7 +123,8 @@ impl Round<'_> {
         self.beyond(both, &scene)
     }
 
-    /// The bits of some pages, each in a word of its own, turned over: rule 9 is told in the lowest one's word, and a salvage puts them right.
+    /// The bits of some pages, each in a word of its own, turned over: rule 9 is told in the lowest one's word, and a salvage puts them
+    /// right.
     fn turned(&mut self, both: &mut Both, scene: &Scene, pages: &[u32]) -> Agreed {
         let change = |&page: &u32| {
             let (at, bit) = (scene.bit_at(page), 1 << (page % 16));
@@ -187,10 +169,10 @@ impl Round<'_> {
         }
         for (at, value, rule) in wrong {
             let right = pair(both.image(), at);
-            both.put(&[(at, (value >> 16) as u16), (at + 1, value as u16)]);
+            both.put_two(at, value);
             let given = self.asked(both, Call::WhoHolds { page: 0 })?.call;
             expect(both, given, unsound(rule, 0, at as u32))?;
-            both.put(&[(at, (right >> 16) as u16), (at + 1, right as u16)]);
+            both.put_two(at, right);
         }
         Ok(())
     }
@@ -212,8 +194,8 @@ impl Round<'_> {
         Ok(())
     }
 
-    /// A contiguous file that reaches over the last border, and where it is not too long over all pages of a bit page; then a file that grows
-    /// beside it. A bit of it on a bit page is rule 8; then it is deleted.
+    /// A contiguous file that reaches over the last border, or over all pages of a bit page; then a file that grows beside it, and is then
+    /// damaged; then the first is deleted.
     fn over_a_border(&mut self, both: &mut Both) -> Agreed {
         let scene = Scene::read(both.image());
         let border = match scene.pages {
@@ -229,95 +211,18 @@ impl Round<'_> {
         self.done(both, Call::DeleteFile { user: 0, file: 0 }, 0)
     }
 
-    /// The indexed file's data page is a bit page, the last.
+    /// The indexed file's data page is the last bit page: rule 8, until it is put right.
     fn on_a_bit_page(&mut self, both: &mut Both) -> Agreed {
         let scene = Scene::read(both.image());
         let Some(file) = scene.file(0, 1).filter(|file| file.is_indexed()) else { return Ok(()) };
         let (at, page) = (slot_at(file.page(), 0), scene.bit_run().end - 1);
         let right = pair(both.image(), at);
-        both.put(&[(at, (page >> 16) as u16), (at + 1, page as u16)]);
+        both.put_two(at, page);
         let given = self.asked(both, Call::Check)?.call;
         let first = Holder { kind: BIT_FILE, position: bit_pages(scene.pages) - 1, ..Holder::default() };
         let second = Holder { kind: FILE_DATA, file: 1, ..Holder::default() };
         expect(both, given, Answer { first, second, ..unsound(8, page, 0) })?;
-        both.put(&[(at, (right >> 16) as u16), (at + 1, right as u16)]);
+        both.put_two(at, right);
         Ok(())
-    }
-
-    /// A volume whose pages below 65,536 are one file's: calls on the others, and damage to them.
-    pub fn high_pages(&mut self, pages: u32) -> Agreed {
-        let image = high(&mut self.random, pages, HIGH);
-        let scene = Scene::read(&image);
-        let mut both = Both::new(image);
-        for (kind, page) in page_of_each_kind(both.image(), &scene) {
-            let holder = self.asked(&mut both, Call::WhoHolds { page: page as usize })?.call;
-            both.demand(holder.holder.kind == kind, &format!("the page's holder is not of kind {kind}"), holder)?;
-        }
-        self.broken_above(&mut both)?;
-        self.calls_above(&mut both)
-    }
-
-    /// Each call that gives or takes a page.
-    fn calls_above(&mut self, both: &mut Both) -> Agreed {
-        let (user, file, position) = (0, INDEXED, 0);
-        let data = Data { first: self.random.word(), length: PAGE };
-        let new = |name: &[u8]| (name.to_vec(), b"NEW".to_vec());
-        let ((name, kind), (other, same)) = (new(b"RUN"), new(b"READS"));
-        let calls = [
-            Call::Address { user, file, position },
-            Call::ReadPage { user, file, position },
-            Call::WritePage { user, file: SHORT_RUN, position, data },
-            Call::Grow { user, file },
-            Call::Shrink { user, file },
-            Call::Give { user, count: 1 },
-            Call::CreateContiguous { user, name, kind, created: 1, count: 33 },
-            Call::CreateIndexed { user: 70, name: other, kind: same, created: 1 },
-            Call::DeleteFile { user, file },
-            Call::DeleteFile { user, file: SHORT_RUN },
-            Call::DeleteFile { user, file: LOW_RUN },
-            Call::Take { user, count: HIGH as usize - 1 },
-        ];
-        for call in calls {
-            let given = self.asked(both, call)?.call;
-            both.demand(given.number == 0, "the call is not done", given)?;
-        }
-        Ok(())
-    }
-
-    /// A place for each of the rules 3 to 8, on pages with a high word.
-    fn broken_above(&mut self, both: &mut Both) -> Agreed {
-        let scene = Scene::read(both.image());
-        for rule in 3..=8 {
-            let spots: Vec<usize> = (0..SPOTS.len()).filter(|&n| SPOTS[n].rule == rule).collect();
-            let words = match spots.is_empty() {
-                true => self.twice_above(both.image(), &scene),
-                false => self.above(both.image(), &scene, &spots),
-            };
-            both.put(&words);
-            self.asked(both, Call::Check)?;
-            both.restart();
-        }
-        Ok(())
-    }
-
-    /// Damage of one of these kinds whose place is a page with a high word, as of all but the master: some is found at the latest after a few.
-    fn above(&mut self, base: &[u16], scene: &Scene, spots: &[usize]) -> Vec<(usize, u16)> {
-        for _ in 0..50 {
-            let spot = &SPOTS[*self.random.pick(spots)];
-            if let Some((words, place)) = spot.aimed(Damage::new(&mut self.random, base, scene)) {
-                if place.page >= HIGH {
-                    return words;
-                }
-            }
-        }
-        Vec::new()
-    }
-
-    /// The index block of the indexed file is its first data page, too.
-    fn twice_above(&mut self, base: &[u16], scene: &Scene) -> Vec<(usize, u16)> {
-        let block = scene.file(0, INDEXED).map_or(0, |file| file.page());
-        let mut damage = Damage::new(&mut self.random, base, scene);
-        damage.two(slot_at(block, 0), block);
-        damage.words
     }
 }

@@ -7,7 +7,8 @@ use crate::scattered::{Crowd, FIRST};
 use crate::volumes::by_chance;
 use crate::words::*;
 
-/// The first user's files: an indexed one, an empty one, a subindexed one, a contiguous one of few pages, and the one that holds the low pages.
+/// The first user's files are an indexed one, an empty one, a subindexed one, a contiguous one of few pages, and the one that holds the low
+/// pages.
 pub const INDEXED: usize = 0;
 pub const SHORT_RUN: usize = 3;
 pub const LOW_RUN: usize = 4;
