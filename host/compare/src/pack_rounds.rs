@@ -3,7 +3,7 @@
 
 use crate::both::{Answered, Both, Disagreement};
 use crate::calls::{Answer, Call};
-use crate::packs::Seen;
+use crate::packs::{Seen, HIGH};
 use crate::rounds::{Agreed, Round};
 use crate::scene::Scene;
 use crate::volumes::blank;
@@ -200,6 +200,7 @@ impl Round<'_> {
         let scene = Scene::read(both.image());
         let border = match scene.pages {
             LONG_RUN => TO_A_BIT_PAGE,
+            MOST_PAGES => HIGH,
             pages => (pages - 1) / TO_A_BIT_PAGE * TO_A_BIT_PAGE,
         };
         let longest = scene.longest_run(both.image()).saturating_sub(1);

@@ -46,7 +46,9 @@ pub enum High {
     Read,
     Write,
     Grow,
+    /// The first page of a new contiguous file, and its page count, whose bytes then are above 2^27.
     Run,
+    Length,
     /// The pages of a file that is deleted.
     Freed,
     Given,
@@ -91,8 +93,8 @@ impl Edge {
         all.extend([Edge::MendedSeveral, Edge::RunOver, Edge::RunWhole]);
         all.extend(KINDS.map(|kind| Edge::High(High::Holder(kind))));
         all.extend((3..=8).map(|rule| Edge::High(High::Place(rule))));
-        let of_calls = [High::Address, High::Read, High::Write, High::Grow, High::Run, High::Freed, High::Given, High::Used];
-        all.extend(of_calls.map(Edge::High));
+        all.extend([High::Address, High::Read, High::Write, High::Grow, High::Run].map(Edge::High));
+        all.extend([High::Length, High::Freed, High::Given, High::Used].map(Edge::High));
         all
     }
 
@@ -130,6 +132,7 @@ impl High {
             High::Write => "the page that is written".to_string(),
             High::Grow => "the page that grow gives".to_string(),
             High::Run => "the first page of a contiguous file".to_string(),
+            High::Length => "the pages of a contiguous file".to_string(),
             High::Freed => "the pages of a deleted file".to_string(),
             High::Given => "the pages given to a user".to_string(),
             High::Used => "the pages used by a user".to_string(),

@@ -95,8 +95,9 @@ impl Seen<'_> {
         let Some(first) = Scene::read(self.image).file(user, file).map(|file| file.page()) else { return Vec::new() };
         let (from, to) = (first / TO_A_BIT_PAGE, (first + count - 1) / TO_A_BIT_PAGE);
         let whole = (first + count) / TO_A_BIT_PAGE > first.div_ceil(TO_A_BIT_PAGE);
-        let met = [(Edge::RunOver, from != to), (Edge::RunWhole, whole), (Edge::High(High::Run), first >= HIGH)];
-        met.into_iter().filter(|(_, met)| *met).map(|(edge, _)| edge).collect()
+        let high = [(High::Run, first), (High::Length, count)].map(|(high, number)| (Edge::High(high), number >= HIGH));
+        let met = [(Edge::RunOver, from != to), (Edge::RunWhole, whole)].into_iter().chain(high);
+        met.filter(|(_, met)| *met).map(|(edge, _)| edge).collect()
     }
 
     /// What was above 65,535 of a call that is done.
