@@ -133,12 +133,18 @@ static uint16_t *blank(size_t pages)
     return img;
 }
 
-/* P = 8 and 16,384 pass shape; 7 and 16,385 get 1. */
+static int is_change(nord_change got, uint32_t page, uint32_t word, uint32_t old_value, uint32_t new_value)
+{
+    return got.page == page && got.word == word && got.old_value == old_value && got.new_value == new_value;
+}
+
+/* P = 8 and 140,733 pass shape; 7 and 140,734 get 1. Pages that no call touches cost no memory. */
 static void lengths(void)
 {
-    uint16_t *img = blank(16385);
+    size_t most = NORD_MOST_PAGES;
+    uint16_t *img = blank(most + 1);
     refused("7 pages get 1", nord_format_default(img, 7 * PAGE, TEXT("YARD")), NORD_SIZE);
-    refused("16,385 pages get 1", nord_format_default(img, 16385 * (size_t)PAGE, TEXT("YARD")), NORD_SIZE);
+    refused("140,734 pages get 1", nord_format_default(img, (most + 1) * PAGE, TEXT("YARD")), NORD_SIZE);
     refused("8 pages and a word get 1", nord_check(img, 8 * PAGE + 1), NORD_SIZE);
     refused("no words get 1", nord_check(img, 0), NORD_SIZE);
     told("refused formats changed nothing", img[1008] == 0 && img[1021] == 0 && img[1023] == 0);
@@ -146,7 +152,95 @@ static void lengths(void)
     done("8 pages: check visits 2", nord_check(img, 8 * PAGE), 2);
     done("16,384 pages pass shape", nord_format(img, 16384 * (size_t)PAGE, TEXT("YARD"), 16383), 0);
     done("16,384 pages: check visits 2", nord_check(img, 16384 * (size_t)PAGE), 2);
+    refused("16,385 pages, one bit page too far: 2", nord_format(img, 16385 * (size_t)PAGE, TEXT("YARD"), 16384), NORD_ARGUMENT);
+    done("16,385 pages pass shape", nord_format(img, 16385 * (size_t)PAGE, TEXT("YARD"), 16383), 0);
+    done("16,385 pages: check visits 3", nord_check(img, 16385 * (size_t)PAGE), 3);
     free(img);
+    told("bit pages", NORD_BIT_PAGES(8) == 1 && NORD_BIT_PAGES(16384) == 1 && NORD_BIT_PAGES(16385) == 2 && NORD_BIT_PAGES(37035) == 3);
+}
+
+/* The pack of 288 MB: nine bit pages. */
+static void largest_pack(void)
+{
+    size_t pages = NORD_MOST_PAGES, words = pages * PAGE;
+    uint16_t *img = blank(pages);
+    done("140,733 pages pass shape", nord_format_default(img, words, TEXT("PACK")), 0);
+    told("bit pages 70,366 to 70,374, unreserved 140,723", two(img, 1020) == 70366 && NORD_BIT_PAGES(pages) == 9 && unreserved(img) == 140723);
+    done("check visits 10", nord_check(img, words), 10);
+    holds("the first bit page", nord_who_holds(img, words, 70366), NORD_BIT_FILE, 0, 0, 0);
+    holds("the ninth bit page", nord_who_holds(img, words, 70374), NORD_BIT_FILE, 0, 0, 8);
+    holds("the page after them", nord_who_holds(img, words, 70375), NORD_FREE, 0, 0, 0);
+    holds("page 140,732", nord_who_holds(img, words, 140732), NORD_FREE, 0, 0, 0);
+    holds_not("page 140,733: 2", nord_who_holds(img, words, 140733), NORD_ARGUMENT, 0, 0, 0);
+    img[70374 * (size_t)PAGE + 603] = 1 << 12;
+    broken("the bit of page 140,732: page 70,374, word 603", nord_check(img, words), NORD_RULE_BITS, 70374, 603);
+    img[70374 * (size_t)PAGE + 603] = 7 << 13, img[70374 * (size_t)PAGE + 1023] = 1;
+    done("bits from page 140,733 on are nobody's", nord_check(img, words), 10);
+    refused("bit pages from 140,725 on: 2", nord_format(img, words, TEXT("PACK"), 140725), NORD_ARGUMENT);
+    refused("bit pages from 0 on: 2", nord_format(img, words, TEXT("PACK"), 0), NORD_ARGUMENT);
+    done("bit pages from 140,724 on", nord_format(img, words, TEXT("PACK"), 140724), 0);
+    holds("the last page is the ninth bit page", nord_who_holds(img, words, 140732), NORD_BIT_FILE, 0, 0, 8);
+    told("140,733 pages need 9,310 changes at most", NORD_CHANGES(140733) == 9310);
+    free(img);
+}
+
+/* The pack of 75 MB with its first user: bit pages 18,517 to 18,519. */
+static uint16_t *pack75(void)
+{
+    uint16_t *img = blank(37035);
+    size_t words = 37035 * (size_t)PAGE;
+    done("37,035 pages by default", nord_format_default(img, words, TEXT("PACK")), 0);
+    told("bit pages 18,517 to 18,519, unreserved 37,031", two(img, 1020) == 18517 && unreserved(img) == 37031);
+    done("check visits 4", nord_check(img, words), 4);
+    done("first user is 0", nord_create_user(img, words, TEXT("DOCK")), 0);
+    told("unreserved 37,028", unreserved(img) == 37028);
+    return img;
+}
+
+/* Page counts and files past the first bit page. */
+static void counts_of_a_pack(uint16_t *img, size_t words)
+{
+    refused("give 140,734 pages: 2", nord_give(img, words, 0, 140734), NORD_ARGUMENT);
+    refused("give 140,733 pages: 10", nord_give(img, words, 0, 140733), NORD_UNRESERVED);
+    done("give 20,000 pages", nord_give(img, words, 0, 20000), 0);
+    refused("take 140,734 pages: 2", nord_take(img, words, 0, 140734), NORD_ARGUMENT);
+    refused("take 20,001 pages: 9", nord_take(img, words, 0, 20001), NORD_ALLOWANCE);
+    refused("a run of 140,734 pages: 2", nord_create_contiguous(img, words, 0, TEXT("RUN"), TEXT(""), 0, 140734), NORD_ARGUMENT);
+    refused("no run of 18,516 pages: 11", nord_create_contiguous(img, words, 0, TEXT("RUN"), TEXT(""), 0, 18516), NORD_NO_RUN);
+    done("a run of 18,515 pages", nord_create_contiguous(img, words, 0, TEXT("RUN"), TEXT(""), 0, 18515), 0);
+    done("it begins behind the bit pages", nord_address(img, words, 0, 0, 0), 18520);
+    holds("and ends the pack", nord_who_holds(img, words, 37034), NORD_FILE_DATA, 0, 0, 18514);
+    holds("the second bit page", nord_who_holds(img, words, 18518), NORD_BIT_FILE, 0, 0, 1);
+    holds("the third bit page", nord_who_holds(img, words, 18519), NORD_BIT_FILE, 0, 0, 2);
+}
+
+/* Rule 9 in the second bit page, and rule 1 of a run that does not fit; then a salvage of all three bit pages. */
+static void rules_of_a_pack(uint16_t *img, size_t words)
+{
+    uint16_t *bits = img + 18517 * (size_t)PAGE;
+    nord_change list[4];
+    bits[PAGE] = 1;
+    broken("the bit of page 16,384: page 18,518, word 0", nord_check(img, words), NORD_RULE_BITS, 18518, 0);
+    bits[PAGE] = 0;
+    img[1021] = 37033;
+    broken("bit pages to 37,035: page 0, word 1,020", nord_check(img, words), NORD_RULE_VOLUME, 0, 1020);
+    img[1021] = 18517;
+    bits[0] = 0, bits[PAGE + 1023] = 0, bits[2 * PAGE + 266] = 0xF800;
+    done("salvage changes a word of each bit page", nord_salvage(img, words, list, 4), 3);
+    told("pages 0 to 4", is_change(list[0], 18517, 0, 0, 0x1F));
+    told("pages 32,752 to 32,767", is_change(list[1], 18518, 1023, 0, 0xFFFF));
+    told("pages 37,024 to 37,034, and the bits from 37,035 on stay", is_change(list[2], 18519, 266, 0xF800, 0xFFFF));
+    done("check visits 18,523", nord_check(img, words), 18523);
+}
+
+static void packs(void)
+{
+    size_t words = 37035 * (size_t)PAGE;
+    uint16_t *img = pack75();
+    counts_of_a_pack(img, words);
+    rules_of_a_pack(img, words);
+    free(img);
+    largest_pack();
 }
 
 /* The volume of 154 pages up to its first indexed file. */
@@ -523,11 +617,6 @@ static void unwritten(nord_change *list, size_t changes)
     memset(list, 0xEE, changes * sizeof *list);
 }
 
-static int is_change(nord_change got, uint32_t page, uint32_t word, uint32_t old_value, uint32_t new_value)
-{
-    return got.page == page && got.word == word && got.old_value == old_value && got.new_value == new_value;
-}
-
 /* Stale bits and counts are mended, and each changed word is told; a second salvage has nothing to tell. */
 static void salvages(void)
 {
@@ -749,6 +838,7 @@ int main(void)
     size_t words = 154 * PAGE;
     uint16_t *img = blank(154);
     lengths();
+    packs();
     first_steps(img, words);
     pages_of_files(img, words);
     words_of_pages(img, words);

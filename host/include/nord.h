@@ -1,8 +1,13 @@
 /* NORD File System disk images: the calls of the proved library, over numbers and slices.
  *
  * An image is `words` 16-bit words, 1,024 to a page; the caller lends it for the time of a call. Every call first sees that the image is of
- * a whole number of 8 to 16,384 pages (else number 1), that its arguments are right (else 2) and, format aside, that the image is sound
- * (else 3, with the lowest broken rule and the first place that breaks it). A refused call changes no word of the image.
+ * a whole number of 8 to 140,733 pages (else number 1), that its arguments are right (else 2) and, format aside, that the image is sound
+ * (else 3, with the lowest broken rule and the first place that breaks it). A refused call changes no word of the image. P is the number of
+ * pages below.
+ *
+ * The bit file is a run of B = P / 16,384 pages, rounded up, from the bit pointer's page b on: one page up to 16,384 pages, nine at 140,733. The
+ * bit of page p is bit p % 16 (from the right) of word p / 16 % 1,024 of page b + p / 16,384. Bits for pages from P on, which the last bit page may
+ * have, are neither read nor changed, except that format writes 0.
  *
  * What a caller owes
  *
@@ -22,7 +27,8 @@
  * No other thread writes to what is lent while a call runs. The library keeps nothing between calls, has no data of its own and takes no
  * memory but some stack, so calls on different images may run at the same time.
  *
- * Users, files, positions, pages and counts are size_t and judged in their full width: 2^32 + 1 pages is a wrong count, and not 1.
+ * Users, files, positions, pages and counts are size_t and judged in their full width: 2^32 + 1 pages is a wrong count, and not 1. A page count
+ * (of give, take and create contiguous) is 1 to 140,733 on every volume, else 2.
  *
  * Names and types
  *
@@ -51,10 +57,16 @@ extern "C" {
 /* The words of a page. */
 #define NORD_PAGE 1024
 
+/* The pages of the largest image, and the largest page count. */
+#define NORD_MOST_PAGES 140733
+
+/* The pages of the bit file of a volume of so many pages. */
+#define NORD_BIT_PAGES(pages) (((size_t)(pages) + 16383) / 16384)
+
 /* The number that a call answers: the lowest that applies, where 12, 13 and 14 stand right behind 3. */
 enum {
     NORD_DONE = 0,
-    NORD_SIZE = 1,        /* the length is no whole number of pages, or there are fewer than 8 or more than 16,384 */
+    NORD_SIZE = 1,        /* the length is no whole number of pages, or there are fewer than 8 or more than 140,733 */
     NORD_ARGUMENT = 2,    /* an argument is wrong */
     NORD_UNSOUND = 3,     /* the image is unsound: `rule` is the lowest broken rule, `place` where it is broken */
     NORD_MISSING = 4,     /* the named user, file or position does not exist */
@@ -72,7 +84,7 @@ enum {
 
 /* The rules of a sound image, by what they speak of. */
 enum {
-    NORD_RULE_VOLUME = 1,        /* the volume's name and the bit pointer */
+    NORD_RULE_VOLUME = 1,        /* the volume's name and the bit pointer, whose whole run lies in 1 .. P-1 */
     NORD_RULE_POINTERS = 2,      /* the user pointer and the object pointer */
     NORD_RULE_USER_INDEX = 3,    /* the slots of the user index */
     NORD_RULE_USERS = 4,         /* the used users */
@@ -112,7 +124,7 @@ enum {
  *      6  each used object: word 0 no such user, 1 name (illegal, or a lower file of his has it with the type), 9 type, 16 user, 17 number
  *      7  each used object: word 28 bytes, 30 pointer against page count; its subindex block, word 2s for slot s; its index blocks, the same
  *      8  word 0 of the lowest page that has two holders or more
- *      9  the bit page: word p / 16 for the lowest page p whose bit is wrong
+ *      9  the bit file: page b + p / 16,384, word p / 16 % 1,024 for the lowest page p whose bit is wrong
  *     10  each used user: word 16 used; and if all are right, page 0, word 1,022 unreserved
  *
  * Users, objects, index blocks and slots come ascending by their numbers, wherever their pages lie. All that rule 7 asks of one file comes
@@ -124,7 +136,7 @@ typedef struct {
 } nord_place;
 
 /* Who holds a page. kind: above. user and file are 0 for system pages; position counts data pages, index blocks, bit, user and object pages
- * within their file from 0, and is 0 else. Zeros are "free". */
+ * within their file from 0, and is 0 else: of a bit page it is 0 .. B-1. Zeros are "free". */
 typedef struct {
     uint32_t kind;
     uint32_t user;
@@ -173,7 +185,8 @@ nord_part nord_read_page(const uint16_t *img, size_t words, size_t user, size_t 
  * the length of the whole text, so it fits exactly if that is at most `out_bytes`; a call with 0 bytes asks for the length alone. */
 size_t nord_list(const uint16_t *img, size_t words, uint8_t *out, size_t out_bytes);
 
-/* calls that change */
+/* calls that change. Format lays the bit file on pages bit_page .. bit_page + B-1, and nord_format_default from page P / 2 on; a bit_page is wrong
+ * (2) unless it is 1 or more and its whole run lies below P. Unreserved is then P - 1 - B. */
 nord_reply nord_format(uint16_t *img, size_t words, const uint8_t *name, size_t name_bytes, size_t bit_page);
 nord_reply nord_format_default(uint16_t *img, size_t words, const uint8_t *name, size_t name_bytes);
 nord_reply nord_create_user(uint16_t *img, size_t words, const uint8_t *name, size_t name_bytes);
@@ -218,7 +231,7 @@ nord_reply nord_salvage(uint16_t *img, size_t words, nord_change *list, size_t c
 /* The calls of a step, with what each uses of it. Who holds a page (6), reading a page (16) and salvage answer more than a reply has: they are
  * no steps. */
 enum {
-    NORD_CALL_FORMAT = 1,                 /* name, count: the bit page */
+    NORD_CALL_FORMAT = 1,                 /* name, count: the first bit page */
     NORD_CALL_CHECK = 2,                  /* nothing */
     NORD_CALL_FIND_USER = 3,              /* name */
     NORD_CALL_FIND_FILE = 4,              /* user, name, type */

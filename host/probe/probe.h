@@ -1,10 +1,11 @@
 /* The proved searches for free pages by themselves, to be timed: target/host/libprobe.a, which host/library builds from crate probe. They are
  * no calls of the library, and nord.h does not have them.
  *
- * An image is `words` 16-bit words as in nord.h, P its pages. The bit page is the one that the master block's bit pointer names; the image
- * need not be sound otherwise. Bits for pages from P on are not read. Nothing is changed.
+ * An image is `words` 16-bit words as in nord.h, P its pages. The bit file is the run of NORD_BIT_PAGES(P) pages that the master block's bit
+ * pointer begins; the image need not be sound otherwise. Bits for pages from P on are not read. Nothing is changed.
  *
- * An image that cannot be searched has no page or more than 16,384, or a bit pointer whose page is not in 1 .. P-1: both functions give 0. */
+ * An image that cannot be searched has no page or more than NORD_MOST_PAGES, or a bit file that does not lie in 1 .. P-1 as a whole: both
+ * functions give 0. */
 #ifndef PROBE_H
 #define PROBE_H
 

@@ -1,5 +1,6 @@
 //! What a command says: the answer of a call that was done, and the library's refusals in words.
 
+use crate::limits::{most_pages, pages_to_a_bit_page};
 use crate::volume_json;
 use proved::{Place, Reply};
 use serde_json::{json, Value};
@@ -169,7 +170,11 @@ pub fn done(reply: Reply, call: Call, subject: impl Display) -> Result<u32, Refu
     }
 }
 
-const LENGTH: &str = "the length is no whole number of pages of 2,048 bytes, or there are fewer than 8 or more than 16,384 pages";
+const LENGTH: &str = concat!(
+    "the length is no whole number of pages of 2,048 bytes, or there are fewer than 8 or more than ",
+    most_pages!(),
+    " pages"
+);
 
 /// A refusal's reason. A number that has several reasons in document 01 has here the one that the call can meet.
 fn why(number: u32, call: Call) -> &'static str {
@@ -207,16 +212,26 @@ fn why(number: u32, call: Call) -> &'static str {
 fn wrong_argument(call: Call) -> &'static str {
     match call {
         Call::FindUser | Call::AddUser => "an argument is wrong (a name is 1 to 16 of A-Z, 0-9 and hyphen)",
-        Call::Format => "an argument is wrong (a name is 1 to 16 of A-Z, 0-9 and hyphen; a bit page is 1 or more and below the number of pages)",
+        Call::Format => concat!(
+            "an argument is wrong (a name is 1 to 16 of A-Z, 0-9 and hyphen; the bit file, a page for each ",
+            pages_to_a_bit_page!(),
+            " pages or less, begins at page 1 or above and ends below the number of pages)"
+        ),
         Call::FindFile | Call::CreateIndexed => {
             "an argument is wrong (a name is 1 to 16 of A-Z, 0-9 and hyphen, a type 0 to 4 of them; a user's index is at most 255)"
         }
-        Call::CreateContiguous => {
-            "an argument is wrong (a name is 1 to 16 of A-Z, 0-9 and hyphen, a type 0 to 4 of them; a user's index is at most 255; a file has 1 to 16,384 pages)"
-        }
+        Call::CreateContiguous => concat!(
+            "an argument is wrong (a name is 1 to 16 of A-Z, 0-9 and hyphen, a type 0 to 4 of them; a user's index is at most 255; a file has 1 to ",
+            most_pages!(),
+            " pages)"
+        ),
         Call::Who => "an argument is wrong (a page's number is below the number of pages)",
         Call::Page => "an argument is wrong (a page's number is below the number of pages, a word's at most 1,023)",
-        Call::Give | Call::Take => "an argument is wrong (a user's index is at most 255, a page count is 1 to 16,384)",
+        Call::Give | Call::Take => concat!(
+            "an argument is wrong (a user's index is at most 255, a page count is 1 to ",
+            most_pages!(),
+            ")"
+        ),
         _ => "an argument is wrong (an index is at most 255)",
     }
 }
@@ -233,10 +248,10 @@ fn absent(call: Call) -> &'static str {
     }
 }
 
-/// The ten rules in document 01's own words.
+/// The ten rules in document 01's own words; rule 1 with the bit pages of document 02's T-06.
 pub fn rule(number: u32) -> &'static str {
     match number {
-        1 => "Legal volume name; bit pointer without flags, page in 1..P-1.",
+        1 => "Legal volume name; bit pointer without flags, all bit pages in 1..P-1.",
         2 => "User pointer zero, or indexed to 1..P-1. Object pointer zero exactly when the user pointer is, else indexed or subindexed to 1..P-1.",
         3 => "User index: each of slots 0..7 zero or in 1..P-1, others zero.",
         4 => "Used users: own index right, name legal, no two names equal, used <= given.",

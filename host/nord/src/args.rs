@@ -1,5 +1,6 @@
 //! The arguments of every command, and its help with an example.
 
+use crate::limits::{most_pages, pages_to_a_bit_page};
 use crate::names::{FileName, UserName};
 use clap::{Args, Parser, Subcommand, ValueEnum};
 use std::path::PathBuf;
@@ -12,13 +13,16 @@ pub struct Cli {
     pub command: Command,
 }
 
-const NAMES: &str =
+const NAMES: &str = concat!(
     "A user is named DOCK, a file DOCK/READS:DATA or, without a type, DOCK/READS. An index is a number after @: user @0, file @0/@3.
 A name is 1 to 16 of A-Z, 0-9 and hyphen, a type 0 to 4 of them. The apostrophe that ends a short one in an image is no part of it: it is
 never shown, and a name given with it is refused (2).
-A file is a whole number of pages of 2,048 bytes. Images are high byte first, 8 to 16,384 pages.
+A file is a whole number of pages of 2,048 bytes. Images are high byte first, 8 to ",
+    most_pages!(),
+    " pages.
 Exit status: 0 done; 1 to 14 the library's refusal; 64 wrong use; 74 input or output; 75 locked or changed by somebody else.
-A refused or failed command leaves the image as it was. `nord help COMMAND` has an example for each command.";
+A refused or failed command leaves the image as it was. `nord help COMMAND` has an example for each command."
+);
 
 /// A command that asks an image and changes nothing.
 #[derive(Args, Debug)]
@@ -66,18 +70,16 @@ pub enum Command {
     List(Ask),
     /// Format an image, or make a new one of so many pages
     #[command(
-        after_help = "Example:\n  nord format disk.img YARD --pages 154\n\nWithout --pages the image file is there, keeps its size, and loses its users and files."
+        after_help = "Example:\n  nord format disk.img YARD --pages 154\n  nord format pack.img PACK --pages 37035\n\nWithout --pages the image file is there, keeps its size, and loses its users and files."
     )]
     Format {
         #[command(flatten)]
         at: Change,
         /// The volume's name
         name: String,
-        /// Make a new image file of so many pages, 8 to 16,384; there must be none of that name
-        #[arg(long, value_name = "COUNT", value_parser = number)]
+        #[arg(long, value_name = "COUNT", value_parser = number, help = PAGES)]
         pages: Option<u32>,
-        /// The page of the bit file; the middle page by default
-        #[arg(long, value_name = "PAGE", value_parser = number)]
+        #[arg(long, value_name = "PAGE", value_parser = number, help = BIT_PAGE)]
         bit_page: Option<u32>,
     },
     /// Convert what stands behind short names and types: zeros alone to an apostrophe and zeros, or back
@@ -180,7 +182,7 @@ pub enum Command {
         #[arg(value_parser = number)]
         word: Option<u32>,
     },
-    /// Draw the image: a cell for each page, coloured by its holder
+    /// Draw the image: a cell for each page, or for several of a large pack, coloured by its holder
     #[command(after_help = "Example:\n  nord map disk.img\n  nord map disk.img --svg disk.svg")]
     Map {
         #[command(flatten)]
@@ -209,6 +211,18 @@ pub enum Command {
         shell: clap_complete::Shell,
     },
 }
+
+const PAGES: &str = concat!(
+    "Make a new image file of so many pages, 8 to ",
+    most_pages!(),
+    "; there must be none of that name"
+);
+
+const BIT_PAGE: &str = concat!(
+    "The first page of the bit file, which has a page for each ",
+    pages_to_a_bit_page!(),
+    " pages of the volume, rounded up; the middle page by default"
+);
 
 const FILE: &str = "The file: DOCK/READS:DATA, or by index @0/@3";
 

@@ -7,6 +7,7 @@ pub mod broken;
 pub mod commands;
 pub mod convert;
 pub mod failure;
+mod limits;
 pub mod lock;
 pub mod manual;
 pub mod map;

@@ -2,6 +2,7 @@
 
 use crate::answers;
 use crate::args::Cli;
+use crate::limits::{most_pages, pages_to_a_bit_page};
 use clap::{Arg, Command, CommandFactory};
 use std::fmt::Write;
 
@@ -22,6 +23,7 @@ pub fn page() -> String {
             }
         }
     }
+    page.push_str(PACKS);
     page.push_str(NAMES);
     page.push_str(FILES);
     page.push_str(STATUS);
@@ -94,7 +96,8 @@ fn escape(text: &str) -> String {
         .join("\n")
 }
 
-const HEAD: &str = r#".TH NORD 1
+const HEAD: &str = concat!(
+    r#".TH NORD 1
 .SH NAME
 nord \- check, list and change NORD File System disk images
 .SH SYNOPSIS
@@ -103,7 +106,9 @@ nord \- check, list and change NORD File System disk images
 .I IMAGE
 \&...
 .SH DESCRIPTION
-An image is a file of 8 to 16,384 pages of 2,048 bytes, words of 16 bits with the high byte first. Every change is made by a library whose
+An image is a file of 8 to "#,
+    most_pages!(),
+    r#" pages of 2,048 bytes, words of 16 bits with the high byte first. Every change is made by a library whose
 calls are proved against the rules of the file system, on a copy in memory; then the image file is replaced whole. A command that is refused,
 fails or is killed leaves the image as it was, or as the whole command makes it.
 .PP
@@ -129,7 +134,41 @@ answers with "changed" and "changes", every changed word ("page", "word", "old",
 .B nord check
 of an unsound image has "salvage": "mends", and then "changed" and "orphans", how many, or else "number", "rule" and "why".
 .SH COMMANDS
-"#;
+"#
+);
+
+const PACKS: &str = concat!(
+    r#".SH LARGE PACKS
+The bit file has a page for each "#,
+    pages_to_a_bit_page!(),
+    r#" pages of the volume, rounded up: three on a pack of 37,035 pages, nine on one of
+"#,
+    most_pages!(),
+    r#". They follow each other from the page on that the bit file pointer names;
+.B nord format
+begins them at the middle page, or where it is told. The bit of page p is bit p % 16, from the right, of word p / 16 % 1,024 of the page that lies
+p / "#,
+    pages_to_a_bit_page!(),
+    r#" behind the first.
+.B nord who
+says which of them a page is, and
+.B nord page
+of which pages each of their words tells.
+.PP
+.B nord map
+draws a cell for each page of a volume of up to "#,
+    pages_to_a_bit_page!(),
+    r#" pages. On a larger one a cell is 2, 4, 8 or more pages that follow each
+other, and the map says how many. In a terminal they are so many that there are at most 40 rows. A cell has a point where all its pages are free, else
+the letter of whoever holds most of them, a capital where none of them is free; M and B are where the master block and the bit file lie. The picture
+has at most "#,
+    pages_to_a_bit_page!(),
+    r#" cells. Each has the colour of whoever holds most of its pages, the paler the more of them are free, and tells how many
+each holds. With
+.B \-\-json
+the map has the holder of every page.
+"#
+);
 
 const NAMES: &str = r#".SH NAMES
 A name is 1 to 16 of A to Z, 0 to 9 and hyphen, a type 0 to 4 of them. A user is written
@@ -199,13 +238,16 @@ the image stays as it was. With
 the pages are copied out and nothing is mended.
 "#;
 
-const STATUS: &str = r#".SH EXIT STATUS
+const STATUS: &str = concat!(
+    r#".SH EXIT STATUS
 .TP
 0
 Done.
 .TP
 1
-The length is no whole number of pages, or there are fewer than 8 or more than 16,384.
+The length is no whole number of pages, or there are fewer than 8 or more than "#,
+    most_pages!(),
+    r#".
 .TP
 2
 An argument is wrong.
@@ -254,4 +296,5 @@ Input or output failed: a file is not there or not readable, a disk is full. The
 .TP
 75
 Another writer has the image, or another program has changed it meanwhile.
-"#;
+"#
+);

@@ -1,10 +1,12 @@
-//! The map of a volume: a cell for each page, coloured by its holder, as a picture and for a terminal.
+//! The map of a volume: a cell for each page, or for several of a large pack, coloured by its holder, as a picture and for a terminal.
 
+mod cell;
 mod layout;
 mod legend;
 mod letters;
 mod svg;
 mod text;
 
+pub use legend::grouped;
 pub use svg::svg;
 pub use text::text;

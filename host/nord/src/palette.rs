@@ -87,6 +87,17 @@ impl Colour {
         }
     }
 
+    /// The colour on its way to another, by the share of so many of all; of itself a third is left.
+    pub fn paler(self, other: Colour, share: u32, all: u32) -> Colour {
+        let all = all.max(1);
+        let part = |own: u8, other: u8| ((u32::from(own) * (3 * all - 2 * share) + u32::from(other) * 2 * share) / (3 * all)) as u8;
+        Colour {
+            red: part(self.red, other.red),
+            green: part(self.green, other.green),
+            blue: part(self.blue, other.blue),
+        }
+    }
+
     /// Black or white, whichever is better read on this colour.
     pub fn ink(self) -> Colour {
         let lightness = 299 * u32::from(self.red) + 587 * u32::from(self.green) + 114 * u32::from(self.blue);
@@ -154,6 +165,14 @@ mod tests {
     fn all_256_users_have_colours_of_their_own() {
         let colours: HashSet<String> = (0..256).map(|index| user(index).hex()).collect();
         assert_eq!(colours.len(), 256);
+    }
+
+    #[test]
+    fn a_paler_colour_is_between_the_two() {
+        let (dark, light) = (rgb(0x300060), rgb(0xf0f0f0));
+        assert_eq!((dark.paler(light, 0, 16), dark.paler(light, 16, 16)), (dark, rgb(0xb0a0c0)));
+        assert_eq!((dark.paler(light, 3, 6), light.paler(light, 5, 16)), (rgb(0x705090), light));
+        assert_eq!(dark.paler(light, 0, 0), dark);
     }
 
     #[test]

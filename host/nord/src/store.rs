@@ -11,8 +11,6 @@ use std::time::Duration;
 
 /// The bytes of a page.
 pub const PAGE: usize = 2 * proved::PAGE;
-/// The pages of the library's largest image.
-pub const LARGEST: usize = 16384;
 
 /// The words of an image that is only asked. No lock: writers put another file in its place and leave this one alone.
 pub fn read(path: &Path) -> Result<Vec<u16>, Failure> {
@@ -87,7 +85,7 @@ fn contents(mut file: &File, path: &Path) -> Result<Vec<u8>, Failure> {
     };
     let at_first = stamp()?;
     let length = at_first.0;
-    if length % 2 != 0 || length > (LARGEST * PAGE) as u64 {
+    if length % 2 != 0 || length > (proved::MOST_PAGES * PAGE) as u64 {
         return Err(Refusal::length(length).into());
     }
     pause::at("reading");

@@ -27,6 +27,12 @@ fn volumes() -> &'static [Vec<u16>] {
     VOLUMES.get_or_init(|| vec![volume("EMPTY", 8), yard16(), yard154(), many_users(), big_file(), full(), crowd()])
 }
 
+/// Packs whose cells are several pages, made once, with how many they are in a picture.
+fn packs() -> &'static [(Vec<u16>, usize)] {
+    static PACKS: OnceLock<Vec<(Vec<u16>, usize)>> = OnceLock::new();
+    PACKS.get_or_init(|| vec![(pack(16_385), 2), (pack(37_035), 4)])
+}
+
 /// A number with its commas.
 fn number(text: &str) -> usize {
     text.replace(',', "").parse().unwrap()
@@ -219,6 +225,99 @@ fn without_codes(line: &str) -> String {
     first + &parts.map(|part| part.split_once('m').unwrap().1).collect::<String>()
 }
 
+/// Of each cell the pages that it stands for, and how many of them each holds.
+fn of_several(cell: &Element) -> (usize, usize, Vec<(usize, String)>) {
+    let (pages, counts) = cell.title.split_once(": ").unwrap();
+    let (first, last) = pages.strip_prefix("pages ").unwrap().split_once(" to ").unwrap();
+    let count = |count: &str| {
+        let (count, name) = count.split_once(' ').unwrap();
+        (number(count), name.to_string())
+    };
+    (number(first), number(last), counts.split(", ").map(count).collect())
+}
+
+#[test]
+fn a_cell_of_several_pages_tells_how_many_each_holds() {
+    for (image, each) in packs() {
+        let (volume, held) = (read(image), holders(image));
+        let elements = picture(image);
+        let cells: Vec<&Element> = elements.iter().filter(|element| element.get("class") == "pages").collect();
+        assert_eq!(cells.len(), held.len().div_ceil(*each));
+        for (n, cell) in cells.iter().enumerate() {
+            let (first, last, counts) = of_several(cell);
+            let pages = &held[n * each..held.len().min((n + 1) * each)];
+            assert_eq!((first, last + 1), (n * each, n * each + pages.len()));
+            assert_eq!(counts.iter().map(|(count, _)| count).sum::<usize>(), pages.len());
+            for (count, name) in counts {
+                let same = |holder: &&nord::volume::Holder| holder_name(&volume, holder) == name;
+                assert_eq!(pages.iter().filter(same).count(), count, "{}", cell.title);
+            }
+        }
+    }
+}
+
+/// Who holds a page, as the cells of several pages have it.
+fn holder_name(volume: &nord::volume::Volume, holder: &nord::volume::Holder) -> String {
+    match holder.kind as u32 {
+        0 => "free".to_string(),
+        1 => "master block".to_string(),
+        2 => "bit file".to_string(),
+        3 | 4 => "user file".to_string(),
+        5..=7 => "object file".to_string(),
+        _ => volume.user(holder.user).unwrap().name.clone(),
+    }
+}
+
+#[test]
+fn a_pack_is_drawn_in_a_picture_of_the_usual_size() {
+    let size = |image: &[u16]| {
+        let elements = picture(image);
+        ["width", "height"].map(|name| elements[0].get(name).parse::<u32>().unwrap())
+    };
+    let [width, height] = size(&full());
+    for (image, each) in packs() {
+        let [wide, high] = size(image);
+        assert!(
+            wide <= width + 40 && high <= height,
+            "{wide} by {high}, and {width} by {height} of 16,384 pages"
+        );
+        let text = svg(&read(image), &holders(image));
+        assert!(
+            text.len() < 2_500_000 && text.contains(&format!("a cell is {each} pages:")),
+            "{} bytes",
+            text.len()
+        );
+        assert!(!text.contains("class=\"mark\""));
+    }
+}
+
+/// In a terminal a point is free pages alone, a capital none free; the master block and the bit file are seen wherever they lie.
+#[test]
+fn characters_of_several_pages() {
+    for (image, _) in packs() {
+        let held = holders(image);
+        let lines = lines(image, 80, false);
+        let rows = page_rows(&lines);
+        let each = (rows[1].0 - rows[0].0) / rows[0].1.len();
+        assert!(
+            each > 1 && rows.len() <= 40 && lines.iter().all(|line| line.len() <= 80),
+            "{lines:#?}"
+        );
+        assert!(lines.iter().any(|line| line.starts_with(&format!("a character is {each} pages: "))));
+        let cells: String = rows.into_iter().map(|(_, cells)| cells).collect();
+        assert_eq!(cells.len(), held.len().div_ceil(each));
+        for (character, pages) in cells.chars().zip(held.chunks(each)) {
+            let kinds: HashSet<u32> = pages.iter().map(|holder| holder.kind as u32).collect();
+            let sought = (character == 'M', character == 'B');
+            assert_eq!(sought, (kinds.contains(&1), kinds.contains(&2)), "{character} of {kinds:?}");
+            assert_eq!(character == '.', kinds.iter().all(|kind| *kind == 0));
+            if sought == (false, false) {
+                assert_eq!(character.is_ascii_uppercase(), !kinds.contains(&0), "{character} of {kinds:?}");
+            }
+        }
+    }
+}
+
 /// Writes pictures and texts to look at: cargo test --offline -p nord --test map -- --ignored
 #[test]
 #[ignore]
@@ -231,7 +330,8 @@ fn pictures_to_look_at() {
         ("300", many_users()),
         ("600", big_file()),
     ];
-    for (name, image) in small.into_iter().chain([("full", full()), ("crowd", crowd())]) {
+    let packs = [("16385", pack(16_385)), ("37035", pack(37_035)), ("140733", pack(140_733))];
+    for (name, image) in small.into_iter().chain([("full", full()), ("crowd", crowd())]).chain(packs) {
         let (volume, held) = (read(&image), holders(&image));
         std::fs::write(folder.join(format!("{name}.svg")), svg(&volume, &held)).unwrap();
         std::fs::write(folder.join(format!("{name}.txt")), text(&volume, &held, 100, false)).unwrap();

@@ -15,8 +15,8 @@ fn damaged(sound: &[u16], dice: &mut Dice) -> Vec<u16> {
     let disk = Disk::new(sound);
     let mut image = sound.to_vec();
     for _ in 0..dice.below(6) {
-        let word = dice.below(u64::from(disk.pages().div_ceil(16))) as usize;
-        image[disk.bit_page() as usize * PAGE + word] = dice.below(65_536) as u16;
+        let place = disk.bit_place(dice.below(disk.pages().into()) as u32).unwrap();
+        image[place.page as usize * PAGE + place.word as usize] = dice.below(65_536) as u16;
     }
     for (user, _) in disk.users() {
         let entry = disk.user_page(user / ENTRIES_TO_A_PAGE) as usize * PAGE + 32 * (user % 32) as usize;
@@ -104,12 +104,37 @@ fn what_is_told_is_what_the_library_does() {
     assert!(mended > 100 && refused > 5, "{mended} mended, {refused} refused");
 }
 
+#[test]
+fn what_is_told_of_a_large_pack_is_what_the_library_does() {
+    let mut dice = Dice(7);
+    let sound = [pack(16_385), pack(37_035)];
+    let mended = (0..12).filter(|round| agrees(&damaged(&sound[round % 2], &mut dice))).count();
+    assert!(mended > 6, "{mended} mended");
+}
+
+/// A pack of three bit pages of which every bit below P is wrong; no bit from P on is touched.
+#[test]
+fn every_bit_of_a_large_pack() {
+    let mut image = pack(37_035);
+    let bits = Disk::new(&image).bit_file();
+    let words = bits.start as usize * PAGE..bits.end as usize * PAGE;
+    image[words.clone()].iter_mut().for_each(|word| *word = !*word);
+    let salvaged = Salvaged::of(&image).unwrap_or_else(|reply| panic!("{reply:?}"));
+    let told = salvaged.changes.iter().filter(|change| bits.contains(&change.page)).count();
+    assert_eq!(told, 37_035_usize.div_ceil(16));
+    let past = words.start + 37_035_usize.div_ceil(16);
+    assert!(salvaged.image[past..words.end] == image[past..words.end]);
+    let (word, mask) = (past - 1, u16::MAX << (37_035 % 16));
+    assert_eq!((salvaged.image[word] & mask, image[word] & mask), (mask, mask));
+    done_right(&image, &salvaged);
+}
+
 /// The list that is lent is long enough for a full-size volume of which every bit and every count is wrong.
 #[test]
 fn every_bit_and_count_of_a_full_volume() {
     let mut image = crowd();
     let disk = Disk::new(&image);
-    let bits = disk.bit_page() as usize * PAGE;
+    let bits = disk.bit_file().start as usize * PAGE;
     let users: Vec<usize> = (0..8).map(|n| disk.user_page(n) as usize * PAGE).collect();
     image[bits..bits + PAGE].iter_mut().for_each(|word| *word = !*word);
     for page in users {

@@ -52,8 +52,20 @@ fn holders_are_the_librarys_where_a_file_is_subindexed() {
 }
 
 #[test]
+fn holders_are_the_librarys_on_a_large_pack() {
+    for pages in [16_385, 37_035] {
+        let image = pack(pages);
+        let held = holders(&image);
+        same_holders(&image, 131);
+        // the bit pages, their neighbours and the ends
+        let bits = (pages / 2 - 1)..=(pages / 2 + pages.div_ceil(16_384));
+        bits.chain([0, pages - 1]).for_each(|page| same_holder(&image, &held, page));
+    }
+}
+
+#[test]
 fn held_pages_are_the_visits_of_the_check() {
-    for image in [yard16(), yard154(), many_users(), big_file()] {
+    for image in [yard16(), yard154(), many_users(), big_file(), pack(16_385), pack(37_035)] {
         let held = holders(&image).iter().filter(|holder| holder.kind as u32 != 0).count() as u32;
         assert_eq!(held, proved::check(&image).value);
         assert_eq!(held, read(&image).reserved);

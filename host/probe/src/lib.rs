@@ -48,6 +48,21 @@ mod tests {
     }
 
     #[test]
+    fn free_pages_of_the_second_bit_page_are_found() {
+        let mut words = image(16_402, 7);
+        words[7 * PAGE..8 * PAGE].fill(u16::MAX);
+        words[8 * PAGE] = 0b1111_1111_1110_1111;
+        assert_eq!(
+            [0, 16_383, 16_388, 16_389, 16_401, 16_402].map(|from| lowest_free(&words, from)),
+            [16_388, 16_388, 16_388, 16_400, 16_401, 16_402]
+        );
+        assert_eq!([1, 2, 3].map(|count| highest_run(&words, count)), [16_401, 16_400, 0]);
+        words[8 * PAGE - 1] = 0b0111_1111_1111_1111;
+        words[8 * PAGE] = 0b1111_1111_1110_1000;
+        assert_eq!(highest_run(&words, 4), 16_383, "a run over the edge of two bit pages");
+    }
+
+    #[test]
     fn an_image_that_cannot_be_searched_gives_0() {
         let beyond = 1 << 16 | 3;
         let unsearched = [
@@ -56,7 +71,8 @@ mod tests {
             image(20, 0),
             image(20, 20),
             image(20, beyond),
-            image(16_385, 3),
+            image(16_385, 16_384),
+            image(140_734, 3),
         ];
         for words in unsearched {
             assert_eq!((lowest_free(&words, 0), highest_run(&words, 1)), (0, 0));

@@ -53,7 +53,7 @@ pub struct Change {
     pub new: u32,
 }
 
-/// A step of a run: a call by its number (`call`) with its arguments. `count` is a page count, a position, or format's bit page; the name is
+/// A step of a run: a call by its number (`call`) with its arguments. `count` is a page count, a position, or format's first bit page; the name is
 /// the bytes `name_at .. name_at + name_bytes` of the text lent with the steps, the type likewise, and a page's data are the 1,024 words from
 /// `data_at` on of the words lent with them. What a call does not use is not looked at.
 #[repr(C)]

@@ -16,6 +16,17 @@ use boundary::{REPLY_NUMBERS, STEP_NUMBERS};
 /// The words of a page.
 pub const PAGE: usize = 1024;
 
+/// The pages of the largest image, and the largest page count of a call.
+pub const MOST_PAGES: usize = 140_733;
+
+/// The pages whose bits one page of the bit file has.
+pub const PAGES_TO_A_BIT_PAGE: usize = 16 * PAGE;
+
+/// The pages of the bit file of a volume of so many pages: a run from the bit pointer's page on.
+pub const fn bit_pages(pages: usize) -> usize {
+    pages.div_ceil(PAGES_TO_A_BIT_PAGE)
+}
+
 pub fn check(image: &[u16]) -> Reply {
     unsafe { boundary::nord_check(image.as_ptr(), image.len()) }
 }
@@ -69,7 +80,7 @@ fn list_into(image: &[u16], out: &mut [u8]) -> usize {
     unsafe { boundary::nord_list(image.as_ptr(), image.len(), out.as_mut_ptr(), out.len()) }
 }
 
-/// Formats with the bit page given, or with page P/2.
+/// Formats with the bit file from the page given on, or from page P/2.
 pub fn format(image: &mut [u16], name: &[u8], bit_page: Option<usize>) -> Reply {
     let (words, length) = (image.as_mut_ptr(), image.len());
     match bit_page {

@@ -7,8 +7,8 @@ use proved::Place;
 /// Rule 9: the lowest page of the word whose bit is wrong, and the word with all its bits right.
 pub fn bits(disk: &Disk, held: &Held, place: Place) -> Option<Asked> {
     let word = *disk.words(place.page, place.word, 1).first()?;
-    let first = 16 * place.word;
-    let pages = first..(first + 16).min(disk.pages());
+    let position = place.page.checked_sub(disk.bit_file().start)?;
+    let pages = disk.told_by(position, place.word);
     let is_held = |page: u32| held.first(page).kind != Kind::Free;
     let right = pages.clone().fold(word, |right, page| match is_held(page) {
         true => right | 1 << (page % 16),
@@ -25,7 +25,7 @@ pub fn bits(disk: &Disk, held: &Held, place: Place) -> Option<Asked> {
         more => format!("; {more} more bits of this word are wrong"),
     };
     let expected = Expected::value(format!("{right}: {why}{others}"), right.into());
-    Some(expected.by(Holder::system(Kind::BitFile, 0)))
+    Some(expected.by(Holder::system(Kind::BitFile, position)))
 }
 
 /// Rule 10.

@@ -19,10 +19,21 @@ fn last(disk: &Disk) -> u32 {
 pub fn volume(disk: &Disk, place: Place) -> Option<Asked> {
     let expected = match place.word {
         VOLUME_NAME => Expected::words(names::NAME),
-        BIT_POINTER => Expected::range(format!("a page in 1..{}, without flags", last(disk)), 1, last(disk)),
+        BIT_POINTER => bit_pointer(disk),
         _ => return None,
     };
     Some(expected.by(Holder::system(Kind::Master, 0)))
+}
+
+/// A pointer whose whole run of bit pages lies in 1..P-1.
+fn bit_pointer(disk: &Disk) -> Expected {
+    let (count, last) = (disk.bit_pages(), last(disk));
+    let highest = (last + 1).saturating_sub(count);
+    let words = match count {
+        0 | 1 => format!("a page in 1..{last}, without flags"),
+        _ => format!("a page in 1..{highest}, without flags, so that all {count} pages of the bit file lie in 1..{last}"),
+    };
+    Expected::range(words, 1, highest)
 }
 
 /// Rule 2.

@@ -1,6 +1,6 @@
 //! Format, and the sample disk.
 
-use crate::answers::{done, Answer, Call};
+use crate::answers::{self, done, Answer, Call, Refusal};
 use crate::args::{Ask, Change};
 use crate::failure::Failure;
 use crate::store;
@@ -9,10 +9,10 @@ use serde_json::json;
 /// With a page count a new image file, else the one that is there.
 pub fn format(at: &Change, name: &str, pages: Option<u32>, bit_page: Option<u32>) -> Result<Answer, Failure> {
     let answer = match pages {
-        None => store::change(&at.image, at.wait, |image| formatted(image, name, bit_page))?,
+        None => store::change(&at.image, at.wait, |image| Ok(formatted(image, name, bit_page)?))?,
         Some(pages) => {
             let mut image = blank(pages);
-            let answer = formatted(&mut image, name, bit_page)?;
+            let answer = formatted(&mut image, name, bit_page).map_err(|refusal| asked_for(refusal, pages))?;
             store::create(&at.image, &image)?;
             answer
         }
@@ -22,22 +22,49 @@ pub fn format(at: &Change, name: &str, pages: Option<u32>, bit_page: Option<u32>
 
 /// An image of zeros. Where there are too many pages, one too many is enough for the library to refuse.
 fn blank(pages: u32) -> Vec<u16> {
-    vec![0; (pages as usize).min(store::LARGEST + 1) * proved::PAGE]
+    vec![0; (pages as usize).min(proved::MOST_PAGES + 1) * proved::PAGE]
 }
 
-fn formatted(image: &mut [u16], name: &str, bit_page: Option<u32>) -> Result<Answer, Failure> {
-    done(
-        proved::format(image, name.as_bytes(), bit_page.map(|page| page as usize)),
-        Call::Format,
-        name,
-    )?;
-    let pages = image.len() / proved::PAGE;
-    let bit_page = bit_page.unwrap_or(pages as u32 / 2);
-    let json = json!({ "volume": name, "pages": pages, "bit_page": bit_page });
+/// Number 1 of a new image says how many pages it was to have.
+fn asked_for(refusal: Refusal, pages: u32) -> Refusal {
+    match refusal.number {
+        1 => refusal.with(format!("{} asked for", answers::pages(pages))),
+        _ => refusal,
+    }
+}
+
+fn formatted(image: &mut [u16], name: &str, bit_page: Option<u32>) -> Result<Answer, Refusal> {
+    let pages = (image.len() / proved::PAGE) as u32;
+    let reply = proved::format(image, name.as_bytes(), bit_page.map(|page| page as usize));
+    let first = bit_page.unwrap_or(pages / 2);
+    done(reply, Call::Format, name).map_err(|refusal| out_of_place(refusal, pages, first))?;
+    let bit_pages = bits(pages);
+    let place = match bit_pages {
+        1 => format!("page {first}"),
+        _ => format!("pages {first} to {}", first + bit_pages - 1),
+    };
     Ok(Answer::new(
-        format!("volume {name} of {pages} pages, bit file on page {bit_page}"),
-        json,
+        format!("volume {name} of {pages} pages, bit file on {place}"),
+        json!({ "volume": name, "pages": pages, "bit_page": first, "bit_pages": bit_pages }),
     ))
+}
+
+/// The pages of the bit file of so many pages.
+fn bits(pages: u32) -> u32 {
+    proved::bit_pages(pages as usize) as u32
+}
+
+/// Number 2 where the bit file of several pages would not lie in 1..P-1 says where it would.
+fn out_of_place(refusal: Refusal, pages: u32, first: u32) -> Refusal {
+    let bits = bits(pages);
+    let last = (u64::from(first) + u64::from(bits)).saturating_sub(1);
+    match refusal.number {
+        2 if bits > 1 && (first < 1 || last >= pages.into()) => refusal.with(format!(
+            "its {bits} pages would be {first} to {last}, and the volume has pages 1 to {} for them",
+            pages - 1
+        )),
+        _ => refusal,
+    }
 }
 
 /// Volume YARD with user DOCK, an indexed file of three pages and a contiguous one of ten.

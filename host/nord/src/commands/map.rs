@@ -16,7 +16,7 @@ pub fn map(at: &Ask, svg: Option<&Path>, width: Option<u32>, colour: Colour) -> 
     let image = store::read(&at.image)?;
     done(proved::check(&image), Call::Check, "")?;
     let (volume, holders) = (volume::read(&image), volume::holders(&image));
-    let json = json(&volume, &holders);
+    let json = if at.json { json(&volume, &holders) } else { Value::Null };
     match svg {
         Some(path) => {
             output::save(path, &at.image, map::svg(&volume, &holders).as_bytes())?;

@@ -103,7 +103,7 @@ pub fn write(at: &Change, file: &FileName, input: &Path, creation: Creation) -> 
 
 /// The input's words, filled with zeros to whole pages. Of an input larger than any image no more is read than shows that.
 fn load(input: &Path) -> Result<Vec<u16>, Failure> {
-    let limit = (store::LARGEST * store::PAGE) as u64 + 1;
+    let limit = (proved::MOST_PAGES * store::PAGE) as u64 + 1;
     let mut bytes = Vec::new();
     match input == Path::new("-") {
         true => std::io::stdin().lock().take(limit).read_to_end(&mut bytes),

@@ -49,7 +49,7 @@ impl Group {
         }
     }
 
-    fn name(self, volume: &Volume) -> String {
+    pub fn name(self, volume: &Volume) -> String {
         match self {
             Group::Free => "free".to_string(),
             Group::Master => "master block".to_string(),

@@ -4,7 +4,7 @@ mod cells;
 mod key;
 mod mark;
 
-use super::layout::{cell, side};
+use super::layout::{cell, pages_to_a_cell, side};
 use super::legend::{numbers, Group, Legend, Row};
 use super::letters::Letters;
 use crate::volume::{Holder, Volume};
@@ -17,7 +17,8 @@ const FONT: &str = "'DejaVu Sans','Segoe UI','Helvetica Neue',Arial,sans-serif";
 
 /// Where things lie in the picture.
 struct Plan {
-    /// Pages to a row, and the side of a cell.
+    /// Pages to a cell, cells to a row, and the side of a cell.
+    each: usize,
     side: usize,
     cell: usize,
     /// The first cell's corner.
@@ -30,11 +31,14 @@ struct Plan {
 
 impl Plan {
     fn of(pages: usize) -> Plan {
-        let side = side(pages);
+        let each = pages_to_a_cell(pages);
+        let cells = pages.div_ceil(each);
+        let side = side(cells);
         let cell = cell(side);
         let left = MARGIN + 10 + 8 * pages.saturating_sub(1).to_string().len();
-        let (width, height) = (side * cell, pages.div_ceil(side) * cell);
+        let (width, height) = (side * cell, cells.div_ceil(side) * cell);
         Plan {
+            each,
             side,
             cell,
             left,
@@ -57,9 +61,9 @@ impl Plan {
         self.cell >= 16
     }
 
-    /// The upper left corner of a page's cell.
-    fn corner(&self, page: usize) -> (usize, usize) {
-        (self.left + page % self.side * self.cell, self.top + page / self.side * self.cell)
+    /// The upper left corner of the n-th cell.
+    fn corner(&self, n: usize) -> (usize, usize) {
+        (self.left + n % self.side * self.cell, self.top + n / self.side * self.cell)
     }
 }
 
@@ -75,7 +79,11 @@ pub fn svg(volume: &Volume, holders: &[Holder]) -> String {
     picture.push_str(&head(&volume.name, &numbers));
     picture.push_str(&shares(&legend.rows, holders.len(), key.right() - MARGIN));
     picture.push_str(&group("numbers", &cells::numbers(&plan, holders.len())));
-    picture.push_str(&group("cells", &cells::cells(&plan, volume, holders, &letters)));
+    let cells = match plan.each {
+        1 => cells::cells(&plan, volume, holders, &letters),
+        _ => cells::of_several(&plan, volume, holders),
+    };
+    picture.push_str(&group("cells", &cells));
     picture.push_str(&group("legend", &key.drawn()));
     picture.push_str("</svg>\n");
     picture

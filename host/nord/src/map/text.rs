@@ -1,54 +1,96 @@
-//! The map for a terminal: a character for each page.
+//! The map for a terminal: a character for each page, or for several of a large pack.
 
-use super::layout::columns;
+use super::cell;
+use super::layout::{columns, pages_to_a_character};
 use super::legend::{colour, grouped, numbers, Group, Legend, Part, Row};
 use super::letters::Letters;
 use crate::palette::Colour;
 use crate::volume::{Holder, Volume};
 
-/// The map in lines of at most `width` characters (eight pages to a row where that is too narrow), with a terminal's colours behind the
-/// characters if `colour`.
+/// The map in lines of at most `width` characters (eight to a row where that is too narrow), with a terminal's colours behind the characters
+/// if `colour`.
 pub fn text(volume: &Volume, holders: &[Holder], width: usize, colour: bool) -> String {
     let legend = Legend::of(volume, holders);
     let letters = Letters::of(&legend.rows);
     let edge = holders.len().saturating_sub(1).to_string().len() + 2;
     let columns = columns(holders.len(), width.saturating_sub(edge));
-    let mut lines = vec![format!("{}: {}", volume.name, numbers(volume, holders)), ruler(edge, columns)];
-    for (row, cells) in holders.chunks(columns).enumerate() {
-        let number = row * columns;
-        lines.push(format!("{number:>0$}  {1}", edge - 2, characters(&letters, cells, colour)));
+    let each = pages_to_a_character(holders.len(), columns);
+    let mut lines = vec![format!("{}: {}", volume.name, numbers(volume, holders)), ruler(edge, columns, each)];
+    for (row, signs) in signs(&letters, holders, each).chunks(columns).enumerate() {
+        let number = row * columns * each;
+        lines.push(format!("{number:>0$}  {1}", edge - 2, characters(signs, colour)));
     }
     lines.push(String::new());
     lines.extend(key(&letters, &legend.rows, width, colour));
     lines.extend(legend.others_in_words());
-    lines.push("capitals: master, bit file, index and subindex blocks".to_string());
+    lines.extend(meant(each));
     if letters.come_again() {
         lines.push("some letters stand for several users: their colours differ".to_string());
     }
     lines.iter().map(|line| format!("{}\n", line.trim_end())).collect()
 }
 
+/// What the characters mean.
+fn meant(each: usize) -> Vec<String> {
+    match each {
+        1 => vec!["capitals: master, bit file, index and subindex blocks".to_string()],
+        _ => vec![
+            format!("a character is {each} pages: . where all are free, else whoever holds most of them,"),
+            "a capital where none of them is free; M and B: master block and bit file".to_string(),
+        ],
+    }
+}
+
 /// The columns' numbers, to be added to a row's.
-fn ruler(edge: usize, columns: usize) -> String {
+fn ruler(edge: usize, columns: usize, each: usize) -> String {
     let ticks: String = (0..columns)
         .step_by(8)
-        .map(|column| format!("{:<8}", format!("+{column}")))
+        .map(|column| format!("{:<8}", format!("+{}", column * each)))
         .collect();
     format!("{:edge$}{ticks}", "")
 }
 
-/// The characters of a row; codes stand only where the colour differs from the page's before.
-fn characters(letters: &Letters, cells: &[Holder], coloured: bool) -> String {
+/// A character of the map, and the colour behind it; free pages have the terminal's own.
+struct Sign {
+    letter: char,
+    colour: Option<Colour>,
+}
+
+/// The characters of all pages, so many to each.
+fn signs(letters: &Letters, holders: &[Holder], each: usize) -> Vec<Sign> {
+    match each {
+        1 => holders.iter().map(|holder| of_page(letters, holder)).collect(),
+        _ => cell::cells(holders, each).iter().map(|cell| of_several(letters, cell)).collect(),
+    }
+}
+
+fn of_page(letters: &Letters, holder: &Holder) -> Sign {
+    let group = Group::of(holder);
+    Sign {
+        letter: letters.letter(group, Part::of(holder.kind)),
+        colour: (group != Group::Free).then(|| colour(holder)),
+    }
+}
+
+fn of_several(letters: &Letters, cell: &cell::Cell) -> Sign {
+    let (group, small) = (cell.group(), letters.letter(cell.group(), Part::Page));
+    Sign {
+        letter: if cell.is_full() { small.to_ascii_uppercase() } else { small },
+        colour: (group != Group::Free).then(|| group.colour()),
+    }
+}
+
+/// The characters of a row; codes stand only where the colour differs from the one before.
+fn characters(signs: &[Sign], coloured: bool) -> String {
     let mut row = String::new();
     let mut before = None;
-    for holder in cells {
-        let group = Group::of(holder);
-        let behind = (coloured && group != Group::Free).then(|| colour(holder));
+    for Sign { letter, colour } in signs {
+        let behind = colour.filter(|_| coloured);
         if behind != before {
             row.push_str(&paint(behind));
             before = behind;
         }
-        row.push(letters.letter(group, Part::of(holder.kind)));
+        row.push(*letter);
     }
     if before.is_some() {
         row.push_str(&paint(None));

@@ -33,11 +33,26 @@ impl Page<'_> {
             _ if self.held.more(self.number) => lines.push(item("held as", "more than these two")),
             _ => {}
         }
-        lines.push(item("its bit", bit_words(self.disk.bit(self.number))));
+        lines.push(item("its bit", &self.bit_words()));
         if let Some(broken) = &self.broken {
             lines.push(item("broken", &broken_at(broken.rule, broken.place)));
         }
         lines
+    }
+
+    /// The page's bit; of a bit file of several pages also where it stands.
+    fn bit_words(&self) -> String {
+        let words = match self.disk.bit(self.number) {
+            Some(true) => "set: the page is reserved",
+            Some(false) => "clear: the page is not reserved",
+            None => "not to be found: the bit file pointer is wrong",
+        };
+        match self.disk.bit_place(self.number) {
+            Some(place) if self.disk.bit_pages() > 1 => {
+                format!("{words} (bit {} of word {} of page {})", self.number % 16, place.word, place.page)
+            }
+            _ => words.to_string(),
+        }
     }
 
     /// A word's line, and the one under it where it is the broken one.
@@ -83,13 +98,5 @@ fn beside(meaning: Meaning) -> String {
     match meaning.says.is_empty() {
         true => meaning.short,
         false => format!("{}: {}", meaning.short, meaning.told()),
-    }
-}
-
-fn bit_words(bit: Option<bool>) -> &'static str {
-    match bit {
-        Some(true) => "set: the page is reserved",
-        Some(false) => "clear: the page is not reserved",
-        None => "not to be found: the bit file pointer is wrong",
     }
 }

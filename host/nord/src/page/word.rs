@@ -23,8 +23,8 @@ impl Page<'_> {
         self.meanings(word)
             .iter()
             .for_each(|meaning| lines.extend(self.meaning_lines(meaning)));
-        if self.holders().iter().any(|holder| holder.kind == Kind::BitFile) {
-            lines.extend(self.bit_lines(word));
+        if let Some(holder) = self.holders().iter().find(|holder| holder.kind == Kind::BitFile) {
+            lines.extend(self.bit_lines(holder.position, word));
         }
         if let Some(broken) = self.broken_at(word) {
             lines.push(item("broken", &format!("here: {}", broken.what())));
@@ -62,16 +62,15 @@ impl Page<'_> {
         })
     }
 
-    /// The pages of a word of the bit file, each with its bit and its holder.
-    fn bit_lines(&self, word: u32) -> Vec<String> {
+    /// The pages that a word of the bit file's page at this position tells of, each with its bit and its holder.
+    fn bit_lines(&self, position: u32, word: u32) -> Vec<String> {
         let value = self.value(word);
-        let pages = 16 * word..(16 * word + 16).min(self.disk.pages());
         let line = |page: u32| {
             let bit = value >> (page % 16) & 1;
             let holder = self.disk.holder_words(&self.held.first(page));
             item(&format!("bit {}", page % 16), &format!("{bit}  page {page}, {holder}"))
         };
-        pages.map(line).collect()
+        self.disk.told_by(position, word).map(line).collect()
     }
 }
 

@@ -43,7 +43,7 @@ impl<'a> Mended<'a> {
             old: old.unreserved(),
             new: new.unreserved(),
         };
-        let (orphans, held) = bits(&salvaged.changes, old.bit_page());
+        let (orphans, held) = bits(&old, &salvaged.changes);
         Mended {
             before,
             changes: &salvaged.changes,
@@ -88,10 +88,11 @@ impl<'a> Mended<'a> {
     /// The changed words with what each is, octal as in the manual.
     fn table(&self) -> Vec<String> {
         let (disk, holders) = (Disk::new(self.before), Held::of(self.before));
-        let mut lines = vec![" page  word  old octal  new octal  what it is".to_string()];
+        let wide = disk.pages().saturating_sub(1).to_string().len().max(5);
+        let mut lines = vec![format!("{:>wide$}  word  old octal  new octal  what it is", "page")];
         for Change { page, word, old, new } in self.changes.iter().take(LINES) {
             let what = meaning(&disk, &holders.first(*page), *page, *word).map_or(String::new(), |meaning| meaning.what);
-            lines.push(format!("{page:>5}  {word:>4}     {old:06o}     {new:06o}  {what}"));
+            lines.push(format!("{page:>wide$}  {word:>4}     {old:06o}     {new:06o}  {what}"));
         }
         lines.extend(more(self.changes.len(), "word"));
         lines
@@ -117,11 +118,13 @@ impl<'a> Mended<'a> {
 }
 
 /// The pages whose bits are cleared, and those whose bits are set.
-fn bits(changes: &[Change], bit_page: u32) -> (Vec<u32>, Vec<u32>) {
-    let words = changes.iter().filter(|change| change.page == bit_page);
+fn bits(disk: &Disk, changes: &[Change]) -> (Vec<u32>, Vec<u32>) {
+    let file = disk.bit_file();
+    let words = changes.iter().filter(|change| file.contains(&change.page));
     let differ = words.flat_map(|change| {
-        let bits = (0..16).filter(|bit| (change.old ^ change.new) >> bit & 1 == 1);
-        bits.map(|bit| (16 * change.word + bit, change.old >> bit & 1 == 1))
+        let told = disk.told_by(change.page - file.start, change.word);
+        let turned = told.filter(|page| (change.old ^ change.new) >> (page % 16) & 1 == 1);
+        turned.map(|page| (page, change.old >> (page % 16) & 1 == 1))
     });
     let (cleared, set): (Vec<_>, Vec<_>) = differ.partition(|(_, was_set)| *was_set);
     let pages = |bits: Vec<(u32, bool)>| bits.into_iter().map(|(page, _)| page).collect();

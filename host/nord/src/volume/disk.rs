@@ -1,7 +1,8 @@
 //! The image as pages of words: numbers, pointers and entries where document 01 puts them. What lies outside the image reads as zeros.
 
 use super::stored::Stored;
-use proved::{Place, PAGE};
+use proved::{Place, PAGE, PAGES_TO_A_BIT_PAGE};
+use std::ops::Range;
 
 /// Pointers in a block.
 pub const SLOTS: u32 = 512;
@@ -22,6 +23,9 @@ pub const ENTRY_NAME: u32 = 1;
 pub const ENTRY_TYPE: u32 = 9;
 /// The first word of the pages that a user was given.
 const GIVEN: u32 = 14;
+
+/// The pages that a page of the bit file tells of.
+const TOLD: u32 = PAGES_TO_A_BIT_PAGE as u32;
 
 /// Words of the directory entry in page 0.
 pub const VOLUME_NAME: u32 = 1008;
@@ -99,16 +103,39 @@ impl<'a> Disk<'a> {
         }
     }
 
-    /// The bit file's page.
-    pub fn bit_page(&self) -> u32 {
-        self.number(0, BIT_POINTER)
+    /// How many pages the bit file of an image of this size has.
+    pub fn bit_pages(&self) -> u32 {
+        proved::bit_pages(self.pages() as usize) as u32
     }
 
-    /// A page's bit, if the bit file lies in the image.
+    /// The pages of the bit file, as far as they lie in the image; none where the bit pointer leads to no page of it.
+    pub fn bit_file(&self) -> Range<u32> {
+        match self.number(0, BIT_POINTER) {
+            first if self.inside(first) => first..(first + self.bit_pages()).min(self.pages()),
+            _ => 0..0,
+        }
+    }
+
+    /// Where a page's bit stands, if the whole bit file lies in the image.
+    pub fn bit_place(&self, page: u32) -> Option<Place> {
+        let file = self.bit_file();
+        (file.len() as u32 == self.bit_pages()).then_some(Place {
+            page: file.start + page / TOLD,
+            word: page % TOLD / 16,
+        })
+    }
+
+    /// A page's bit, if the whole bit file lies in the image.
     pub fn bit(&self, page: u32) -> Option<bool> {
-        let block = Some(self.bit_page()).filter(|page| self.inside(*page))?;
-        let word = self.words(block, page / 16, 1).first()?;
+        let place = self.bit_place(page)?;
+        let word = self.words(place.page, place.word, 1).first()?;
         Some(word >> (page % 16) & 1 == 1)
+    }
+
+    /// The pages whose bits a word of the bit file's page at this position has; none where they are from P on.
+    pub fn told_by(&self, position: u32, word: u32) -> Range<u32> {
+        let first = TOLD.saturating_mul(position).saturating_add(16 * word);
+        first.min(self.pages())..first.saturating_add(16).min(self.pages())
     }
 
     /// The ones of the bit file below P.

@@ -40,7 +40,7 @@ pub fn meaning(disk: &Disk, holder: &Holder, page: u32, word: u32) -> Option<Mea
         Kind::Free => None,
         Kind::FileData => Some(data(disk, holder, word)),
         Kind::Master => master(disk, word),
-        Kind::BitFile => bits(disk, page, word),
+        Kind::BitFile => bits(disk, holder, page, word),
         Kind::UserPage | Kind::ObjectPage => Some(entry_word(disk, holder, page, word)),
         _ => Some(slot_word(disk, holder, page, word)),
     }
@@ -75,21 +75,22 @@ fn data(disk: &Disk, holder: &Holder, word: u32) -> Meaning {
     }
 }
 
-/// The bits of sixteen pages.
-fn bits(disk: &Disk, page: u32, word: u32) -> Option<Meaning> {
+/// The bits of sixteen pages, or of the last ones.
+fn bits(disk: &Disk, holder: &Holder, page: u32, word: u32) -> Option<Meaning> {
     let value = *disk.words(page, word, 1).first()?;
-    let (first, end) = (16 * word, (16 * word + 16).min(disk.pages()));
-    if first >= end {
-        return None;
-    }
-    let set: Vec<u32> = (first..end).filter(|page| value >> (page % 16) & 1 == 1).collect();
-    let pages = format!("pages {first} to {}", end - 1);
+    let told = disk.told_by(holder.position, word);
+    let last = told.clone().last()?;
+    let set: Vec<u32> = told.clone().filter(|page| value >> (page % 16) & 1 == 1).collect();
+    let pages = match told.len() {
+        1 => format!("page {last}"),
+        _ => format!("pages {} to {last}", told.start),
+    };
     Some(Meaning {
         short: pages.clone(),
-        what: format!("bits of {pages}, word {word} of the bit file"),
-        says: match set.len() as u32 {
+        what: format!("bits of {pages}, word {word} of {}", disk.holder_phrase(holder)),
+        says: match set.len() {
             0 => "none reserved".to_string(),
-            all if all == end - first => "all reserved".to_string(),
+            all if all == told.len() => "all reserved".to_string(),
             _ => format!("reserved {}", ranges(&set)),
         },
         leftovers: None,

@@ -48,6 +48,7 @@ impl Disk<'_> {
             Kind::UserPage | Kind::ObjectIndex | Kind::ObjectPage => format!("{} {position}", kind.word()),
             Kind::FileSubindex => format!("{} of {}", kind.word(), self.file_words(user, file)),
             Kind::FileIndex | Kind::FileData => format!("{} {position} of {}", kind.word(), self.file_words(user, file)),
+            Kind::BitFile if self.bit_pages() > 1 => format!("{} of the bit file's {} pages", ordinal(position), self.bit_pages()),
             _ => kind.word().to_string(),
         }
     }
@@ -60,4 +61,13 @@ impl Disk<'_> {
             _ => format!("the {words}"),
         }
     }
+}
+
+/// The bit pages of the largest volume, by position.
+const ORDINALS: [&str; 9] = ["first", "second", "third", "fourth", "fifth", "sixth", "seventh", "eighth", "ninth"];
+
+/// "second", of position 1.
+fn ordinal(position: u32) -> String {
+    let word = ORDINALS.get(position as usize).map(|word| word.to_string());
+    word.unwrap_or_else(|| format!("number {position}"))
 }

@@ -108,7 +108,9 @@ impl Walk<'_> {
     fn hold_systems(&mut self) {
         let disk = self.disk;
         self.hold(0, Holder::system(Kind::Master, 0));
-        self.hold_system(disk.bit_page(), Kind::BitFile, 0);
+        (0..)
+            .zip(disk.bit_file())
+            .for_each(|(n, page)| self.hold_system(page, Kind::BitFile, n));
         if let Pointer::Indexed(block) = disk.user_pointer() {
             self.hold_system(block, Kind::UserIndex, 0);
         }

@@ -9,6 +9,7 @@ impl Volume {
         match holder.kind {
             Kind::Free => "free".to_string(),
             Kind::Master => "master block".to_string(),
+            Kind::BitFile if proved::bit_pages(self.pages as usize) > 1 => format!("bit file, page {position}"),
             Kind::BitFile => "bit file".to_string(),
             Kind::UserIndex => "user file, index block".to_string(),
             Kind::UserPage => format!("user file, page {position}"),

@@ -145,7 +145,7 @@ fn what_is_changed_has_json() {
             ("file delete IMAGE DOCK/LOG", json!({ "number": 0, "user": 0, "file": 2 })),
             (
                 "format IMAGE YARD",
-                json!({ "number": 0, "volume": "YARD", "pages": 154, "bit_page": 77 }),
+                json!({ "number": 0, "volume": "YARD", "pages": 154, "bit_page": 77, "bit_pages": 1 }),
             ),
         ],
     );

@@ -10,6 +10,7 @@ mod host;
 mod killed;
 mod listing;
 mod names;
+mod packs;
 mod page;
 mod readme;
 mod refusals;

@@ -13,13 +13,26 @@ fn number_1_for_lengths() {
         fails(&image, "user add IMAGE DOCK", 1);
     }
     let image = folder.path("long.img");
-    std::fs::File::create(&image).unwrap().set_len(16385 * 2048).unwrap();
-    fails(&image, "list IMAGE", 1);
+    std::fs::File::create(&image).unwrap().set_len(140_734 * 2048).unwrap();
+    let said = run(&image, "list IMAGE");
+    assert_eq!(said.status, 1);
+    assert!(
+        said.err
+            .ends_with("fewer than 8 or more than 140,733 pages: the image has 288223232 bytes\n"),
+        "{}",
+        said.err
+    );
     let huge = folder.path("huge.img");
     std::fs::File::create(&huge).unwrap().set_len(1 << 40).unwrap();
     assert_eq!(run(&huge, "check IMAGE").status, 1);
     assert_eq!(run(&folder.path("new.img"), "format IMAGE YARD --pages 7").status, 1);
-    assert_eq!(run(&folder.path("new.img"), "format IMAGE YARD --pages 16385").status, 1);
+    let said = run(&folder.path("new.img"), "format IMAGE YARD --pages 140734");
+    assert_eq!(said.status, 1);
+    assert!(
+        said.err.ends_with("more than 140,733 pages (140734 pages asked for)\n"),
+        "{}",
+        said.err
+    );
     assert_eq!(run(&folder.path("new.img"), "format IMAGE YARD --pages 99999999999").status, 1);
     assert_eq!(folder.names(), ["huge.img", "long.img", "short.img"]);
 }
@@ -36,7 +49,9 @@ fn number_2_for_arguments() {
         "find IMAGE DOCK/READS:TYPES",
         "file create IMAGE DOCK/A/B",
         "user give IMAGE DOCK 0",
-        "user give IMAGE DOCK 16385",
+        "user give IMAGE DOCK 140734",
+        "user take IMAGE DOCK 140734",
+        "file create IMAGE DOCK/BIG --contiguous 140734",
         "user give IMAGE DOCK 99999999999999",
         "user take IMAGE @256 1",
         "file delete IMAGE @0/@256",
@@ -130,6 +145,11 @@ fn numbers_9_to_11() {
             "user give IMAGE DOCK 49",
             10,
             "unreserved is below the pages to be given: 49 for DOCK",
+        ),
+        (
+            "user give IMAGE DOCK 140733",
+            10,
+            "unreserved is below the pages to be given: 140733 for DOCK",
         ),
         (
             "file create IMAGE DOCK/LONG --contiguous 70",

@@ -92,6 +92,23 @@ pub fn big_file() -> Vec<u16> {
     image
 }
 
+/// A large pack, of more than one bit page: a long run behind the bit file, files of four users by turns, and gaps.
+pub fn pack(pages: usize) -> Vec<u16> {
+    let mut image = volume("PACK", pages);
+    let users: Vec<usize> = ["DOCK", "FLOCK", "GATE", "WEIGH-BRIDGE"]
+        .iter()
+        .map(|name| user(&mut image, name, pages / 5))
+        .collect();
+    run(&mut image, users[0], "LAMBS", pages / 6);
+    for (round, user) in users.iter().cycle().take(12).enumerate() {
+        run(&mut image, *user, &format!("RUN{round}"), 100 + 37 * round);
+        grown(&mut image, *user, &format!("TEXT{round}"), 5 * round);
+    }
+    let old = done(proved::find_file(&image, users[2], b"RUN6", b"")) as usize;
+    done(proved::delete_file(&mut image, users[2], old));
+    image
+}
+
 /// Numbers that look random, the same each time.
 pub struct Dice(pub u64);
 

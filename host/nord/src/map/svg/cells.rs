@@ -2,6 +2,7 @@
 
 use super::mark::{dot, label, rect, ring, Text};
 use super::Plan;
+use crate::map::cell;
 use crate::map::legend::{colour, Group, Part};
 use crate::map::letters::Letters;
 use crate::volume::{Holder, Volume};
@@ -25,14 +26,25 @@ pub fn cells(plan: &Plan, volume: &Volume, holders: &[Holder], letters: &Letters
     cells
 }
 
+/// A cell for each several pages. Those that most pages of one group are in lie close together.
+pub fn of_several(plan: &Plan, volume: &Volume, holders: &[Holder]) -> String {
+    let cells = cell::cells(holders, plan.each);
+    let drawn = |(n, cell): (usize, &cell::Cell)| {
+        let next = cells.get(n + 1).filter(|_| (n + 1) % plan.side != 0);
+        let close = next.is_some_and(|next| next.group() == cell.group());
+        rect("pages", place(plan, n, close), &cell.colour().hex(), &cell.words(volume))
+    };
+    cells.iter().enumerate().map(drawn).collect()
+}
+
 /// Whether two pages are of one file, or both free.
 fn together(one: &Holder, two: &Holder) -> bool {
     Group::of(one) == Group::of(two) && one.file == two.file
 }
 
-/// Where a page's cell lies: x, y, width, height. The gap is on its right and below it.
-fn place(plan: &Plan, page: usize, close: bool) -> [f64; 4] {
-    let (x, y) = plan.corner(page);
+/// Where the n-th cell lies: x, y, width, height. The gap is on its right and below it.
+fn place(plan: &Plan, n: usize, close: bool) -> [f64; 4] {
+    let (x, y) = plan.corner(n);
     let (narrow, wide) = if plan.cell >= 12 { (1.0, 3.0) } else { (0.5, 1.5) };
     let gap = if close { narrow } else { wide };
     [x as f64, y as f64, plan.cell as f64 - gap, plan.cell as f64 - wide]
@@ -81,13 +93,14 @@ pub fn numbers(plan: &Plan, pages: usize) -> String {
     };
     // a number at every row, or at every second, fourth, ..., so that they do not touch
     let rows = [1, 2, 4, 8].into_iter().find(|rows| rows * plan.cell >= 16).unwrap_or(16);
-    for row in (0..pages.div_ceil(plan.side)).step_by(rows) {
+    let to_a_row = plan.side * plan.each;
+    for row in (0..pages.div_ceil(to_a_row)).step_by(rows) {
         let y = plan.top + row * plan.cell + plan.cell / 2 + 3;
-        numbers.push_str(&label(plan.left - 8, y, &beside, &(row * plan.side).to_string()));
+        numbers.push_str(&label(plan.left - 8, y, &beside, &(row * to_a_row).to_string()));
     }
     for column in (0..plan.side).step_by(plan.side / 8) {
         let x = plan.left + column * plan.cell + plan.cell / 2 - 1;
-        numbers.push_str(&label(x, plan.top - 8, &above, &format!("+{column}")));
+        numbers.push_str(&label(x, plan.top - 8, &above, &format!("+{}", column * plan.each)));
     }
     numbers
 }

@@ -8,7 +8,7 @@ use crate::palette;
 
 const LINE: usize = 23;
 const SWATCH: usize = 17;
-/// Room for "of 16,384 given" and a gap.
+/// Room for "of 140,733 given" and a gap.
 const GIVEN: usize = 125;
 
 /// A line of the legend.
@@ -33,7 +33,17 @@ pub struct Key<'a> {
     wide: usize,
 }
 
-fn lines(legend: &Legend) -> Vec<Line<'_>> {
+/// What is said where a cell is several pages.
+fn several(each: usize) -> [String; 4] {
+    [
+        format!("a cell is {each} pages:"),
+        "the colour of whoever holds most of them,".to_string(),
+        "the paler the more of them are free;".to_string(),
+        "master block and bit file wherever they lie".to_string(),
+    ]
+}
+
+fn lines(legend: &Legend, each: usize) -> Vec<Line<'_>> {
     let (users, system): (Vec<&Row>, Vec<&Row>) = legend.rows.iter().partition(|row| matches!(row.group, Group::User(_)));
     let mut lines = vec![Line::Heading("System")];
     lines.extend(system.into_iter().map(Line::Row));
@@ -42,6 +52,11 @@ fn lines(legend: &Legend) -> Vec<Line<'_>> {
     }
     lines.extend(users.into_iter().map(Line::Row));
     lines.extend(legend.others_in_words().map(Line::Note));
+    if each > 1 {
+        lines.push(Line::Gap);
+        lines.extend(several(each).map(Line::Note));
+        return lines;
+    }
     if legend.index {
         lines.extend([Line::Gap, Line::Mark(Part::Index)]);
     }
@@ -53,7 +68,7 @@ fn lines(legend: &Legend) -> Vec<Line<'_>> {
 
 impl Key<'_> {
     pub fn of<'a>(plan: &Plan, legend: &'a Legend, letters: &'a Letters) -> Key<'a> {
-        let lines = lines(legend);
+        let lines = lines(legend, plan.each);
         let longest = legend.rows.iter().map(|row| row.name.len()).max().unwrap_or(0).max(12);
         let down = (plan.height / LINE).max(18).max(lines.len().div_ceil(3));
         Key {
