@@ -1,11 +1,12 @@
 //! Files: create, grow, shrink, delete, open.
 
-use crate::answers::{self, done, Answer, Call};
+use super::steps::{self, step, Place, Refused};
+use crate::answers::{self, done, Answer, Call, Refusal};
 use crate::args::{Change, File};
 use crate::failure::Failure;
 use crate::names::{FileName, Within};
-use crate::progress::Progress;
 use crate::store;
+use proved::call;
 use serde_json::json;
 
 pub fn run(command: File) -> Result<Answer, Failure> {
@@ -78,26 +79,21 @@ fn some(count: u32) -> Result<u32, Failure> {
 }
 
 /// Grows by so many pages, and gives the new data pages. A refusal says how far it came, though nothing of it is kept.
-pub fn grow_by(image: &mut [u16], file: &FileName, (user, index): (usize, usize), count: u32) -> Result<Vec<u32>, Failure> {
-    let bar = Progress::start("growing", count.into());
-    let mut pages = Vec::new();
-    for number in 1..=count {
-        let grown = done(proved::grow(image, user, index), Call::Grow, file);
-        pages.push(grown.map_err(|refusal| refusal.with(format!("page {number} of {count} to grow by")))?);
-        bar.step();
-    }
-    Ok(pages)
+pub fn grow_by(image: &mut [u16], file: &FileName, place: Place, count: u32) -> Result<Vec<u32>, Failure> {
+    let grown = steps::make(image, "growing", count, &[], |_| step(call::GROW, place, 0));
+    Ok(grown.map_err(|refused| so_far(refused, Call::Grow, file, format!("of {count} to grow by")))?)
 }
 
 /// Shrinks by so many pages.
-pub fn shrink_by(image: &mut [u16], file: &FileName, (user, index): (usize, usize), count: u32) -> Result<(), Failure> {
-    let bar = Progress::start("shrinking", count.into());
-    for number in 1..=count {
-        let shrunk = done(proved::shrink(image, user, index), Call::Shrink, file);
-        shrunk.map_err(|refusal| refusal.with(format!("page {number} of {count} to shrink by")))?;
-        bar.step();
-    }
+pub fn shrink_by(image: &mut [u16], file: &FileName, place: Place, count: u32) -> Result<(), Failure> {
+    let shrunk = steps::make(image, "shrinking", count, &[], |_| step(call::SHRINK, place, 0));
+    shrunk.map_err(|refused| so_far(refused, Call::Shrink, file, format!("of {count} to shrink by")))?;
     Ok(())
+}
+
+/// The refusal of one of several calls on a file, with the page that it was for.
+fn so_far(refused: Refused, call: Call, file: &FileName, of: String) -> Refusal {
+    Refusal::of(refused.reply, call, file).with(format!("page {} {of}", refused.before + 1))
 }
 
 fn delete(at: &Change, file: &FileName) -> Result<Answer, Failure> {

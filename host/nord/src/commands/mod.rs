@@ -7,6 +7,7 @@ mod format;
 mod map;
 mod page;
 mod salvage;
+mod steps;
 mod transfer;
 mod users;
 

@@ -1,13 +1,14 @@
 //! Whole files out of an image and into it, page by page.
 
 use super::files;
-use crate::answers::{self, done, Answer, Call};
+use super::steps::{self, step, Place, Refused};
+use crate::answers::{self, done, Answer, Call, Refusal};
 use crate::args::{Ask, Change};
 use crate::failure::{of_file, standard_output, Failure};
 use crate::names::FileName;
-use crate::progress::Progress;
 use crate::volume::{self, FileKind};
 use crate::{output, store};
+use proved::{call, Step};
 use serde_json::json;
 use std::fs;
 use std::io::{Read, Write};
@@ -26,8 +27,7 @@ pub fn read(at: &Ask, file: &FileName, output: Option<&Path>) -> Result<Answer, 
             "read with --json needs a host's file: standard output has the answer".to_string(),
         ));
     }
-    let image = store::read(&at.image)?;
-    let bytes = pages(&image, file)?;
+    let bytes = pages(&mut store::read(&at.image)?, file)?;
     match output {
         None => {
             let mut out = std::io::stdout().lock();
@@ -46,29 +46,27 @@ pub fn read(at: &Ask, file: &FileName, output: Option<&Path>) -> Result<Answer, 
     }
 }
 
-/// All bytes of a file.
-fn pages(image: &[u16], file: &FileName) -> Result<Vec<u8>, Failure> {
-    let (user, index) = file.indexes(image)?;
-    let count = entry(image, file, (user, index))?.pages;
-    let bar = Progress::start("reading", count.into());
-    let mut bytes = Vec::with_capacity(count as usize * store::PAGE);
-    for position in 0..count as usize {
-        let page = proved::read_page(image, user, index, position);
-        if page.is_empty() {
-            done(
-                proved::address(image, user, index, position),
-                Call::Address,
-                format!("position {position} of {file}"),
-            )?;
-        }
-        bytes.extend(store::bytes(page));
-        bar.step();
+/// All bytes of a file. The library is asked for the address of each page, which changes nothing, and the page lies there.
+fn pages(image: &mut [u16], file: &FileName) -> Result<Vec<u8>, Failure> {
+    let place = file.indexes(image)?;
+    let count = entry(image, file, place)?.pages;
+    let found = steps::make(image, "reading", count, &[], |position| step(call::ADDRESS, place, position));
+    let numbers = found.map_err(|refused| at_position(refused, Call::Address, file))?;
+    let mut bytes = Vec::with_capacity(numbers.len() * store::PAGE);
+    for number in numbers {
+        let start = number as usize * proved::PAGE;
+        bytes.extend(store::bytes(&image[start..start + proved::PAGE]));
     }
     Ok(bytes)
 }
 
+/// The refusal of a call on a page of a file, with its position.
+fn at_position(refused: Refused, call: Call, file: &FileName) -> Refusal {
+    Refusal::of(refused.reply, call, format!("position {} of {file}", refused.before))
+}
+
 /// A file's entry in an image, which is checked before.
-fn entry(image: &[u16], file: &FileName, (user, index): (usize, usize)) -> Result<volume::File, Failure> {
+fn entry(image: &[u16], file: &FileName, (user, index): Place) -> Result<volume::File, Failure> {
     done(proved::check(image), Call::Check, "")?;
     match volume::read(image).user(user as u32).and_then(|owner| owner.file(index as u32)) {
         Some(entry) => Ok(entry.clone()),
@@ -115,7 +113,7 @@ fn load(input: &Path) -> Result<Vec<u16>, Failure> {
 }
 
 /// Grows or shrinks the file to so many pages.
-fn fit(image: &mut [u16], file: &FileName, place: (usize, usize), count: u32, contiguous: bool) -> Result<(), Failure> {
+fn fit(image: &mut [u16], file: &FileName, place: Place, count: u32, contiguous: bool) -> Result<(), Failure> {
     let entry = entry(image, file, place)?;
     if contiguous && entry.kind != FileKind::Contiguous {
         return Err(Failure::Usage(format!("{file}: is there and is not contiguous")));
@@ -130,12 +128,12 @@ fn fit(image: &mut [u16], file: &FileName, place: (usize, usize), count: u32, co
 }
 
 /// Writes every page.
-fn fill(image: &mut [u16], file: &FileName, (user, index): (usize, usize), data: &[u16]) -> Result<(), Failure> {
-    let bar = Progress::start("writing", (data.len() / proved::PAGE) as u64);
-    for (position, page) in (0..).zip(data.chunks_exact(proved::PAGE)) {
-        let written = proved::write_page(image, user, index, position, page);
-        done(written, Call::Write, format!("position {position} of {file}"))?;
-        bar.step();
-    }
+fn fill(image: &mut [u16], file: &FileName, place: Place, data: &[u16]) -> Result<(), Failure> {
+    let count = (data.len() / proved::PAGE) as u32;
+    let written = steps::make(image, "writing", count, data, |position| Step {
+        data_at: proved::PAGE as u32 * position,
+        ..step(call::WRITE_PAGE, place, position)
+    });
+    written.map_err(|refused| at_position(refused, Call::Write, file))?;
     Ok(())
 }
