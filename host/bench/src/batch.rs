@@ -1,10 +1,10 @@
 //! A thousand new files of one page on a volume with seven thousand: the calls that make them, as one list of steps and one by one.
 
 use crate::disk::Disk;
-use crate::volumes::{file_name, user_name, KIND, LARGEST};
+use crate::volumes::{file_name, user_name, KIND, LARGE_VOLUME};
 use proved::{call, Reply, Step, PAGE};
 
-/// The files that are there, and those that are made, on the largest volume; a smaller one has as many fewer.
+/// The files that are there, and those that are made, on the large volume; a smaller one has as many fewer.
 const OLD: u32 = 7_000;
 const NEW: u32 = 1_000;
 
@@ -30,7 +30,7 @@ pub struct Batch {
 
 impl Batch {
     pub fn new(pages: u32) -> Batch {
-        let [old, new] = [OLD, NEW].map(|files| files * pages / LARGEST);
+        let [old, new] = [OLD, NEW].map(|files| files * pages / LARGE_VOLUME);
         let first = old.div_ceil(EACH);
         let names: Vec<Vec<u8>> = (0..new).map(|n| format!("NEW{n}").into_bytes()).collect();
         let data = (0..new as usize * PAGE).map(|n| (n % 65_521) as u16).collect();

@@ -119,3 +119,11 @@ pub fn check_beside(words: &[u16], sound: &[u16], effort: Effort) -> (Figures, S
     let times = race(&mut [first, other, beside], effort);
     (figures(&times), Spread::of_ratio(&times[0], &times[2]))
 }
+
+/// The library's check alone in turns with its check of a sound image: its time, and over the other.
+pub fn check_over(words: &[u16], sound: &[u16], effort: Effort) -> (f64, Spread) {
+    let [first, _] = checks(words);
+    let [beside, _] = checks(sound);
+    let times = race(&mut [first, beside], effort);
+    (Spread::of(&times[0]).median, Spread::of_ratio(&times[0], &times[1]))
+}

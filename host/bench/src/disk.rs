@@ -2,15 +2,19 @@
 
 use second::bits::{is_reserved, reserve};
 use second::entry::{object, object_number, user, EntryPlace, ENTRIES_TO_A_PAGE, NAME, TYPE, USED_WORD};
-use second::image::{
-    page_start, page_words, page_words_mut, pair, put_pair, BIT_POINTER, OBJECT_POINTER, PAGE_WORDS, UNRESERVED, USER_POINTER,
-};
+use second::image::{page_start, pair, put_pair, BIT_POINTER, OBJECT_POINTER, PAGE_WORDS, UNRESERVED, USER_POINTER};
 use second::name::{pack, NAME_WORDS, TYPE_WORDS};
 use second::pointer::{block_and_slot, pages_held, put_slot, slot, Pointer, SLOTS};
 use std::collections::BTreeSet;
+use std::ops::Range;
 
 /// Users above this many need a subindexed object file.
 const USERS_OF_ONE_INDEX: u32 = 64;
+
+/// The pages of the bit file of so many pages.
+pub fn bit_pages(pages: u32) -> u32 {
+    proved::bit_pages(pages as usize) as u32
+}
 
 /// What an entry of the object file says.
 pub struct Entry<'a> {
@@ -25,7 +29,9 @@ pub struct Entry<'a> {
 pub struct Disk {
     pub words: Vec<u16>,
     pages: u32,
-    bit_page: u32,
+    /// The pages of the bit file, and its words.
+    bit_file: Range<u32>,
+    bits: Range<usize>,
     /// The lowest page never taken, and the one above the highest.
     low: u32,
     high: u32,
@@ -40,17 +46,19 @@ impl Disk {
     pub fn new(pages: u32, volume: &[u8], names: &[Vec<u8>]) -> Disk {
         let mut words = vec![0; pages as usize * PAGE_WORDS];
         assert_eq!(second::format(&mut words, volume, None).number, 0);
-        let bit_page = pair(&words, BIT_POINTER);
+        let first = pair(&words, BIT_POINTER);
+        let bit_file = first..first + bit_pages(pages);
         let users = names.len() as u32;
         let mut disk = Disk {
             words,
             pages,
-            bit_page,
+            bits: page_start(bit_file.start)..page_start(bit_file.end),
+            bit_file,
             low: 1,
             high: pages,
             left: BTreeSet::new(),
             users,
-            system: 2,
+            system: 1 + bit_pages(pages),
         };
         disk.make_users(names);
         disk
@@ -81,7 +89,7 @@ impl Disk {
 
     /// Whether a page is free.
     pub fn is_free(&self, page: u32) -> bool {
-        !is_reserved(page_words(&self.words, self.bit_page), page)
+        !is_reserved(&self.words[self.bits.clone()], page)
     }
 
     /// Leaves these pages free, of those not taken yet.
@@ -91,7 +99,7 @@ impl Disk {
 
     /// Whether a page is never taken for what is laid out.
     fn is_passed_over(&self, page: u32) -> bool {
-        page == self.bit_page || self.left.contains(&page)
+        self.bit_file.contains(&page) || self.left.contains(&page)
     }
 
     /// Pages not taken yet, but for those that stay free.
@@ -134,7 +142,7 @@ impl Disk {
     }
 
     fn set_bit(&mut self, page: u32) {
-        reserve(page_words_mut(&mut self.words, self.bit_page), page);
+        reserve(&mut self.words[self.bits.clone()], page);
     }
 
     /// The page at a slot of a block, taken if there is none yet.

@@ -2,7 +2,7 @@
 //! Both files are written anew before each run, outside the timed part.
 
 use crate::ext2::{make_image, own_child, quiet_status, tool};
-use crate::scratch::{map_native, words, Scratch};
+use crate::scratch::{bytes, map_native, words, Scratch};
 use crate::stale::stale;
 use crate::timing::{race, Effort, Side, Spread, Times};
 use crate::volumes::Volume;
@@ -89,7 +89,7 @@ pub fn contest(scratch: &Scratch, volume: &Volume, effort: Effort) -> io::Result
     let memory = Scratch::in_memory(ours.len() + theirs.len());
     let places = [Some(("disk", scratch)), memory.as_ref().map(|memory| ("memory", memory))];
     let raced = places.into_iter().flatten().map(|(place, folder)| {
-        let times = race_in(folder, &ours, &theirs, effort)?;
+        let times = race_in(folder, ours, &theirs, effort)?;
         Ok(Beside {
             place,
             salvage: Spread::of(&times[0]).median,
@@ -112,9 +112,4 @@ fn race_in(folder: &Scratch, ours: &[u8], theirs: &[u8], effort: Effort) -> io::
     assert_eq!((found.number, fsck_status("-fn", &ext2)?), (0, Some(0)), "both files are mended");
     [ext2, native].iter().try_for_each(fs::remove_file)?;
     Ok(times)
-}
-
-/// The bytes of an image in this machine's order.
-fn bytes(words: &[u16]) -> Vec<u8> {
-    words.iter().flat_map(|word| word.to_ne_bytes()).collect()
 }

@@ -98,8 +98,18 @@ fn share(disk: &mut Disk, users: u32, pages: u32, pointer: Pointer) {
     (0..users * FILES_OF_A_USER).for_each(|n| put_file(disk, n, pages, pointer));
 }
 
+/// All files have one tree of 512 full index blocks.
+pub fn one_full_tree(pages: u32, users: u32) -> Hostile {
+    one_tree("one full tree", pages, users, SLOTS)
+}
+
+/// The same, and the last block is not full.
+pub fn one_ragged_tree(pages: u32, users: u32) -> Hostile {
+    one_tree("one tree, last block not full", pages, users, SLOTS - 1)
+}
+
 /// All files have one tree of 512 index blocks; `last` slots of the last block are filled.
-pub fn one_tree(name: &'static str, pages: u32, users: u32, last: u32) -> Hostile {
+fn one_tree(name: &'static str, pages: u32, users: u32, last: u32) -> Hostile {
     let mut disk = disk(pages, users);
     let top = tree(&mut disk, last);
     let size = (SLOTS - 1) * SLOTS + last;
@@ -185,6 +195,66 @@ pub fn last_positions(pages: u32, users: u32) -> Hostile {
     }
 }
 
+/// Each file has an index block of its own, full of one page; only the last two, at their last positions, hold the lowest page held twice. A
+/// pack has room for as many blocks as there are entries.
+pub fn own_blocks(pages: u32, users: u32) -> Hostile {
+    let mut disk = disk(pages, users);
+    let (page, target, files) = (disk.take(), disk.take(), users * FILES_OF_A_USER);
+    for n in 0..files {
+        let block = index_block(&mut disk, SLOTS, target);
+        if n + 2 >= files {
+            put_pair(disk.page_mut(block), PAGE_WORDS - 2, page);
+        }
+        put_file(&mut disk, n, SLOTS, Pointer::Indexed(block));
+    }
+    Hostile {
+        name: "an index block each",
+        about:
+            "each file has a full index block of its own; only the last two, each at its last position, hold the lowest page that is held \
+                twice"
+                .into(),
+        words: disk.finish(0, 0),
+        files,
+        twice: Some(Twice {
+            page,
+            first: of_file(FILE_DATA, files - 2, SLOTS - 1),
+            second: of_file(FILE_DATA, files - 1, SLOTS - 1),
+        }),
+    }
+}
+
+/// Each file has a subindex block of its own, over the index blocks of one tree; only the last two, at their last positions, hold the lowest page
+/// held twice.
+pub fn own_tops(pages: u32, users: u32) -> Hostile {
+    let mut disk = disk(pages, users);
+    let (page, files) = (disk.take(), users * FILES_OF_A_USER);
+    let shared = tree(&mut disk, SLOTS);
+    let blocks = disk.page_mut(shared).to_vec();
+    for n in 0..files {
+        let top = match n + 2 >= files {
+            true => own_tree(&mut disk, shared, page, 1),
+            false => disk.take(),
+        };
+        if n + 2 < files {
+            disk.page_mut(top).copy_from_slice(&blocks);
+        }
+        put_file(&mut disk, n, FULL, Pointer::Subindexed(top));
+    }
+    Hostile {
+        name: "a subindex block each",
+        about: "each file has a subindex block of its own over the index blocks of one tree; only the last two, each at its last position, hold \
+                the lowest page that is held twice"
+            .into(),
+        words: disk.finish(0, 0),
+        files,
+        twice: Some(Twice {
+            page,
+            first: of_file(FILE_DATA, files - 2, FULL - 1),
+            second: of_file(FILE_DATA, files - 1, FULL - 1),
+        }),
+    }
+}
+
 /// All files have one index block with 511 slots filled.
 pub fn one_block(pages: u32, users: u32) -> Hostile {
     let mut disk = disk(pages, users);
@@ -261,11 +331,22 @@ pub fn question() -> Question {
     }
 }
 
+/// Those of a pack, which a check refuses, each to be made for so many pages and users.
+pub const OF_A_PACK: [fn(u32, u32) -> Hostile; 7] = [
+    one_full_tree,
+    one_ragged_tree,
+    one_block,
+    last_two,
+    last_positions,
+    own_blocks,
+    own_tops,
+];
+
 /// All of them, for so many pages and users.
 pub fn all(pages: u32, users: u32) -> Vec<Hostile> {
     vec![
-        one_tree("one full tree", pages, users, SLOTS),
-        one_tree("one tree, last block not full", pages, users, SLOTS - 1),
+        one_full_tree(pages, users),
+        one_ragged_tree(pages, users),
         one_block(pages, users),
         last_two(pages, users),
         last_positions(pages, users),
@@ -281,7 +362,8 @@ mod tests {
 
     #[test]
     fn the_second_program_finds_what_each_was_made_for() {
-        for image in all(1_200, 2) {
+        let of_a_pack = OF_A_PACK.map(|make| make(1_700, 2));
+        for image in all(1_200, 2).into_iter().chain(of_a_pack) {
             let found = reply(second::check(&image.words));
             match image.twice {
                 Some(twice) => assert_eq!(found, twice.reply(), "{}", image.name),

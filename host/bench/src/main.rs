@@ -3,7 +3,7 @@
 use bench::calls::{Call, Program};
 use bench::parts::{self, run, Plan};
 use bench::scratch::{write_house, write_native};
-use bench::volumes::LARGEST;
+use bench::volumes::LARGE_VOLUME;
 use bench::{children, machine};
 use std::io;
 use std::path::Path;
@@ -12,6 +12,7 @@ use std::process::ExitCode;
 const USE: &str = "bench [--quick] [--output FILE.md]
 bench searches                   the part on volumes that are nearly full, alone
 bench salvage                    the part on salvage, alone
+bench packs                      the part on packs of 37,035 and 140,733 pages, alone
 bench machine                    the machine and the tools
 bench volumes FOLDER             writes the volumes there, for the next three
 bench check-file IMAGE           a process that reads and checks an image, high byte first
@@ -22,7 +23,7 @@ bench once CALL IMAGE proved|second N   asks a call N times (at most 11) of an i
 /// Writes the measured volumes in both byte orders, with what is asked of them.
 fn write_volumes(folder: &str) -> io::Result<()> {
     std::fs::create_dir_all(folder)?;
-    for volume in parts::volumes(LARGEST) {
+    for volume in parts::volumes(LARGE_VOLUME) {
         write_house(Path::new(folder), &volume.name, &volume.words)?;
         write_native(Path::new(folder), &volume.name, &volume.words, &volume.question)?;
     }
@@ -73,6 +74,7 @@ fn main() -> ExitCode {
         }
         ["searches"] => parts::run_searches(Plan::thorough()).map(drop),
         ["salvage"] => parts::run_salvage(Plan::thorough()).map(drop),
+        ["packs"] => parts::run_packs(Plan::thorough()).map(drop),
         ["volumes", folder] => write_volumes(folder),
         ["check-file", image] => children::check_file(Path::new(image)).and_then(verdict),
         ["check-mapped", image] => children::check_mapped(Path::new(image)).and_then(verdict),

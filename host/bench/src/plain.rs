@@ -1,12 +1,12 @@
 //! The plain searches for free pages, one bit after another: what the searches by words are measured beside. They find the bit page by the
-//! master block's bit pointer, as the library's do, and give the same.
+//! master block's bit pointer, as the library's do, and give the same. They are for volumes of one bit page, as the nearly full ones are.
 
 use second::image::{page_words, pair, BIT_POINTER, PAGE_WORDS};
 
 /// The words of the bit file, and the image's pages. Each page has its bit: with this said once, a search need not see to it at each bit.
 pub fn bit_file(image: &[u16]) -> (&[u16; PAGE_WORDS], usize) {
     let (bits, pages) = (page_words(image, pair(image, BIT_POINTER)), image.len() / PAGE_WORDS);
-    assert!(pages <= 16 * PAGE_WORDS, "a bit for each page");
+    assert!(pages <= 16 * PAGE_WORDS, "one bit page has a bit for each page");
     (bits.try_into().expect("a whole page"), pages)
 }
 

@@ -62,7 +62,7 @@ pub fn write_house(folder: &Path, name: &str, words: &[u16]) -> io::Result<PathB
 /// Writes an image in this machine's own byte order, which can be mapped, and beside it what is asked of it.
 pub fn write_native(folder: &Path, name: &str, words: &[u16], question: &Question) -> io::Result<PathBuf> {
     let path = folder.join(format!("{name}.native"));
-    fs::write(&path, words.iter().flat_map(|word| word.to_ne_bytes()).collect::<Vec<u8>>())?;
+    fs::write(&path, bytes(words))?;
     fs::write(path.with_extension("ask"), question.to_text())?;
     Ok(path)
 }
@@ -83,6 +83,11 @@ pub fn read_house(image: &Path) -> io::Result<Vec<u16>> {
 }
 
 /// The bytes of words, as they lie in memory.
+pub fn bytes(words: &[u16]) -> &[u8] {
+    unsafe { words.align_to().1 }
+}
+
+/// The same, to change.
 fn bytes_mut(words: &mut [u16]) -> &mut [u8] {
     unsafe { words.align_to_mut().1 }
 }

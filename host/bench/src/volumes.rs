@@ -2,12 +2,12 @@
 
 use crate::answers::agreed;
 use crate::calls::Question;
-use crate::disk::Disk;
+use crate::disk::{bit_pages, Disk};
 use second::image::PAGE_WORDS;
 use second::pointer::pages_held;
 
-/// Pages of the largest volume.
-pub const LARGEST: u32 = 16_384;
+/// Pages of the large volumes, as many as one bit page has bits for; packs have more.
+pub const LARGE_VOLUME: u32 = 16_384;
 
 /// The pages of a large file; the last one of a volume has what is left.
 const LARGE: u32 = 4_000;
@@ -16,6 +16,9 @@ const LARGE: u32 = 4_000;
 const LEFT: u32 = 3;
 
 const FILES_OF_A_USER: u32 = 256;
+
+/// The most files of a volume that has an entry left for one more.
+const MOST_FILES: u32 = 65_535;
 
 /// A volume with what is asked of it, and what an ext2 image of the same content has to hold.
 pub struct Volume {
@@ -137,15 +140,28 @@ fn free_pages(words: &[u16]) -> u32 {
     (words.len() / PAGE_WORDS) as u32 - second::check(words).value
 }
 
+/// What is not free of so many pages with so many files, each with so many pages held: these, the system's, and those left for a grow.
+fn needed(pages: u32, files: u32, each: u32) -> u32 {
+    let users = files.div_ceil(FILES_OF_A_USER);
+    let blocks = 1 + if users > 64 { users.div_ceil(64) } else { 0 };
+    let system = 1 + bit_pages(pages) + 1 + users.div_ceil(32) + blocks + (files + 1).div_ceil(32);
+    system + each * files + LEFT
+}
+
 /// The most files that fit, each with so many pages held. The last user has at least two, and room for one file more.
 fn most(pages: u32, each: u32) -> u32 {
-    let fits = |files: u32| {
-        let users = files.div_ceil(FILES_OF_A_USER);
-        let system = 2 + 1 + users.div_ceil(32) + 1 + if users > 64 { users.div_ceil(64) } else { 0 } + (files + 1).div_ceil(32);
-        system + each * files + LEFT <= pages
-    };
-    let most = (1..=65_535).take_while(|&files| fits(files)).last().unwrap_or(2);
+    let fits = |files: &u32| needed(pages, *files, each) <= pages;
+    let most = (1..=MOST_FILES).take_while(fits).last().unwrap_or(2);
     (2..=most).rev().find(|files| files % FILES_OF_A_USER >= 2).unwrap_or(2)
+}
+
+/// The pages of the first of so many files of one page. Where there is no entry for more files, it has what they leave.
+fn first(pages: u32, files: u32) -> u32 {
+    let left = match files {
+        MOST_FILES => u64::from(pages - needed(pages, files, 2)),
+        _ => 0,
+    };
+    (1..).take_while(|&size| pages_held(size) <= 2 + left).last().unwrap_or(1)
 }
 
 /// The names of as many users as so many files need, and how many files each has.
@@ -155,20 +171,28 @@ fn owners(files: u32) -> (Vec<Vec<u8>>, Vec<u32>) {
     ((0..users).map(user_name).collect(), (0..users).map(count).collect())
 }
 
-/// As many indexed files of one page as fit.
+/// As many indexed files of one page as fit, or as there are entries for: then the first one has the rest.
 pub fn many(pages: u32) -> Volume {
     let total = most(pages, 2);
     let (names, counts) = owners(total);
+    let mut files: Vec<Vec<u32>> = counts.iter().map(|&count| vec![1; count as usize]).collect();
+    files[0][0] = first(pages, total);
     let mut disk = Disk::new(pages, b"MANY", &names);
-    for (user, &count) in (0..).zip(&counts) {
-        (0..count).for_each(|file| disk.indexed(user, file, &file_name(file), KIND, 1));
+    for (user, sizes) in (0..).zip(&files) {
+        (0..)
+            .zip(sizes)
+            .for_each(|(file, &size)| disk.indexed(user, file, &file_name(file), KIND, size));
     }
     let last = counts.len() as u32 - 1;
     let words = disk.finish(last, LEFT);
     let file = counts[last as usize] - 1;
     let question = question(&words, last, file, 0, file);
+    let rest = match files[0][0] {
+        1 => String::new(),
+        size => format!(", the first of {size}"),
+    };
     let about = format!(
-        "{pages} pages, {} held; {total} indexed files of one page",
+        "{pages} pages, {} held; {total} indexed files of one page{rest}",
         pages - free_pages(&words)
     );
     Volume {
@@ -176,7 +200,7 @@ pub fn many(pages: u32) -> Volume {
         about,
         words,
         question,
-        files: counts.iter().map(|&count| vec![1; count as usize]).collect(),
+        files,
     }
 }
 
@@ -240,5 +264,25 @@ mod tests {
             let held = volume.held();
             assert!((995..=997).contains(&held), "{} holds {held} pages", volume.name);
         }
+    }
+
+    #[test]
+    fn packs_are_sound_and_nearly_full() {
+        for volume in [full(16_385), many(16_385), full(37_035)] {
+            let (held, pages) = (volume.held(), volume.pages());
+            assert!(
+                (pages - 7..=pages - 3).contains(&held),
+                "{} holds {held} of {pages} pages",
+                volume.name
+            );
+        }
+    }
+
+    #[test]
+    fn where_no_entry_is_left_the_first_file_has_the_rest() {
+        assert_eq!((first(16_384, most(16_384, 2)), most(140_733, 2)), (1, MOST_FILES));
+        let size = first(140_733, MOST_FILES);
+        let all = needed(140_733, MOST_FILES, 2) as u64 - 2 + pages_held(size);
+        assert!(size > 1_000 && all <= 140_733 && all + 3 > 140_733, "a first file of {size} pages");
     }
 }

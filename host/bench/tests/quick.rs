@@ -20,17 +20,25 @@ fn a_quick_run_prints_every_table() {
         "Growth of the check",
     ];
     let more = ["Hostile images: check", "Instructions", "Memory beyond the image", "The goals"];
-    for title in titles.iter().chain(&more) {
+    let packs = [
+        "The packs",
+        "Calls on packs",
+        "Check of packs beside e2fsck",
+        "Salvage of packs beside the check",
+        "Hostile images as large as a pack: check",
+        "Memory beyond a pack's image",
+    ];
+    for title in titles.iter().chain(&more).chain(&packs) {
         assert!(text.contains(&format!("{title}\n")), "no table {title}");
     }
     let refusals = text
         .lines()
         .filter(|line| line.starts_with("refusal of a hostile image, time over the full sound check "));
-    assert_eq!(refusals.count(), 5, "the hostile images that are refused");
+    assert_eq!(refusals.count(), 12, "the hostile images that are refused, five and a pack's seven");
     let goals = |goal: &str| text.lines().filter(|line| line.starts_with(goal)).count();
     assert_eq!(goals("search, time over the check's"), 3, "the volumes that are nearly full");
     assert_eq!(goals("search, time over bit after bit's"), 1, "the full volume");
-    assert_eq!(goals("salvage, time over the check's"), 8, "four volumes, sound and stale");
+    assert_eq!(goals("salvage, time over the check's"), 12, "four volumes and two packs, sound and stale");
     let beside = goals("salvage, process over e2fsck's that mends");
     assert!(
         matches!(beside, 4 | 8) || text.contains("Left out: e2fsck"),

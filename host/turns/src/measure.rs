@@ -5,7 +5,7 @@ use crate::library::{Library, Told};
 use bench::callgrind;
 use bench::scratch::{map_native, words};
 use bench::timing::{race, Effort, Side, Spread, QUICK};
-use bench::volumes::{Volume, LARGEST};
+use bench::volumes::{Volume, LARGE_VOLUME};
 use std::hint::black_box;
 use std::io;
 use std::path::Path;
@@ -24,7 +24,10 @@ impl Plan {
             seconds: 1.0,
             sample: 0.001,
         };
-        Plan { effort, large: LARGEST }
+        Plan {
+            effort,
+            large: LARGE_VOLUME,
+        }
     }
 
     /// Only sees that everything works.

@@ -23,6 +23,16 @@ pub fn measure(run: &mut Run, volumes: &[Volume]) -> io::Result<()> {
         ));
         return Ok(());
     }
+    let mut table = table("Check beside e2fsck");
+    for volume in volumes {
+        of_volume(run, &mut table, volume)?;
+    }
+    progress::clear();
+    run.report.add(table);
+    Ok(())
+}
+
+pub fn table(title: &'static str) -> Table {
     let head = [
         "volume",
         "ext2 image, as e2fsck counts it",
@@ -34,24 +44,24 @@ pub fn measure(run: &mut Run, volumes: &[Volume]) -> io::Result<()> {
         "process that maps",
         "/ e2fsck",
     ];
-    let mut table = Table::new("Check beside e2fsck", NOTE, &head);
-    for volume in volumes {
-        progress::show(&format!("e2fsck: {}", volume.name));
-        let beside = contest(&run.scratch, volume, run.plan.process_effort)?;
-        table.row(row(volume, &beside));
-        let ratios = [
-            ("in memory", beside.check_ratio),
-            ("process that maps", beside.mapping_ratio),
-            ("process that reads", beside.reading_ratio),
-        ];
-        for (how, ratio) in ratios {
-            let on = format!("{}, {how}", volume.name);
-            run.goals
-                .at_most("check, time over e2fsck's", &on, ratio.median, 0.5, ratio.to_string());
-        }
+    Table::new(title, NOTE, &head)
+}
+
+/// One volume's row, and its goals.
+pub fn of_volume(run: &mut Run, table: &mut Table, volume: &Volume) -> io::Result<()> {
+    progress::show(&format!("e2fsck: {}", volume.name));
+    let beside = contest(&run.scratch, volume, run.plan.process_effort)?;
+    table.row(row(volume, &beside));
+    let ratios = [
+        ("in memory", beside.check_ratio),
+        ("process that maps", beside.mapping_ratio),
+        ("process that reads", beside.reading_ratio),
+    ];
+    for (how, ratio) in ratios {
+        let on = format!("{}, {how}", volume.name);
+        run.goals
+            .at_most("check, time over e2fsck's", &on, ratio.median, 0.5, ratio.to_string());
     }
-    progress::clear();
-    run.report.add(table);
     Ok(())
 }
 

@@ -16,30 +16,36 @@ const NOTE: &str =
 pub const DOMINATED: f64 = 1.1;
 
 pub fn measure(run: &mut Run, volumes: &[Volume]) {
-    let mut table = Table::new(
-        "Calls",
-        NOTE,
-        &["volume", "call", "proved", "second", "proved / second", "over check"],
-    );
+    let mut table = table("Calls");
     for volume in volumes {
-        for call in CALLS {
-            progress::show(&format!("calls: {} on {}", call.name(), volume.name));
-            let (figures, over) = contest(volume, call, run.plan.effort);
-            let times = [show(figures.proved), show(figures.second)];
-            let [proved, second] = times;
-            table.row(vec![
-                volume.name.clone(),
-                call.name().into(),
-                proved,
-                second,
-                figures.ratio.to_string(),
-                over.to_string(),
-            ]);
-            judge(run, volume, call, figures.ratio, over);
-        }
+        CALLS.iter().for_each(|&call| of_call(run, &mut table, volume, call));
     }
     progress::clear();
     run.report.add(table);
+}
+
+pub fn table(title: &'static str) -> Table {
+    Table::new(
+        title,
+        NOTE,
+        &["volume", "call", "proved", "second", "proved / second", "over check"],
+    )
+}
+
+/// One call's row on a volume, and its goals.
+pub fn of_call(run: &mut Run, table: &mut Table, volume: &Volume, call: Call) {
+    progress::show(&format!("calls: {} on {}", call.name(), volume.name));
+    let (figures, over) = contest(volume, call, run.plan.effort);
+    let [proved, second] = [show(figures.proved), show(figures.second)];
+    table.row(vec![
+        volume.name.clone(),
+        call.name().into(),
+        proved,
+        second,
+        figures.ratio.to_string(),
+        over.to_string(),
+    ]);
+    judge(run, volume, call, figures.ratio, over);
 }
 
 fn judge(run: &mut Run, volume: &Volume, call: Call, ratio: Spread, over: Spread) {

@@ -11,23 +11,20 @@ use crate::volumes::{few, full, Volume};
 /// How far a point may be from the straight line, as a share of its height.
 pub const NEAR: f64 = 0.1;
 
-/// The volumes: few large files, full and half full.
-pub fn volumes(sizes: &[u32]) -> Vec<Volume> {
-    let named = |name: &str, pages: u32, volume: Volume| Volume {
+/// The volumes of one size: few large files, full and half full.
+pub fn volumes(pages: u32) -> [Volume; 2] {
+    let named = |name: &str, volume: Volume| Volume {
         name: format!("{name}-{pages}"),
         ..volume
     };
-    sizes
-        .iter()
-        .flat_map(|&pages| [named("full", pages, full(pages)), named("half", pages, few(pages, pages / 2))])
-        .collect()
+    [named("full", full(pages)), named("half", few(pages, pages / 2))]
 }
 
 pub fn measure(run: &mut Run) {
     let head = ["P", "pages held", "proved", "a held page", "second", "proved / second"];
     let mut table = Table::new("Growth of the check", "", &head);
     let mut points = Vec::new();
-    for volume in volumes(&run.plan.growth) {
+    for volume in run.plan.growth.iter().flat_map(|&pages| volumes(pages)) {
         progress::show(&format!("growth: {}", volume.name));
         let held = volume.held();
         let figures = check_contest(&volume.words, run.plan.effort);

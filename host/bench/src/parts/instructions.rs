@@ -120,22 +120,9 @@ fn of_growth(run: &mut Run) -> io::Result<()> {
         "",
         &["P", "pages held", "proved", "a held page"],
     );
-    let volumes = growing(&run.plan.growth);
-    let jobs = volumes
-        .iter()
-        .map(|volume| check_of(run, volume))
-        .collect::<io::Result<Vec<Job>>>()?;
     let mut points = Vec::new();
-    for (volume, count) in volumes.iter().zip(counted("growth", &jobs)) {
-        let held = volume.held();
-        let Some(count) = count else { continue };
-        points.push((f64::from(held), count as f64));
-        table.row(vec![
-            volume.pages().to_string(),
-            held.to_string(),
-            grouped(count),
-            format!("{:.2}", count as f64 / f64::from(held)),
-        ]);
+    for pages in run.plan.growth.clone() {
+        points.extend(of_size(run, &mut table, pages)?);
     }
     let line = Line::through(&points);
     table.note = format!(
@@ -154,6 +141,29 @@ fn of_growth(run: &mut Run) -> io::Result<()> {
     );
     run.report.add(table);
     Ok(())
+}
+
+/// The checks of the volumes of one size: their rows, and their points over the pages held. The files go away again.
+fn of_size(run: &Run, table: &mut Table, pages: u32) -> io::Result<Vec<(f64, f64)>> {
+    let volumes = growing(pages);
+    let jobs = volumes
+        .iter()
+        .map(|volume| check_of(run, volume))
+        .collect::<io::Result<Vec<Job>>>()?;
+    let mut points = Vec::new();
+    for (volume, count) in volumes.iter().zip(counted(&format!("growth to {pages}"), &jobs)) {
+        let held = volume.held();
+        let Some(count) = count else { continue };
+        points.push((f64::from(held), count as f64));
+        table.row(vec![
+            pages.to_string(),
+            held.to_string(),
+            grouped(count),
+            format!("{:.2}", count as f64 / f64::from(held)),
+        ]);
+    }
+    jobs.iter().try_for_each(|job| std::fs::remove_file(&job.image))?;
+    Ok(points)
 }
 
 const WHERE: &str = "By callgrind: instructions inside a function itself, in one check, as a share of all the library's own. What the \

@@ -2,10 +2,12 @@
 
 use super::Run;
 use crate::calls::Call;
+use crate::hostile::{self, Hostile};
+use crate::progress;
 use crate::report::{grouped, Table};
 use crate::scratch::write_native;
-use crate::volumes::{Volume, LARGEST};
-use crate::{hostile, progress};
+use crate::volumes::{Volume, LARGE_VOLUME};
+use std::fs::remove_file;
 use std::io;
 use std::path::Path;
 use std::process::Command;
@@ -69,40 +71,47 @@ fn judge(run: &mut Run, goal: &'static str, on: &str, all: &[Used]) {
     run.goals.at_most(goal, on, bytes as f64, LIMIT, grouped(bytes));
 }
 
-/// The hostile images that are refused: all that is asked of them needs the check, or salvage's part of it, and what is broken is looked for.
-fn refusals(run: &mut Run, table: &mut Table) -> io::Result<()> {
-    for image in hostile::all(LARGEST, run.plan.hostile_users) {
-        if image.twice.is_none() {
-            continue;
-        }
-        progress::show(&format!("memory: {}", image.name));
-        let path = write_native(&run.scratch.folder, image.name, &image.words, &hostile::question())?;
-        let all = tell(&path, Some(Call::Check))?;
-        for (what, any) in [("check, refused", false), ("the most of check and salvage", true)] {
-            table.row(row(image.name, what, &all, any));
-        }
-        judge(
-            run,
-            "memory beyond the image, bytes, a refusal of a hostile image",
-            image.name,
-            &all,
-        );
+/// A hostile image that is refused: all that is asked of it needs the check, or salvage's part of it, and what is broken is looked for.
+pub fn of_refusal(run: &mut Run, table: &mut Table, image: &Hostile, on: &str) -> io::Result<()> {
+    progress::show(&format!("memory: {on}"));
+    let path = write_native(&run.scratch.folder, on, &image.words, &hostile::question())?;
+    let all = tell(&path, Some(Call::Check))?;
+    remove_file(path)?;
+    for (what, any) in [("check, refused", false), ("the most of check and salvage", true)] {
+        table.row(row(on, what, &all, any));
     }
+    judge(run, "memory beyond the image, bytes, a refusal of a hostile image", on, &all);
+    Ok(())
+}
+
+pub fn table(title: &'static str) -> Table {
+    let head = ["volume", "call", "proved: stack", "heap", "second: stack", "heap"];
+    Table::new(title, NOTE, &head)
+}
+
+/// All calls on a volume.
+pub fn of_volume(run: &mut Run, table: &mut Table, volume: &Volume) -> io::Result<()> {
+    progress::show(&format!("memory: {}", volume.name));
+    let path = run.scratch.native_volume(volume)?;
+    let all = tell(&path, None)?;
+    remove_file(path)?;
+    for (what, any) in [("check", false), ("the most of any", true)] {
+        table.row(row(&volume.name, what, &all, any));
+    }
+    judge(run, "memory beyond the image, bytes, the most of any call", &volume.name, &all);
     Ok(())
 }
 
 pub fn measure(run: &mut Run, volumes: &[Volume]) -> io::Result<()> {
-    let head = ["volume", "call", "proved: stack", "heap", "second: stack", "heap"];
-    let mut table = Table::new("Memory beyond the image", NOTE, &head);
+    let mut table = table("Memory beyond the image");
     for volume in volumes {
-        progress::show(&format!("memory: {}", volume.name));
-        let all = tell(&run.scratch.native_volume(volume)?, None)?;
-        for (what, any) in [("check", false), ("the most of any", true)] {
-            table.row(row(&volume.name, what, &all, any));
-        }
-        judge(run, "memory beyond the image, bytes, the most of any call", &volume.name, &all);
+        of_volume(run, &mut table, volume)?;
     }
-    refusals(run, &mut table)?;
+    for image in hostile::all(LARGE_VOLUME, run.plan.hostile_users) {
+        if image.twice.is_some() {
+            of_refusal(run, &mut table, &image, image.name)?;
+        }
+    }
     progress::clear();
     run.report.add(table);
     Ok(())

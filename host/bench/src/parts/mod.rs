@@ -6,6 +6,7 @@ mod growth;
 mod hostile;
 mod instructions;
 mod memory;
+mod packs;
 mod runs;
 mod salvage;
 mod searches;
@@ -14,9 +15,16 @@ use crate::goals::Goals;
 use crate::report::{Report, Table};
 use crate::scratch::Scratch;
 use crate::timing::{Effort, QUICK, THOROUGH};
-use crate::volumes::{full, many, singles, yard, Volume, LARGEST};
+use crate::volumes::{full, many, singles, yard, Volume, LARGE_VOLUME};
 use crate::{machine, nearly_full, progress};
 use std::io;
+
+/// A pack that is measured: its name, what is laid out, and its pages.
+pub type Pack = (&'static str, fn(u32) -> Volume, u32);
+
+/// The pages of the packs of 75 and of 288 MB; no image has more than the latter.
+const PACK_75: u32 = 37_035;
+const PACK_288: u32 = proved::MOST_PAGES as u32;
 
 /// How large a run is.
 pub struct Plan {
@@ -26,8 +34,11 @@ pub struct Plan {
     /// Pages of the large volumes, and of those of the growth.
     pub large: u32,
     pub growth: Vec<u32>,
-    /// Users of the hostile images, 256 files each.
+    /// Volumes of several bit pages.
+    pub packs: Vec<Pack>,
+    /// Users of the hostile images, 256 files each; and the pages of those that are as large as a pack.
     pub hostile_users: u32,
+    pub hostile_pack: u32,
     /// Whether callgrind counts every call, or one only.
     pub all_instructions: bool,
 }
@@ -37,9 +48,16 @@ impl Plan {
         Plan {
             effort: THOROUGH,
             process_effort: Effort { sample: 0.005, ..THOROUGH },
-            large: LARGEST,
-            growth: vec![1_000, 2_000, 4_000, 8_000, LARGEST],
+            large: LARGE_VOLUME,
+            growth: vec![1_000, 2_000, 4_000, 8_000, LARGE_VOLUME, 32_768, PACK_75, 65_536, 100_000, PACK_288],
+            packs: vec![
+                ("few75", full, PACK_75),
+                ("many75", many, PACK_75),
+                ("few288", full, PACK_288),
+                ("many288", many, PACK_288),
+            ],
             hostile_users: 256,
+            hostile_pack: PACK_288,
             all_instructions: true,
         }
     }
@@ -49,8 +67,10 @@ impl Plan {
             effort: QUICK,
             process_effort: QUICK,
             large: 2_500,
-            growth: vec![1_000, 1_500, 2_000],
+            growth: vec![1_000, 1_500, LARGE_VOLUME + 1],
+            packs: vec![("few75", full, LARGE_VOLUME + 100), ("many288", many, 2_600)],
             hostile_users: 4,
+            hostile_pack: 2_600,
             all_instructions: false,
         }
     }
@@ -103,6 +123,13 @@ pub fn run_salvage(plan: Plan) -> io::Result<Report> {
     Ok(run.ended())
 }
 
+/// Does the part on packs alone; gives the report.
+pub fn run_packs(plan: Plan) -> io::Result<Report> {
+    let mut run = Run::new(plan)?;
+    packs::measure(&mut run)?;
+    Ok(run.ended())
+}
+
 /// Does all parts; gives the report.
 pub fn run(plan: Plan) -> io::Result<Report> {
     let mut run = Run::new(plan)?;
@@ -118,6 +145,8 @@ pub fn run(plan: Plan) -> io::Result<Report> {
     hostile::measure(&mut run);
     instructions::measure(&mut run, &volumes)?;
     memory::measure(&mut run, &volumes)?;
+    drop((volumes, nearly_full));
+    packs::measure(&mut run)?;
     Ok(run.ended())
 }
 
@@ -128,16 +157,18 @@ pub fn volumes(large: u32) -> [Volume; 4] {
 
 /// The volumes and what is in them.
 fn contents<'a>(volumes: impl Iterator<Item = &'a Volume>) -> Table {
-    let mut table = Table::new(
-        "The volumes",
-        "",
-        &["volume", "content", "users", "files", "bytes in files", "pages held"],
-    );
-    for volume in volumes {
-        let bytes = crate::report::grouped(volume.data_bytes());
-        let held = format!("{} of {}", volume.held(), volume.pages());
-        let (users, files) = (volume.files.len().to_string(), volume.file_count().to_string());
-        table.row(vec![volume.name.clone(), volume.about.clone(), users, files, bytes, held]);
-    }
+    let mut table = contents_table("The volumes");
+    volumes.for_each(|volume| table.row(content(volume)));
     table
+}
+
+fn contents_table(title: &'static str) -> Table {
+    Table::new(title, "", &["volume", "content", "users", "files", "bytes in files", "pages held"])
+}
+
+fn content(volume: &Volume) -> Vec<String> {
+    let bytes = crate::report::grouped(volume.data_bytes());
+    let held = format!("{} of {}", volume.held(), volume.pages());
+    let (users, files) = (volume.files.len().to_string(), volume.file_count().to_string());
+    vec![volume.name.clone(), volume.about.clone(), users, files, bytes, held]
 }

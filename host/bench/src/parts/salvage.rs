@@ -45,6 +45,13 @@ fn beside_check(volume: &Volume, stale: &Stale, effort: Effort) -> Vec<Times> {
 }
 
 pub fn measure(run: &mut Run, volumes: &[Volume]) -> io::Result<()> {
+    let mut table = table("Salvage beside the check");
+    volumes.iter().for_each(|volume| of_volume(run, &mut table, volume));
+    run.report.add(table);
+    beside_e2fsck(run, volumes)
+}
+
+pub fn table(title: &'static str) -> Table {
     let head = [
         "volume",
         "check",
@@ -54,30 +61,30 @@ pub fn measure(run: &mut Run, volumes: &[Volume]) -> io::Result<()> {
         "salvage, stale",
         "/ check",
     ];
-    let mut table = Table::new("Salvage beside the check", NOTE, &head);
-    for volume in volumes {
-        progress::show(&format!("salvage: {}", volume.name));
-        let stale = stale(volume);
-        let times = beside_check(volume, &stale, run.plan.effort);
-        let median = |n: usize| show(Spread::of(&times[n]).median);
-        let ratio = |n: usize| Spread::of_ratio(&times[n], &times[2]);
-        table.row(vec![
-            volume.name.clone(),
-            median(2),
-            median(0),
-            ratio(0).to_string(),
-            grouped(stale.changed as u64),
-            median(1),
-            ratio(1).to_string(),
-        ]);
-        for (n, what) in [(0, "sound"), (1, "stale")] {
-            let on = format!("{}, {what}", volume.name);
-            run.goals
-                .at_most("salvage, time over the check's", &on, ratio(n).median, 3.0, ratio(n).to_string());
-        }
+    Table::new(title, NOTE, &head)
+}
+
+/// One volume's row, and its goals.
+pub fn of_volume(run: &mut Run, table: &mut Table, volume: &Volume) {
+    progress::show(&format!("salvage: {}", volume.name));
+    let stale = stale(volume);
+    let times = beside_check(volume, &stale, run.plan.effort);
+    let median = |n: usize| show(Spread::of(&times[n]).median);
+    let ratio = |n: usize| Spread::of_ratio(&times[n], &times[2]);
+    table.row(vec![
+        volume.name.clone(),
+        median(2),
+        median(0),
+        ratio(0).to_string(),
+        grouped(stale.changed as u64),
+        median(1),
+        ratio(1).to_string(),
+    ]);
+    for (n, what) in [(0, "sound"), (1, "stale")] {
+        let on = format!("{}, {what}", volume.name);
+        run.goals
+            .at_most("salvage, time over the check's", &on, ratio(n).median, 3.0, ratio(n).to_string());
     }
-    run.report.add(table);
-    beside_e2fsck(run, volumes)
 }
 
 fn beside_e2fsck(run: &mut Run, volumes: &[Volume]) -> io::Result<()> {

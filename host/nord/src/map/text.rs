@@ -108,7 +108,9 @@ fn paint(behind: Option<Colour>) -> String {
 
 /// The legend in as many columns as the width has place for.
 fn key(letters: &Letters, rows: &[Row], width: usize, coloured: bool) -> Vec<String> {
-    let items: Vec<String> = rows.iter().map(item).collect();
+    let count = |row: &Row| grouped(row.pages as usize).len();
+    let wide = rows.iter().map(count).max().unwrap_or(0).max(6);
+    let items: Vec<String> = rows.iter().map(|row| item(row, wide)).collect();
     let longest = items.iter().map(String::len).max().unwrap_or(0);
     let across = (width / (longest + 7)).max(1);
     let down = items.len().div_ceil(across);
@@ -122,11 +124,11 @@ fn key(letters: &Letters, rows: &[Row], width: usize, coloured: bool) -> Vec<Str
 }
 
 /// "DOCK 24 of 60": a name, its pages, and what a user is given.
-fn item(row: &Row) -> String {
+fn item(row: &Row, wide: usize) -> String {
     let given = row
         .given
         .map_or_else(String::new, |given| format!(" of {}", grouped(given as usize)));
-    format!("{:<16} {:>6}{given}", row.name, grouped(row.pages as usize))
+    format!("{:<16} {:>wide$}{given}", row.name, grouped(row.pages as usize))
 }
 
 /// A group's letter on its colour.

@@ -99,7 +99,7 @@ pub fn pack(pages: usize) -> Vec<u16> {
         .iter()
         .map(|name| user(&mut image, name, pages / 5))
         .collect();
-    run(&mut image, users[0], "LAMBS", pages / 6);
+    run(&mut image, users[0], "LAMBS", pages / 8);
     for (round, user) in users.iter().cycle().take(12).enumerate() {
         run(&mut image, *user, &format!("RUN{round}"), 100 + 37 * round);
         grown(&mut image, *user, &format!("TEXT{round}"), 5 * round);
