@@ -86,7 +86,7 @@ impl Search {
 mod tests {
     use super::*;
     use crate::nearly_full;
-    use second::image::{put_pair, BIT_POINTER};
+    use second::image::{pair, put_pair, BIT_POINTER};
 
     /// Numbers by chance, the same in each run.
     struct Chance(u64);
@@ -130,6 +130,59 @@ mod tests {
                 (1..=40).for_each(|count| _ = Search::Run(count).agreed(&image));
                 (0..=pages + 17).for_each(|from| _ = Search::Next(from).agreed(&image));
                 Search::Lowest.agreed(&image);
+            }
+        }
+    }
+
+    /// Whether each page of a pack is free, bit after bit over all its bit pages.
+    fn free_pages(image: &[u16]) -> Vec<bool> {
+        let start = pair(image, BIT_POINTER) as usize * PAGE_WORDS;
+        let bit = |page: usize| image[start + page / 16] >> (page % 16) & 1;
+        (0..image.len() / PAGE_WORDS).map(|page| bit(page) == 0).collect()
+    }
+
+    /// A pack whose bit pages are full but for some words by chance, and for those about the edges of the bit pages.
+    fn pack_by_chance(chance: &mut Chance, pages: usize) -> Vec<u16> {
+        let (mut image, count) = (vec![0; pages * PAGE_WORDS], proved::bit_pages(pages));
+        let first = 1 + chance.next() as usize % (pages - count);
+        put_pair(&mut image, BIT_POINTER, first as u32);
+        let bits = &mut image[first * PAGE_WORDS..][..count * PAGE_WORDS];
+        for (at, word) in bits.iter_mut().enumerate() {
+            let near = (at + 2) % PAGE_WORDS < 4;
+            *word = if near || chance.next() % 64 == 0 {
+                chance.word(4)
+            } else {
+                u16::MAX
+            };
+        }
+        image
+    }
+
+    #[test]
+    fn searches_go_over_all_bit_pages() {
+        let mut chance = Chance(3);
+        for pages in [16_385, 16_400, 33_000, 49_153] {
+            let image = pack_by_chance(&mut chance, pages);
+            let free = free_pages(&image);
+            let edges = [0, 16_367, 16_383, 16_384, 32_767, 32_768, 49_152, pages - 1, pages, pages + 5];
+            for from in edges.into_iter().chain((0..200).map(|n| n * 163)) {
+                let wanted = (from..pages).find(|&page| free[page]).unwrap_or(pages);
+                let search = Search::Next(from);
+                assert_eq!(
+                    (search.by_proved(&image), search.by_second(&image)),
+                    (wanted, wanted),
+                    "from {from} of {pages}"
+                );
+            }
+            for count in [1, 2, 5, 9, 14, 17, 23, 31, 40] {
+                let is_run = |start: &usize| free[*start..*start + count].iter().all(|&free| free);
+                let wanted = (0..=pages - count).rev().find(is_run).unwrap_or(0);
+                let search = Search::Run(count);
+                assert_eq!(
+                    (search.by_proved(&image), search.by_second(&image)),
+                    (wanted, wanted),
+                    "{count} of {pages}"
+                );
             }
         }
     }

@@ -38,7 +38,11 @@ fn a_quick_run_prints_every_table() {
     let goals = |goal: &str| text.lines().filter(|line| line.starts_with(goal)).count();
     assert_eq!(goals("search, time over the check's"), 3, "the volumes that are nearly full");
     assert_eq!(goals("search, time over bit after bit's"), 1, "the full volume");
-    assert_eq!(goals("salvage, time over the check's"), 12, "four volumes and two packs, sound and stale");
+    assert_eq!(
+        goals("salvage, time over the check's"),
+        12,
+        "four volumes and two packs, sound and stale"
+    );
     let beside = goals("salvage, process over e2fsck's that mends");
     assert!(
         matches!(beside, 4 | 8) || text.contains("Left out: e2fsck"),

@@ -3,7 +3,7 @@
 mod made;
 
 use made::*;
-use nord::volume::{holders, read, FileKind, Holder};
+use nord::volume::{holders, read, Disk, FileKind, Holder};
 
 /// One page's holder by the walk is the one by the library.
 fn same_holder(image: &[u16], held: &[Holder], page: usize) {
@@ -152,6 +152,32 @@ fn any_image_is_read_without_panic() {
         for _ in 0..60 {
             look(&damaged(&sound, &mut dice));
         }
+    }
+}
+
+/// A bit file that lies in the image in part is held as far as it does, and tells no bit; one that begins outside is nowhere.
+#[test]
+fn a_bit_file_that_does_not_fit() {
+    let mut image = volume("PACK", 16_385);
+    let pages_of = |image: &[u16]| {
+        look(image);
+        let held = (0..).zip(holders(image)).filter(|(_, holder)| holder.kind as u32 == 2);
+        held.map(|(page, holder)| (page, holder.position)).collect::<Vec<(u32, u32)>>()
+    };
+    assert_eq!(pages_of(&image), [(8192, 0), (8193, 1)]);
+    for (pointer, wanted) in [
+        (0, &[][..]),
+        (1, &[(1, 0), (2, 1)]),
+        (16_383, &[(16_383, 0), (16_384, 1)]),
+        (16_384, &[(16_384, 0)]),
+        (16_385, &[]),
+        (1 << 30 | 5, &[]),
+        (u32::MAX, &[]),
+    ] {
+        (image[1020], image[1021]) = ((pointer >> 16) as u16, pointer as u16);
+        assert_eq!(pages_of(&image), wanted, "a pointer to {pointer}");
+        let bit = Disk::new(&image).bit(16_384);
+        assert_eq!(bit.is_some(), wanted.len() == 2, "a pointer to {pointer}");
     }
 }
 

@@ -165,6 +165,13 @@ fn a_wrong_bit_of_the_second_bit_page_is_told_with_its_page() {
             "  expected  a page in 1..37032, without flags, so that all 3 pages of the bit file lie in 1..37034\n",
         ],
     );
+    has(
+        &done(&broken, "page IMAGE 37034"),
+        &[
+            "  held as   second of the bit file's 3 pages\n",
+            "  its bit   not to be found: the bit file pointer is wrong\n",
+        ],
+    );
     let beyond = with(&folder, &image, &[(18_519, 266, 0xffff), (18_519, 267, 0xffff), (18_519, 1023, 7)]);
     assert_eq!(done(&beyond, "check IMAGE"), "sound: 18010 of 37035 pages are held\n");
 }
