@@ -2,33 +2,36 @@
 
 use std::process::Command;
 
+/// The tables of a run.
+const TITLES: [&str; 20] = [
+    "The machine and the tools",
+    "The volumes",
+    "Calls",
+    "Calls on nearly full volumes",
+    "Searches for free pages",
+    "Runs",
+    "Check beside e2fsck",
+    "Salvage beside the check",
+    "Salvage beside e2fsck",
+    "Growth of the check",
+    "Hostile images: check",
+    "Instructions",
+    "Memory beyond the image",
+    "The goals",
+    "The packs",
+    "Calls on packs",
+    "Check of packs beside e2fsck",
+    "Salvage of packs beside the check",
+    "Hostile images as large as a pack: check",
+    "Memory beyond a pack's image",
+];
+
 #[test]
 fn a_quick_run_prints_every_table() {
     let output = Command::new(env!("CARGO_BIN_EXE_bench")).arg("--quick").output().unwrap();
     let text = String::from_utf8_lossy(&output.stdout);
     assert!(output.status.success(), "{}", String::from_utf8_lossy(&output.stderr));
-    let titles = [
-        "The machine and the tools",
-        "The volumes",
-        "Calls",
-        "Calls on nearly full volumes",
-        "Searches for free pages",
-        "Runs",
-        "Check beside e2fsck",
-        "Salvage beside the check",
-        "Salvage beside e2fsck",
-        "Growth of the check",
-    ];
-    let more = ["Hostile images: check", "Instructions", "Memory beyond the image", "The goals"];
-    let packs = [
-        "The packs",
-        "Calls on packs",
-        "Check of packs beside e2fsck",
-        "Salvage of packs beside the check",
-        "Hostile images as large as a pack: check",
-        "Memory beyond a pack's image",
-    ];
-    for title in titles.iter().chain(&more).chain(&packs) {
+    for title in TITLES {
         assert!(text.contains(&format!("{title}\n")), "no table {title}");
     }
     let refusals = text

@@ -28,6 +28,8 @@ fn blank(pages: u32) -> Vec<u16> {
 /// Number 1 of a new image says how many pages it was to have.
 fn asked_for(refusal: Refusal, pages: u32) -> Refusal {
     match refusal.number {
+        // A number that 32 bits do not hold has become the largest.
+        1 if pages == u32::MAX => refusal.with(format!("{pages} pages or more asked for")),
         1 => refusal.with(format!("{} asked for", answers::pages(pages))),
         _ => refusal,
     }
@@ -54,17 +56,18 @@ fn bits(pages: u32) -> u32 {
     proved::bit_pages(pages as usize) as u32
 }
 
-/// Number 2 where the bit file of several pages would not lie in 1..P-1 says where it would.
+/// Number 2 where the bit file would not lie in 1..P-1 says where it would.
 fn out_of_place(refusal: Refusal, pages: u32, first: u32) -> Refusal {
     let bits = bits(pages);
     let last = (u64::from(first) + u64::from(bits)).saturating_sub(1);
-    match refusal.number {
-        2 if bits > 1 && (first < 1 || last >= pages.into()) => refusal.with(format!(
-            "its {bits} pages would be {first} to {last}, and the volume has pages 1 to {} for them",
-            pages - 1
-        )),
-        _ => refusal,
+    if refusal.number != 2 || (first >= 1 && last < pages.into()) {
+        return refusal;
     }
+    let place = match bits {
+        1 => format!("the bit file would be page {first}"),
+        _ => format!("the {bits} pages of the bit file would be {first} to {last}"),
+    };
+    refusal.with(format!("{place}, and pages 1 to {} are there for it", pages - 1))
 }
 
 /// Volume YARD with user DOCK, an indexed file of three pages and a contiguous one of ten.

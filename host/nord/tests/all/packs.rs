@@ -73,7 +73,7 @@ fn a_bit_file_lies_in_the_volume_as_a_whole() {
         has(
             &said.err,
             &[&format!(
-                "its 2 pages would be {first} to {last}, and the volume has pages 1 to 16384"
+                "(the 2 pages of the bit file would be {first} to {last}, and pages 1 to 16384 are there for it)\n"
             )],
         );
     }
@@ -272,7 +272,7 @@ fn the_288_mb_pack() {
         &said.err,
         &[
             "refused (2)",
-            "its 9 pages would be 140725 to 140733, and the volume has pages 1 to 140732",
+            "(the 9 pages of the bit file would be 140725 to 140733, and pages 1 to 140732 are there for it)\n",
         ],
     );
     assert_eq!(folder.names(), ["map.svg", "pack.img"]);

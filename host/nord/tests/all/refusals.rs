@@ -63,6 +63,11 @@ fn number_2_for_arguments() {
         assert!(fails(&image, line, 2).contains("refused (2): an argument is wrong ("), "{line}");
     }
     assert!(fails(&image, "find IMAGE dock", 2).ends_with("dock (names are in capitals)\n"));
+    let said = fails(&image, "format IMAGE YARD --bit-page 154", 2);
+    assert!(
+        said.ends_with("YARD (the bit file would be page 154, and pages 1 to 153 are there for it)\n"),
+        "{said}"
+    );
 }
 
 #[test]
@@ -122,41 +127,44 @@ fn number_8_when_all_entries_are_used() {
     assert!(fails(&image, "file create IMAGE DOCK/FLOCK", 8).contains("all 256 entries are used: DOCK/FLOCK:"));
 }
 
+/// Commands on the sample disk that want more than there is: their numbers and how the words begin.
+const TOO_MUCH: [(&str, i32, &str); 6] = [
+    (
+        "file grow IMAGE DOCK/READS:DATA 87",
+        9,
+        "given less used is below the pages needed: DOCK/READS:DATA (page 87 of 87 to grow by)",
+    ),
+    (
+        "user take IMAGE DOCK 87",
+        9,
+        "given less used is below the pages to be taken back: 87 for DOCK",
+    ),
+    (
+        "file create IMAGE DOCK/LONG --contiguous 87",
+        9,
+        "given less used is below the pages needed",
+    ),
+    (
+        "user give IMAGE DOCK 49",
+        10,
+        "unreserved is below the pages to be given: 49 for DOCK",
+    ),
+    (
+        "user give IMAGE DOCK 140733",
+        10,
+        "unreserved is below the pages to be given: 140733 for DOCK",
+    ),
+    (
+        "file create IMAGE DOCK/LONG --contiguous 70",
+        11,
+        "there is no run of that many free pages for a contiguous file",
+    ),
+];
+
 #[test]
 fn numbers_9_to_11() {
     let (_folder, image) = sample();
-    for (line, number, words) in [
-        (
-            "file grow IMAGE DOCK/READS:DATA 87",
-            9,
-            "given less used is below the pages needed: DOCK/READS:DATA (page 87 of 87 to grow by)",
-        ),
-        (
-            "user take IMAGE DOCK 87",
-            9,
-            "given less used is below the pages to be taken back: 87 for DOCK",
-        ),
-        (
-            "file create IMAGE DOCK/LONG --contiguous 87",
-            9,
-            "given less used is below the pages needed",
-        ),
-        (
-            "user give IMAGE DOCK 49",
-            10,
-            "unreserved is below the pages to be given: 49 for DOCK",
-        ),
-        (
-            "user give IMAGE DOCK 140733",
-            10,
-            "unreserved is below the pages to be given: 140733 for DOCK",
-        ),
-        (
-            "file create IMAGE DOCK/LONG --contiguous 70",
-            11,
-            "there is no run of that many free pages for a contiguous file",
-        ),
-    ] {
+    for (line, number, words) in TOO_MUCH {
         let said = fails(&image, line, number);
         assert!(said.starts_with(&format!("nord: refused ({number}): {words}")), "{line}: {said}");
     }
