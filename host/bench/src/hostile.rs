@@ -6,6 +6,7 @@ use crate::calls::Question;
 use crate::disk::{Disk, Entry};
 use crate::names::{in_order, of_few_slots, COMMON};
 use proved::{Holder, Place, Reply};
+use second::entry::ENTRIES_TO_A_PAGE;
 use second::image::{put_pair, PAGE_WORDS};
 use second::kind::{FILE_DATA, FILE_SUBINDEX};
 use second::pointer::{Pointer, SLOTS};
@@ -43,6 +44,9 @@ impl Twice {
 }
 
 const FILES_OF_A_USER: u32 = 256;
+
+/// The most index blocks of an object file.
+const OBJECT_BLOCKS: u32 = 4;
 
 /// The holder that the n-th file is, of a page of its own.
 fn of_file(kind: u32, n: u32, position: u32) -> Holder {
@@ -255,6 +259,43 @@ pub fn own_tops(pages: u32, users: u32) -> Hostile {
     }
 }
 
+/// Each file has a subindex block of its own, and all that is left of the volume is full index blocks, through which these blocks go round; only
+/// the last two files, at their last positions, hold the lowest page held twice.
+pub fn many_blocks(pages: u32, users: u32) -> Hostile {
+    let mut disk = disk(pages, users);
+    let (page, target, files) = (disk.take(), disk.take(), users * FILES_OF_A_USER);
+    let entries = files.div_ceil(ENTRIES_TO_A_PAGE) + OBJECT_BLOCKS;
+    let count = disk.free() - files - entries - 2;
+    let blocks: Vec<u32> = (0..count).map(|_| index_block(&mut disk, SLOTS, target)).collect();
+    let mut next = blocks.iter().cycle();
+    for n in 0..files {
+        let top = disk.take();
+        for (slot, block) in (0..SLOTS as usize).zip(&mut next) {
+            put_pair(disk.page_mut(top), 2 * slot, *block);
+        }
+        if n + 2 >= files {
+            let last = index_block(&mut disk, SLOTS, target);
+            put_pair(disk.page_mut(last), PAGE_WORDS - 2, page);
+            put_pair(disk.page_mut(top), PAGE_WORDS - 2, last);
+        }
+        put_file(&mut disk, n, FULL, Pointer::Subindexed(top));
+    }
+    Hostile {
+        name: "subindex blocks over many blocks",
+        about: format!(
+            "each file has a subindex block of its own over 512 of {count} index blocks, by turns; only the last two, each at its last position, \
+             hold the lowest page that is held twice"
+        ),
+        words: disk.finish(0, 0),
+        files,
+        twice: Some(Twice {
+            page,
+            first: of_file(FILE_DATA, files - 2, FULL - 1),
+            second: of_file(FILE_DATA, files - 1, FULL - 1),
+        }),
+    }
+}
+
 /// All files have one index block with 511 slots filled.
 pub fn one_block(pages: u32, users: u32) -> Hostile {
     let mut disk = disk(pages, users);
@@ -332,7 +373,7 @@ pub fn question() -> Question {
 }
 
 /// Those of a pack, which a check refuses, each to be made for so many pages and users.
-pub const OF_A_PACK: [fn(u32, u32) -> Hostile; 7] = [
+pub const OF_A_PACK: [fn(u32, u32) -> Hostile; 8] = [
     one_full_tree,
     one_ragged_tree,
     one_block,
@@ -340,6 +381,7 @@ pub const OF_A_PACK: [fn(u32, u32) -> Hostile; 7] = [
     last_positions,
     own_blocks,
     own_tops,
+    many_blocks,
 ];
 
 /// All of them, for so many pages and users.

@@ -52,7 +52,7 @@ fn judge(run: &mut Run, on: &str, over: Spread) {
     run.goals.at_most(goal, on, over.median, MOST, over.to_string());
 }
 
-const PACK_NOTE: &str = "The same images as large as a pack, and two that need one: as many blocks of their own as there are entries. Rules 1 to 7 hold \
+const PACK_NOTE: &str = "The same images as large as a pack, and three whose files have blocks of their own, as many as there are entries. Rules 1 to 7 hold \
     and rule 8 is broken; both programs say which page is the lowest that is held twice and who its first two holders are, as the image was \
     made. The library's check of each in turns with its check of the pack full of small files.";
 
@@ -65,7 +65,7 @@ pub fn pack_table(title: &'static str) -> Table {
 pub fn of_pack(run: &mut Run, table: &mut Table, image: &Hostile, on: &str, sound: &[u16]) {
     progress::show(&format!("hostile: {on}"));
     answered(image);
-    let (proved, over) = check_over(&image.words, sound, run.plan.effort);
+    let (proved, over) = check_over(&image.words, sound, run.plan.hostile_effort);
     table.row(vec![
         on.into(),
         image.about.clone(),

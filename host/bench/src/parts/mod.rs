@@ -39,6 +39,8 @@ pub struct Plan {
     /// Users of the hostile images, 256 files each; and the pages of those that are as large as a pack.
     pub hostile_users: u32,
     pub hostile_pack: u32,
+    /// For the latter, of which one check takes long.
+    pub hostile_effort: Effort,
     /// Whether callgrind counts every call, or one only.
     pub all_instructions: bool,
 }
@@ -58,6 +60,7 @@ impl Plan {
             ],
             hostile_users: 256,
             hostile_pack: PACK_288,
+            hostile_effort: Effort { rounds: 7, ..THOROUGH },
             all_instructions: true,
         }
     }
@@ -71,6 +74,7 @@ impl Plan {
             packs: vec![("few75", full, LARGE_VOLUME + 100), ("many288", many, 2_600)],
             hostile_users: 4,
             hostile_pack: 2_600,
+            hostile_effort: QUICK,
             all_instructions: false,
         }
     }
