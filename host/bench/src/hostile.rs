@@ -162,23 +162,33 @@ fn last_of_one_tree(pages: u32, users: u32, owners: u32, slots: u32) -> (Vec<u16
     (disk.finish(0, 0), page)
 }
 
-/// The last two files alone hold the page, each at its last position.
-pub fn last_two(pages: u32, users: u32) -> Hostile {
-    let (words, page) = last_of_one_tree(pages, users, 2, 1);
-    let files = users * FILES_OF_A_USER;
+/// An image in which only the last two files, each at this position, which is its last, hold the lowest page that is held twice.
+fn held_by_last_two(name: &'static str, about: &str, words: Vec<u16>, page: u32, files: u32, position: u32) -> Hostile {
     Hostile {
-        name: "last two of one tree",
-        about:
-            "all files have the blocks of one tree; only the last two, each at its last position, hold the lowest page that is held twice"
-                .into(),
+        name,
+        about: format!("{about}; only the last two, each at its last position, hold the lowest page that is held twice"),
         words,
         files,
         twice: Some(Twice {
             page,
-            first: of_file(FILE_DATA, files - 2, FULL - 1),
-            second: of_file(FILE_DATA, files - 1, FULL - 1),
+            first: of_file(FILE_DATA, files - 2, position),
+            second: of_file(FILE_DATA, files - 1, position),
         }),
     }
+}
+
+/// The last two files alone hold the page, each at its last position.
+pub fn last_two(pages: u32, users: u32) -> Hostile {
+    let (words, page) = last_of_one_tree(pages, users, 2, 1);
+    let files = users * FILES_OF_A_USER;
+    held_by_last_two(
+        "last two of one tree",
+        "all files have the blocks of one tree",
+        words,
+        page,
+        files,
+        FULL - 1,
+    )
 }
 
 /// The last file alone holds the page, at its last two positions: no holder comes after these.
@@ -211,20 +221,8 @@ pub fn own_blocks(pages: u32, users: u32) -> Hostile {
         }
         put_file(&mut disk, n, SLOTS, Pointer::Indexed(block));
     }
-    Hostile {
-        name: "an index block each",
-        about:
-            "each file has a full index block of its own; only the last two, each at its last position, hold the lowest page that is held \
-                twice"
-                .into(),
-        words: disk.finish(0, 0),
-        files,
-        twice: Some(Twice {
-            page,
-            first: of_file(FILE_DATA, files - 2, SLOTS - 1),
-            second: of_file(FILE_DATA, files - 1, SLOTS - 1),
-        }),
-    }
+    let about = "each file has a full index block of its own";
+    held_by_last_two("an index block each", about, disk.finish(0, 0), page, files, SLOTS - 1)
 }
 
 /// Each file has a subindex block of its own, over the index blocks of one tree; only the last two, at their last positions, hold the lowest page
@@ -244,19 +242,8 @@ pub fn own_tops(pages: u32, users: u32) -> Hostile {
         }
         put_file(&mut disk, n, FULL, Pointer::Subindexed(top));
     }
-    Hostile {
-        name: "a subindex block each",
-        about: "each file has a subindex block of its own over the index blocks of one tree; only the last two, each at its last position, hold \
-                the lowest page that is held twice"
-            .into(),
-        words: disk.finish(0, 0),
-        files,
-        twice: Some(Twice {
-            page,
-            first: of_file(FILE_DATA, files - 2, FULL - 1),
-            second: of_file(FILE_DATA, files - 1, FULL - 1),
-        }),
-    }
+    let about = "each file has a subindex block of its own over the index blocks of one tree";
+    held_by_last_two("a subindex block each", about, disk.finish(0, 0), page, files, FULL - 1)
 }
 
 /// Each file has a subindex block of its own, and all that is left of the volume is full index blocks, through which these blocks go round; only
@@ -280,20 +267,8 @@ pub fn many_blocks(pages: u32, users: u32) -> Hostile {
         }
         put_file(&mut disk, n, FULL, Pointer::Subindexed(top));
     }
-    Hostile {
-        name: "subindex blocks over many blocks",
-        about: format!(
-            "each file has a subindex block of its own over 512 of {count} index blocks, by turns; only the last two, each at its last position, \
-             hold the lowest page that is held twice"
-        ),
-        words: disk.finish(0, 0),
-        files,
-        twice: Some(Twice {
-            page,
-            first: of_file(FILE_DATA, files - 2, FULL - 1),
-            second: of_file(FILE_DATA, files - 1, FULL - 1),
-        }),
-    }
+    let about = format!("each file has a subindex block of its own over 512 of {count} index blocks, by turns");
+    held_by_last_two("subindex blocks over many blocks", &about, disk.finish(0, 0), page, files, FULL - 1)
 }
 
 /// All files have one index block with 511 slots filled.
