@@ -3,7 +3,8 @@
 use crate::limits::{most_pages, pages_to_a_bit_page};
 use crate::volume_json;
 use proved::{Place, Reply};
-use serde_json::{json, Value};
+use serde::Serialize;
+use serde_json::{json, Map, Value};
 use std::fmt::Display;
 use std::path::Path;
 
@@ -11,24 +12,48 @@ use std::path::Path;
 #[derive(Debug, Default)]
 pub struct Answer {
     pub text: String,
-    pub json: Value,
+    /// An object in a line; a script has one for each of its lines.
+    pub json: Vec<Map<String, Value>>,
+    /// What is said on standard error.
+    pub warnings: Vec<String>,
+    pub status: u8,
 }
 
 impl Answer {
-    /// One line, and an object that begins with number 0.
-    pub fn new(line: impl Display, mut json: Value) -> Answer {
-        json["number"] = 0.into();
+    /// One line, and the same for programs with number 0.
+    pub fn new(line: impl Display, answer: impl Serialize) -> Answer {
+        Answer::of(format!("{line}\n"), answer)
+    }
+
+    /// Lines that end each in a newline, and the same for programs.
+    pub fn of(text: String, answer: impl Serialize) -> Answer {
+        let mut json = fields(answer);
+        json.insert("number".to_string(), 0.into());
         Answer {
-            text: format!("{line}\n"),
-            json,
+            text,
+            json: vec![json],
+            ..Answer::default()
         }
+    }
+
+    /// Text that is no answer about an image.
+    pub fn plain(text: String) -> Answer {
+        Answer { text, ..Answer::default() }
     }
 
     pub fn print(&self, json: bool) -> String {
         match json {
-            true => format!("{}\n", self.json),
+            true => self.json.iter().map(|line| format!("{}\n", Value::from(line.clone()))).collect(),
             false => self.text.clone(),
         }
+    }
+}
+
+/// What a type has to say to programs, field by field.
+pub fn fields(answer: impl Serialize) -> Map<String, Value> {
+    match serde_json::to_value(answer) {
+        Ok(Value::Object(fields)) => fields,
+        _ => Map::new(),
     }
 }
 
@@ -60,6 +85,8 @@ pub enum Call {
     Who,
     Page,
     Format,
+    /// Format with a legal name: what can be wrong then is where the bit file begins.
+    FormatAt,
     AddUser,
     DeleteUser,
     Give,
@@ -68,6 +95,8 @@ pub enum Call {
     CreateContiguous,
     Grow,
     Shrink,
+    /// Growing or shrinking to the size of what is written.
+    Fit,
     DeleteFile,
     Write,
     Open,
@@ -91,10 +120,12 @@ impl Call {
 pub struct Refusal {
     pub number: u32,
     pub words: String,
+    /// The lowest broken rule with 3, else 0.
+    pub rule: u32,
     /// Lines under the words.
     pub more: Vec<String>,
-    /// The same for programs.
-    pub json: Value,
+    /// What else programs are told.
+    pub details: Map<String, Value>,
 }
 
 impl Refusal {
@@ -110,7 +141,17 @@ impl Refusal {
 
     /// A length that cannot be handed to the library: odd, or above its largest image.
     pub fn length(bytes: u64) -> Refusal {
-        plain(1, format!("{LENGTH}: the image has {bytes} bytes"))
+        plain(1, LENGTH.to_string()).sized(bytes)
+    }
+
+    /// Number 1 with the length.
+    pub fn sized(self, bytes: u64) -> Refusal {
+        let (pages, over) = (bytes / 2048, bytes % 2048);
+        let size = match over {
+            0 => format!("{bytes} bytes, {pages} pages"),
+            _ => format!("{bytes} bytes, {pages} pages and {over} bytes over"),
+        };
+        self.with(format!("the image has {size}")).detailed(json!({ "bytes": bytes }))
     }
 
     /// The same refusal, with more said. Number 3 speaks of the image alone.
@@ -120,12 +161,29 @@ impl Refusal {
         }
         self
     }
+
+    /// The same refusal, with more for programs.
+    pub fn detailed(mut self, more: impl Serialize) -> Refusal {
+        self.details.extend(fields(more));
+        self
+    }
+
+    /// The same refusal with other lines under its words.
+    pub fn over(mut self, more: Vec<String>) -> Refusal {
+        self.more = more;
+        self
+    }
 }
 
 /// A refusal that tells no rule.
-fn plain(number: u32, words: String) -> Refusal {
-    let (more, json) = (Vec::new(), json!({ "number": number, "rule": 0 }));
-    Refusal { number, words, more, json }
+pub fn plain(number: u32, words: String) -> Refusal {
+    Refusal {
+        number,
+        words,
+        rule: 0,
+        more: Vec::new(),
+        details: Map::new(),
+    }
 }
 
 /// Number 2 of a call that takes a name, with what is wrong in the name where that is easily done.
@@ -144,16 +202,15 @@ fn unsound(reply: Reply) -> Refusal {
     Refusal {
         number,
         words: broken_at(rule, place),
+        rule,
         more: vec![format!("  rule {rule}: {} nord check tells more", self::rule(rule))],
-        json: json!({
-            "number": number,
-            "rule": rule,
+        details: fields(json!({
             "sentence": self::rule(rule),
             "page": place.page,
             "word": place.word,
             "first": volume_json::holder_numbers(&reply.first.into()),
             "second": volume_json::holder_numbers(&reply.second.into()),
-        }),
+        })),
     }
 }
 
@@ -185,6 +242,7 @@ fn why(number: u32, call: Call) -> &'static str {
         5 => "the name is taken",
         6 => match call {
             Call::Shrink => "the file is of the wrong kind: a contiguous file does not shrink, nor does an empty one",
+            Call::Fit => "the file is of the wrong kind: a contiguous file keeps its page count",
             _ => "the file is of the wrong kind: a contiguous file does not grow",
         },
         7 => "the user has a file",
@@ -211,9 +269,9 @@ fn why(number: u32, call: Call) -> &'static str {
 /// Number 2: what is right for the arguments of a call.
 fn wrong_argument(call: Call) -> &'static str {
     match call {
-        Call::FindUser | Call::AddUser => "an argument is wrong (a name is 1 to 16 of A-Z, 0-9 and hyphen)",
-        Call::Format => concat!(
-            "an argument is wrong (a name is 1 to 16 of A-Z, 0-9 and hyphen; the bit file, a page for each ",
+        Call::FindUser | Call::AddUser | Call::Format => "an argument is wrong (a name is 1 to 16 of A-Z, 0-9 and hyphen)",
+        Call::FormatAt => concat!(
+            "an argument is wrong (the bit file, a page for each ",
             pages_to_a_bit_page!(),
             " pages or less, begins at page 1 or above and ends below the number of pages)"
         ),

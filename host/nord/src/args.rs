@@ -2,6 +2,7 @@
 
 use crate::limits::{most_pages, pages_to_a_bit_page};
 use crate::names::{FileName, UserName};
+use crate::typed::Number;
 use clap::{Args, Parser, Subcommand, ValueEnum};
 use std::path::PathBuf;
 
@@ -35,7 +36,7 @@ pub struct Ask {
 }
 
 /// A command that replaces an image.
-#[derive(Args, Debug)]
+#[derive(Args, Clone, Debug)]
 pub struct Change {
     /// The image file
     pub image: PathBuf,
@@ -60,6 +61,51 @@ pub struct Salvage {
     pub orphans: Option<PathBuf>,
 }
 
+/// Host's files that are copied in.
+#[derive(Args, Debug)]
+pub struct Import {
+    #[command(flatten)]
+    pub at: Change,
+    /// Whose files they become: DOCK, or by index @0
+    pub user: UserName,
+    /// The host's files, and folders with all files in them
+    #[arg(required = true, value_name = "PATH")]
+    pub paths: Vec<PathBuf>,
+    /// Leave files that are there as they are, and say so; without it they are replaced
+    #[arg(long)]
+    pub no_clobber: bool,
+    /// The number that new files get as their time of creation
+    #[arg(long, value_name = "NUMBER", default_value_t = 0)]
+    pub created: u32,
+}
+
+/// Files that are copied out to a folder.
+#[derive(Args, Debug)]
+pub struct Export {
+    #[command(flatten)]
+    pub at: Ask,
+    /// Whose files: DOCK for all of them, DOCK/PATTERN for some; * stands for any letters, ? for one
+    #[arg(value_name = "USER[/PATTERN]")]
+    pub files: String,
+    /// The host's folder, made where it is not there
+    pub folder: PathBuf,
+    /// Leave host's files that are there as they are, and say so; without it they are replaced
+    #[arg(long)]
+    pub no_clobber: bool,
+}
+
+/// Lines that are run on one image.
+#[derive(Args, Debug)]
+pub struct Run {
+    #[command(flatten)]
+    pub at: Change,
+    /// The host's file with the lines; standard input by default and for -
+    pub script: Option<PathBuf>,
+    /// Go on after a line that is refused: it changes nothing, and the others are kept
+    #[arg(long)]
+    pub keep_going: bool,
+}
+
 #[derive(Subcommand, Debug)]
 pub enum Command {
     /// Judge the ten rules of a sound image, and say where the lowest broken one is broken
@@ -77,10 +123,10 @@ pub enum Command {
         at: Change,
         /// The volume's name
         name: String,
-        #[arg(long, value_name = "COUNT", value_parser = number, help = PAGES)]
-        pages: Option<u32>,
-        #[arg(long, value_name = "PAGE", value_parser = number, help = BIT_PAGE)]
-        bit_page: Option<u32>,
+        #[arg(long, value_name = "COUNT", help = PAGES)]
+        pages: Option<Number>,
+        #[arg(long, value_name = "PAGE", help = BIT_PAGE)]
+        bit_page: Option<Number>,
     },
     /// Convert what stands behind short names and types: zeros alone to an apostrophe and zeros, or back
     #[command(
@@ -133,13 +179,22 @@ pub enum Command {
         file: FileName,
         /// The host's file; standard input for -
         input: PathBuf,
-        /// Create a contiguous file (it must not be there)
+        /// Create a contiguous file; one of that name must not be there
         #[arg(long)]
         contiguous: bool,
         /// The number that a new file gets as its time of creation
         #[arg(long, value_name = "NUMBER", default_value_t = 0)]
         created: u32,
     },
+    /// Copy host's files and folders into an image, all of them or none
+    #[command(after_help = IMPORT)]
+    Import(Import),
+    /// Copy a user's files out to a folder
+    #[command(after_help = EXPORT)]
+    Export(Export),
+    /// Run lines of commands on one image: one lock, one check, one replacement
+    #[command(after_help = RUN)]
+    Run(Run),
     /// Find the index of a user or a file by name
     #[command(after_help = "Example:\n  nord find disk.img DOCK\n  nord find disk.img DOCK/READS:DATA")]
     Find {
@@ -156,8 +211,7 @@ pub enum Command {
         #[arg(help = FILE)]
         file: FileName,
         /// The page's position in the file, from 0
-        #[arg(value_parser = number)]
-        position: u32,
+                position: Number,
     },
     /// Say who holds a page of the image
     #[command(after_help = "Example:\n  nord who disk.img 5")]
@@ -165,8 +219,7 @@ pub enum Command {
         #[command(flatten)]
         at: Ask,
         /// The page's number
-        #[arg(value_parser = number)]
-        page: u32,
+                page: Number,
     },
     /// Show a page's words: octal as in the manual, decimal, and what each is
     #[command(
@@ -176,11 +229,9 @@ pub enum Command {
         #[command(flatten)]
         at: Ask,
         /// The page's number
-        #[arg(value_parser = number)]
-        page: u32,
+                page: Number,
         /// Only this word, 0 to 1,023, with its characters and bits
-        #[arg(value_parser = number)]
-        word: Option<u32>,
+                word: Option<Number>,
     },
     /// Draw the image: a cell for each page, or for several of a large pack, coloured by its holder
     #[command(after_help = "Example:\n  nord map disk.img\n  nord map disk.img --svg disk.svg")]
@@ -191,8 +242,8 @@ pub enum Command {
         #[arg(long, value_name = "FILE")]
         svg: Option<PathBuf>,
         /// Characters in a line of the text; by default the terminal's, or 80
-        #[arg(long, value_name = "N", value_parser = number)]
-        width: Option<u32>,
+        #[arg(long, value_name = "N")]
+        width: Option<Number>,
         /// Colours in the text
         #[arg(long, value_enum, default_value_t = Colour::Auto)]
         colour: Colour,
@@ -224,6 +275,33 @@ const BIT_PAGE: &str = concat!(
     " pages of the volume, rounded up; the middle page by default"
 );
 
+const IMPORT: &str = "Example:
+  nord import disk.img DOCK reads.bin notes/
+  nord import disk.img DOCK notes/ --no-clobber
+
+A host's file becomes USER/NAME:TYPE, and the command says which. The name is what stands before the last point, the type what
+stands behind it (a point at the beginning does not count). Small letters become capitals, and whatever is not a letter A-Z, a digit
+or a hyphen becomes a hyphen; a name is cut to 16 letters, a type to 4. Where two files of one import would get the same name and
+type, the later ones get -2, -3 and so on at the end of the name. Folders are gone through in the order of names, with the folders
+in them; a folder's own name is no part of a file's. The last page of each file is filled with zeros. Where one file is refused, none
+is copied.";
+
+const EXPORT: &str = "Example:
+  nord export disk.img DOCK reads/
+  nord export disk.img 'DOCK/*:DATA' reads/
+
+NAME:TYPE becomes the host's file NAME.TYPE, and NAME: without a type NAME. A pattern without a colon speaks of the name alone, with
+any type. All files are written beside their places first, and only then put there: where one fails, none is.";
+
+const RUN: &str = "Example:
+  nord run disk.img script.txt
+  printf 'user add FLOCK\\nuser give FLOCK 20\\nwrite FLOCK/NOTE:TEXT note.txt\\n' | nord run disk.img
+
+A line is a command without nord and without the image: user, file, format, convert, salvage, write, import, and those that ask. Words
+with spaces are in quotes, ' or \"; # begins a comment. The lines are read before the first is run. Where one is refused, the command
+says its number and its text, and the image is as it was before all of them; with --keep-going that line alone changes nothing. What a
+line writes to the host, as read and export do, is written when the line is run. With --json there is an object in a line for each line.";
+
 const FILE: &str = "The file: DOCK/READS:DATA, or by index @0/@3";
 
 #[derive(Subcommand, Debug)]
@@ -252,8 +330,7 @@ pub enum User {
         /// The user: DOCK, or by index @0
         user: UserName,
         /// How many pages
-        #[arg(value_parser = number)]
-        count: u32,
+                count: Number,
     },
     /// Take back pages that a user does not use
     #[command(after_help = "Example:\n  nord user take disk.img DOCK 10")]
@@ -263,8 +340,7 @@ pub enum User {
         /// The user: DOCK, or by index @0
         user: UserName,
         /// How many pages
-        #[arg(value_parser = number)]
-        count: u32,
+                count: Number,
     },
 }
 
@@ -280,8 +356,8 @@ pub enum File {
         /// The new file: DOCK/READS:DATA
         file: FileName,
         /// Make it contiguous, of so many pages of zeros
-        #[arg(long, value_name = "COUNT", value_parser = number)]
-        contiguous: Option<u32>,
+        #[arg(long, value_name = "COUNT")]
+        contiguous: Option<Number>,
         /// The number that the file gets as its time of creation
         #[arg(long, value_name = "NUMBER", default_value_t = 0)]
         created: u32,
@@ -294,8 +370,8 @@ pub enum File {
         #[arg(help = FILE)]
         file: FileName,
         /// How many pages
-        #[arg(default_value = "1", value_parser = number)]
-        count: u32,
+        #[arg(default_value = "1")]
+        count: Number,
     },
     /// Shrink an indexed file by its last pages, all or none
     #[command(after_help = "Example:\n  nord file shrink disk.img DOCK/READS:DATA\n  nord file shrink disk.img DOCK/READS:DATA 8")]
@@ -305,8 +381,8 @@ pub enum File {
         #[arg(help = FILE)]
         file: FileName,
         /// How many pages
-        #[arg(default_value = "1", value_parser = number)]
-        count: u32,
+        #[arg(default_value = "1")]
+        count: Number,
     },
     /// Delete a file
     #[command(after_help = "Example:\n  nord file delete disk.img DOCK/READS:DATA")]
@@ -340,6 +416,25 @@ pub enum Ending {
     Zeros,
 }
 
+impl User {
+    /// The image, and how it is replaced.
+    pub fn at(&self) -> &Change {
+        match self {
+            User::Add { at, .. } | User::Delete { at, .. } | User::Give { at, .. } | User::Take { at, .. } => at,
+        }
+    }
+}
+
+impl File {
+    /// The image, and how it is replaced.
+    pub fn at(&self) -> &Change {
+        match self {
+            File::Create { at, .. } | File::Grow { at, .. } | File::Shrink { at, .. } => at,
+            File::Delete { at, .. } | File::Open { at, .. } => at,
+        }
+    }
+}
+
 impl Command {
     /// Whether the answer is wanted as JSON.
     pub fn json(&self) -> bool {
@@ -348,19 +443,14 @@ impl Command {
             Command::Read { at, .. } | Command::Find { at, .. } | Command::Address { at, .. } => at.json,
             Command::Who { at, .. } | Command::Page { at, .. } | Command::Map { at, .. } => at.json,
             Command::Format { at, .. } | Command::Convert { at, .. } | Command::Write { at, .. } => at.json,
-            Command::User(User::Add { at, .. } | User::Delete { at, .. } | User::Give { at, .. } | User::Take { at, .. }) => at.json,
-            Command::File(File::Create { at, .. } | File::Grow { at, .. } | File::Shrink { at, .. }) => at.json,
-            Command::File(File::Delete { at, .. } | File::Open { at, .. }) => at.json,
+            Command::User(command) => command.at().json,
+            Command::File(command) => command.at().json,
             Command::Salvage(with) => with.at.json,
+            Command::Import(with) => with.at.json,
+            Command::Export(with) => with.at.json,
+            Command::Run(with) => with.at.json,
             Command::Manual | Command::Completions { .. } => false,
         }
     }
 }
 
-/// A number of decimal digits. One that is too large for the library's own numbers becomes their largest, which it refuses.
-pub fn number(text: &str) -> Result<u32, String> {
-    match text.bytes().all(|byte| byte.is_ascii_digit()) && !text.is_empty() {
-        true => Ok(text.parse().unwrap_or(u32::MAX)),
-        false => Err("a number of decimal digits is wanted".to_string()),
-    }
-}

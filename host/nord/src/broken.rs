@@ -65,13 +65,7 @@ impl Broken<'_> {
 
     /// Number 3 with all that can be told of the place.
     pub fn tell(&self, refusal: Refusal, path: &Path) -> Refusal {
-        let mut json = self.json();
-        json["number"] = refusal.number.into();
-        Refusal {
-            more: self.lines(path),
-            json,
-            ..refusal
-        }
+        refusal.over(self.lines(path)).detailed(self.json())
     }
 
     /// What the place is: "used pages of user 0 DOCK, words 16-17 of his entry".

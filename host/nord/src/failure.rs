@@ -1,7 +1,8 @@
 //! What can go wrong, and the exit status of each: a refusal's own number 1 to 14, or one of the statuses below for what the host did.
 
-use crate::answers::Refusal;
-use serde_json::{json, Value};
+use crate::answers::{fields, Refusal};
+use serde::Serialize;
+use serde_json::{Map, Value};
 use std::io;
 use std::path::Path;
 
@@ -24,6 +25,17 @@ pub enum Failure {
     Busy(String),
     /// Nobody reads the bytes of a file any more.
     Unread,
+    /// A line of a script failed.
+    Line(Line, Box<Failure>),
+}
+
+/// A line of a script: where it comes from, its number from 1 on, and its text.
+#[derive(Clone, Debug, Serialize)]
+pub struct Line {
+    #[serde(skip)]
+    pub script: String,
+    pub line: usize,
+    pub text: String,
 }
 
 impl Failure {
@@ -33,6 +45,7 @@ impl Failure {
             Failure::Usage(_) => USAGE,
             Failure::Host(_) | Failure::Unread => INPUT_OUTPUT,
             Failure::Busy(_) => TRY_AGAIN,
+            Failure::Line(_, failure) => failure.status(),
         }
     }
 
@@ -45,18 +58,55 @@ impl Failure {
             }
             Failure::Usage(words) | Failure::Host(words) | Failure::Busy(words) => words.clone(),
             Failure::Unread => String::new(),
+            Failure::Line(line, failure) => format!("{} line {}: {}: {}", line.script, line.line, line.text, failure.words()),
         }
     }
 
-    pub fn json(&self) -> Value {
+    /// Number 1 says how long the image is.
+    pub fn sized(self, words: usize) -> Failure {
         match self {
-            Failure::Refused(refusal) => {
-                let mut json = refusal.json.clone();
-                json["refusal"] = refusal.words.clone().into();
-                json
-            }
-            _ => json!({ "error": self.words(), "status": self.status() }),
+            Failure::Refused(refusal) if refusal.number == 1 => refusal.sized(2 * words as u64).into(),
+            _ => self,
         }
+    }
+
+    /// The same for programs, in one shape for all that can go wrong.
+    pub fn told(&self) -> Failed {
+        let (rule, error, details) = match self {
+            Failure::Refused(refusal) => (refusal.rule, refusal.words.clone(), refusal.details.clone()),
+            Failure::Line(line, failure) => {
+                let Failed {
+                    rule, error, mut details, ..
+                } = failure.told();
+                details.extend(fields(line));
+                (rule, error, details)
+            }
+            _ => (0, self.words(), Map::new()),
+        };
+        let number = self.status();
+        Failed {
+            number,
+            rule,
+            error,
+            details,
+        }
+    }
+}
+
+/// What went wrong: the exit status, with 3 the lowest broken rule and else 0, the sentence, and what else is known.
+#[derive(Debug, Serialize)]
+pub struct Failed {
+    number: u8,
+    rule: u32,
+    error: String,
+    #[serde(flatten)]
+    details: Map<String, Value>,
+}
+
+impl Failed {
+    /// One line.
+    pub fn line(&self) -> String {
+        format!("{}\n", serde_json::json!(self))
     }
 }
 

@@ -7,6 +7,8 @@ pub mod broken;
 pub mod commands;
 pub mod convert;
 pub mod failure;
+pub mod folder;
+pub mod legal;
 mod limits;
 pub mod lock;
 pub mod manual;
@@ -15,11 +17,16 @@ pub mod names;
 pub mod output;
 pub mod page;
 pub mod palette;
+pub mod pattern;
 mod pause;
+pub mod plan;
 pub mod progress;
 pub mod replace;
 pub mod salvage;
+pub mod script;
+pub mod session;
 pub mod store;
+pub mod typed;
 pub mod volume;
 pub mod volume_json;
 
@@ -35,7 +42,10 @@ pub fn run() -> ExitCode {
     };
     let json = command.json();
     let told = match commands::run(command) {
-        Ok(answer) => print(&answer.print(json)).map(|()| 0),
+        Ok(answer) => {
+            answer.warnings.iter().for_each(|words| complain(words));
+            print(&answer.print(json)).map(|()| answer.status)
+        }
         Err(failure) => Err(failure),
     };
     ExitCode::from(told.unwrap_or_else(|failure| failed(failure, json)))
@@ -44,7 +54,22 @@ pub fn run() -> ExitCode {
 /// Help and versions go to standard output with 0; a wrong use is 64, so that 2 is always the library's refusal.
 fn usage(error: clap::Error) -> ExitCode {
     let _ = error.print();
-    ExitCode::from(if error.use_stderr() { failure::USAGE } else { 0 })
+    if !error.use_stderr() {
+        return ExitCode::SUCCESS;
+    }
+    let mut words = std::env::args_os().skip(1).take_while(|word| word != "--");
+    if words.any(|word| word == "--json") {
+        let _ = print(&wrong_use(&error).told().line());
+    }
+    ExitCode::from(failure::USAGE)
+}
+
+/// What clap says of a wrong use, its first sentence.
+pub fn wrong_use(error: &clap::Error) -> failure::Failure {
+    let said = error.to_string();
+    let first = said.split("\n\n").next().unwrap_or_default().lines().map(str::trim);
+    let words = first.collect::<Vec<_>>().join(" ");
+    failure::Failure::Usage(words.trim_start_matches("error: ").to_string())
 }
 
 /// Prints the answer. The work is done by then: who no longer reads does not make it fail, and another error says that it is done.
@@ -62,10 +87,15 @@ fn print(text: &str) -> Result<(), failure::Failure> {
 fn failed(failure: failure::Failure, json: bool) -> u8 {
     let words = failure.words();
     if !words.is_empty() {
-        let _ = writeln!(std::io::stderr(), "nord: {words}");
+        complain(&words);
     }
     if json {
-        let _ = print(&format!("{}\n", failure.json()));
+        let _ = print(&failure.told().line());
     }
     failure.status()
+}
+
+/// Says something on standard error.
+fn complain(words: &str) {
+    let _ = writeln!(std::io::stderr(), "nord: {words}");
 }

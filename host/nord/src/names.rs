@@ -1,7 +1,8 @@
 //! Users and files as people name them: `DOCK`, `DOCK/READS:DATA`, or by index `@0`, `@0/@3`. No name has an @ in it, so a name of digits
 //! alone is never taken for an index, nor an index for a name.
 
-use crate::answers::{done, Call, Refusal};
+use crate::answers::Refusal;
+use crate::typed::Number;
 use std::fmt;
 use std::str::FromStr;
 
@@ -9,7 +10,7 @@ use std::str::FromStr;
 #[derive(Clone, Debug, PartialEq, Eq)]
 pub enum UserName {
     Name(String),
-    Index(u32),
+    Index(Number),
 }
 
 /// A file of a user, by name and type or by index.
@@ -23,7 +24,7 @@ pub struct FileName {
 #[derive(Clone, Debug, PartialEq, Eq)]
 pub enum Within {
     Name(String, String),
-    Index(u32),
+    Index(Number),
 }
 
 impl FromStr for UserName {
@@ -32,7 +33,7 @@ impl FromStr for UserName {
     fn from_str(text: &str) -> Result<UserName, String> {
         match (text.strip_prefix('@'), text.contains('/')) {
             (_, true) => Err("a user is wanted, not a file".to_string()),
-            (Some(index), _) => Ok(UserName::Index(crate::args::number(index)?)),
+            (Some(index), _) => Ok(UserName::Index(index.parse()?)),
             (None, _) => Ok(UserName::Name(text.to_string())),
         }
     }
@@ -46,7 +47,7 @@ impl FromStr for FileName {
             .split_once('/')
             .ok_or("a file is named USER/FILE:TYPE, such as DOCK/READS:DATA")?;
         let file = match file.strip_prefix('@') {
-            Some(index) => Within::Index(crate::args::number(index)?),
+            Some(index) => Within::Index(index.parse()?),
             None => {
                 let (name, kind) = file.split_once(':').unwrap_or((file, ""));
                 Within::Name(name.to_string(), kind.to_string())
@@ -74,36 +75,18 @@ impl fmt::Display for FileName {
     }
 }
 
-impl UserName {
-    /// The user's index. An index is taken as it is: the call that it is meant for judges it.
-    pub fn index(&self, image: &[u16]) -> Result<usize, Refusal> {
-        match self {
-            UserName::Index(index) => Ok(*index as usize),
-            UserName::Name(name) => {
-                let found = done(proved::find_user(image, name.as_bytes()), Call::FindUser, self);
-                found.map(|user| user as usize).map_err(|refusal| hint(refusal, name))
-            }
-        }
-    }
+/// Whether this can be the name of a volume, a user or a file: 1 to 16 of A-Z, 0-9 and hyphen.
+pub fn is_legal(name: &str) -> bool {
+    (1..=16).contains(&name.len()) && name.bytes().all(is_letter)
 }
 
-impl FileName {
-    /// The indexes of the user and the file.
-    pub fn indexes(&self, image: &[u16]) -> Result<(usize, usize), Refusal> {
-        let user = self.user.index(image)?;
-        match &self.file {
-            Within::Index(index) => Ok((user, *index as usize)),
-            Within::Name(name, kind) => {
-                let found = proved::find_file(image, user, name.as_bytes(), kind.as_bytes());
-                let file = done(found, Call::FindFile, self).map_err(|refusal| hint(refusal, name))?;
-                Ok((user, file as usize))
-            }
-        }
-    }
+/// Whether a name or a type may have this byte.
+pub fn is_letter(byte: u8) -> bool {
+    byte.is_ascii_uppercase() || byte.is_ascii_digit() || byte == b'-'
 }
 
 /// A name that is not there and is a number may be meant as an index.
-fn hint(refusal: Refusal, name: &str) -> Refusal {
+pub fn hint(refusal: Refusal, name: &str) -> Refusal {
     let digits = !name.is_empty() && name.bytes().all(|byte| byte.is_ascii_digit());
     match refusal.number {
         4 if digits => refusal.with(format!("an index is written @{name}")),

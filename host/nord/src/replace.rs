@@ -43,6 +43,11 @@ impl Fresh {
         Ok(fresh)
     }
 
+    /// The file whose place it is to take.
+    pub fn target(&self) -> &Path {
+        &self.target
+    }
+
     /// Writes the bytes and waits until they are on the disk.
     pub fn fill(&mut self, bytes: &[u8]) -> Result<(), Failure> {
         let (first, rest) = bytes.split_at(bytes.len() / 2);
@@ -52,6 +57,23 @@ impl Fresh {
         pause::at("written");
         self.file.sync_all().map_err(not_written(&self.target))?;
         pause::at("synced");
+        Ok(())
+    }
+
+    /// Writes the bytes of one of many files, which are synced together.
+    pub fn write(&mut self, bytes: &[u8]) -> Result<(), Failure> {
+        self.file.write_all(bytes).map_err(not_written(&self.target))
+    }
+
+    /// Waits until the bytes are on the disk.
+    pub fn sync(&self) -> Result<(), Failure> {
+        self.file.sync_all().map_err(not_written(&self.target))
+    }
+
+    /// Takes the target's place as one of many files: their folder is synced after the last.
+    pub fn place(self) -> Result<(), Failure> {
+        fs::rename(&self.path, &self.target).map_err(not_written(&self.target))?;
+        pause::at("placed");
         Ok(())
     }
 

@@ -50,7 +50,7 @@ fn mixed(image: &[u16], dice: &mut Dice) -> Vec<u16> {
 /// What is told of the name or type that is in the way, if one is.
 fn told(image: &[u16], to: Ending, reply: Reply) -> Option<Value> {
     let found = InTheWay::of(image, to)?;
-    Some(found.refusal(reply, Call::ToZeros, Path::new("disk.img")).json)
+    Some(found.refusal(reply, Call::ToZeros, Path::new("disk.img")).details.into())
 }
 
 /// Puts it right, at the place that is told.
@@ -86,7 +86,7 @@ fn agrees(mut image: Vec<u16>, to: Ending) -> u64 {
     }
     assert!(InTheWay::of(&image, to).is_none());
     let changed = changed(&mut image, to);
-    assert_eq!(Changed::of(&image).answer(to).json["changed"], changed);
+    assert_eq!(Changed::of(&image).answer(to).json[0]["changed"], changed);
     all
 }
 

@@ -82,7 +82,7 @@ fn agrees(image: &[u16]) -> bool {
         (3, CanMend::No { reply, .. }, Err(refused)) => {
             assert_eq!((reply, reply.number), (*refused, 13));
             assert!(!Overdrawn::of(image).reasons().is_empty());
-            let json: Value = refusal(image, reply, Path::new("disk.img")).json;
+            let json: Value = refusal(image, reply, Path::new("disk.img")).details.into();
             assert!(json["below_zero"] != 0 || !json["users"].as_array().unwrap().is_empty());
         }
         _ => panic!("the check and the salvage do not agree: {check:?}"),

@@ -5,89 +5,126 @@ use crate::args::Ask;
 use crate::broken::Broken;
 use crate::failure::Failure;
 use crate::names::{FileName, UserName, Within};
+use crate::plan::{on_file, Plan, Planned};
 use crate::salvage::CanMend;
+use crate::typed::Number;
 use crate::volume::{Disk, Holder};
-use crate::{store, volume, volume_json};
-use proved::{HolderReply, Reply};
-use serde_json::json;
+use crate::{session, volume, volume_json};
+use proved::{call, HolderReply, Reply};
+use serde::Serialize;
 
-pub fn check(at: &Ask) -> Result<Answer, Failure> {
-    let image = store::read(&at.image)?;
-    let reply = proved::check(&image);
+/// A sound image: how many pages it has, and how many of them are held.
+#[derive(Serialize)]
+struct Sound {
+    sound: bool,
+    visits: u32,
+    pages: usize,
+}
+
+pub fn check(image: &[u16], at: &Ask) -> Result<Answer, Failure> {
+    let reply = proved::check(image);
     let visits = done(reply, Call::Check, "").map_err(|refusal| match refusal.number {
         3 => {
-            let told = Broken::of(&image, reply).tell(refusal, &at.image);
-            CanMend::of(&image, reply).tell(told, &at.image)
+            let told = Broken::of(image, reply).tell(refusal, &at.image);
+            CanMend::of(image, reply).tell(told, &at.image)
         }
         _ => refusal,
     })?;
     let pages = image.len() / proved::PAGE;
-    Ok(Answer::new(
-        format!("sound: {visits} of {pages} pages are held"),
-        json!({ "sound": true, "visits": visits, "pages": pages }),
-    ))
+    let line = format!("sound: {visits} of {pages} pages are held");
+    let sound = true;
+    Ok(Answer::new(line, Sound { sound, visits, pages }))
 }
 
-pub fn list(at: &Ask) -> Result<Answer, Failure> {
-    let image = store::read(&at.image)?;
-    done(proved::check(&image), Call::Check, "")?;
-    Ok(Answer {
-        text: String::from_utf8_lossy(&proved::list(&image)).into_owned(),
-        ..Answer::new("", volume_json::json(&volume::read(&image)))
-    })
+pub fn list(image: &[u16]) -> Result<Answer, Failure> {
+    done(proved::check(image), Call::Check, "")?;
+    let text = String::from_utf8_lossy(&proved::list(image)).into_owned();
+    Ok(Answer::of(text, volume_json::json(&volume::read(image))))
 }
 
-pub fn find(at: &Ask, name: &str) -> Result<Answer, Failure> {
-    let image = store::read(&at.image)?;
+/// What was found: a user's index, and of a file its own too.
+#[derive(Serialize)]
+struct Found {
+    user: u32,
+    #[serde(skip_serializing_if = "Option::is_none")]
+    file: Option<u32>,
+}
+
+pub fn find(image: &mut [u16], at: &Ask, name: &str) -> Result<Answer, Failure> {
     match name.contains('/') {
-        true => find_file(&image, &name.parse().map_err(Failure::Usage)?),
-        false => find_user(&image, &name.parse().map_err(Failure::Usage)?),
+        true => find_file(image, at, &name.parse().map_err(Failure::Usage)?),
+        false => find_user(image, at, &name.parse().map_err(Failure::Usage)?),
     }
 }
 
-fn find_user(image: &[u16], name: &UserName) -> Result<Answer, Failure> {
+fn find_user(image: &mut [u16], at: &Ask, name: &UserName) -> Result<Answer, Failure> {
     if matches!(name, UserName::Index(_)) {
         return Err(not_a_name());
     }
-    let user = name.index(image)?;
-    Ok(Answer::new(format!("user {user}"), json!({ "user": user })))
+    session::one(image, &at.image, |list| {
+        list.user(name);
+        Ok(Some(Box::new(|made| {
+            let (user, file) = (made.last(), None);
+            Answer::new(format!("user {user}"), Found { user, file })
+        })))
+    })
 }
 
-fn find_file(image: &[u16], name: &FileName) -> Result<Answer, Failure> {
+fn find_file(image: &mut [u16], at: &Ask, name: &FileName) -> Result<Answer, Failure> {
     if matches!(name.file, Within::Index(_)) {
         return Err(not_a_name());
     }
-    let (user, file) = name.indexes(image)?;
-    Ok(Answer::new(
-        format!("user {user} file {file}"),
-        json!({ "user": user, "file": file }),
-    ))
+    session::one(image, &at.image, |list| {
+        let Some((user, _)) = list.file(name) else { return Ok(None) };
+        Ok(Some(Box::new(move |made| {
+            let file = made.last();
+            let line = format!("user {user} file {file}");
+            Answer::new(line, Found { user, file: Some(file) })
+        })))
+    })
 }
 
 fn not_a_name() -> Failure {
     Failure::Usage("find looks for a name and gives its index; this is an index".to_string())
 }
 
-pub fn address(at: &Ask, file: &FileName, position: u32) -> Result<Answer, Failure> {
-    let image = store::read(&at.image)?;
-    let (user, index) = file.indexes(&image)?;
-    let subject = format!("position {position} of {file}");
-    let page = done(proved::address(&image, user, index, position as usize), Call::Address, subject)?;
-    Ok(Answer::new(
-        format!("page {page}"),
-        json!({ "page": page, "user": user, "file": index, "position": position }),
-    ))
+/// Where a page of a file lies.
+#[derive(Serialize)]
+struct Address {
+    page: u32,
+    user: u32,
+    file: u32,
+    position: u32,
 }
 
-pub fn who(at: &Ask, page: u32) -> Result<Answer, Failure> {
-    let image = store::read(&at.image)?;
-    let answer = proved::who_holds(&image, page as usize);
+pub fn address(image: &mut [u16], at: &Ask, file: &FileName, position: &Number) -> Result<Answer, Failure> {
+    session::one(image, &at.image, |list| addressed(list, file, position))
+}
+
+fn addressed(list: &mut Plan, file: &FileName, position: &Number) -> Planned {
+    let Some((user, index)) = list.file(file) else { return Ok(None) };
+    let (subject, position) = (format!("position {position} of {file}"), position.value);
+    list.call(Call::Address, subject, None, on_file(call::ADDRESS, (user, index), position));
+    Ok(Some(Box::new(move |made| {
+        let (page, file) = (made.last(), index);
+        let address = Address {
+            page,
+            user,
+            file,
+            position,
+        };
+        Answer::new(format!("page {page}"), address)
+    })))
+}
+
+pub fn who(image: &[u16], page: &Number) -> Result<Answer, Failure> {
+    let answer = proved::who_holds(image, page.value as usize);
     let subject = format!("page {page} of {}", image.len() / proved::PAGE);
     done(plain(answer), Call::Who, subject)?;
     let holder = Holder::from(answer.holder);
     let mut json = volume_json::holder(&holder);
-    json["page"] = page.into();
-    Ok(Answer::new(Disk::new(&image).holder_words(&holder), json))
+    json["page"] = page.value.into();
+    Ok(Answer::new(Disk::new(image).holder_words(&holder), json))
 }
 
 /// An answer about a holder without him.

@@ -1,25 +1,18 @@
 //! Conversion of what stands behind short names and types.
 
-use crate::answers::{done, Answer, Call};
-use crate::args::{Change, Ending};
-use crate::convert::{Changed, InTheWay};
-use crate::failure::Failure;
-use crate::store;
-use std::path::Path;
+use crate::answers::Call;
+use crate::args::Ending;
+use crate::convert::Changed;
+use crate::plan::{self, Plan, Planned};
+use proved::call;
 
-pub fn convert(at: &Change, to: Ending) -> Result<Answer, Failure> {
-    store::change(&at.image, at.wait, |image| converted(image, to, &at.image))
-}
-
-/// The library's conversion; where it is refused with 12, the image is searched for what is in the way.
-fn converted(image: &mut [u16], to: Ending, path: &Path) -> Result<Answer, Failure> {
-    let (reply, call) = match to {
-        Ending::Apostrophe => (proved::convert_to_apostrophe(image), Call::ToApostrophe),
-        Ending::Zeros => (proved::convert_to_zeros(image), Call::ToZeros),
+/// The library's conversion. What it has changed is seen in the image after it.
+pub fn plan(list: &mut Plan, to: Ending) -> Planned {
+    let (number, call) = match to {
+        Ending::Apostrophe => (call::CONVERT_TO_APOSTROPHE, Call::ToApostrophe),
+        Ending::Zeros => (call::CONVERT_TO_ZEROS, Call::ToZeros),
     };
-    if let (12, Some(found)) = (reply.number, InTheWay::of(image, to)) {
-        return Err(found.refusal(reply, call, path).into());
-    }
-    done(reply, call, "one of them has another fill")?;
-    Ok(Changed::of(image).answer(to))
+    list.call(call, "one of them has another fill", None, plan::step(number));
+    list.seen = true;
+    Ok(Some(Box::new(move |made| Changed::of(made.image).answer(to))))
 }

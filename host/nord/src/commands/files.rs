@@ -1,121 +1,145 @@
 //! Files: create, grow, shrink, delete, open.
 
-use super::steps::{self, step, Place, Refused};
-use crate::answers::{self, done, Answer, Call, Refusal};
-use crate::args::{Change, File};
+use crate::answers::{Answer, Call};
+use crate::args::File;
 use crate::failure::Failure;
 use crate::names::{FileName, Within};
-use crate::store;
-use proved::call;
-use serde_json::json;
+use crate::plan::{enough, on_file, Each, Place, Plan, Planned};
+use crate::typed::Number;
+use proved::{call, Step};
+use serde::Serialize;
 
-pub fn run(command: File) -> Result<Answer, Failure> {
+pub fn plan(command: File, plan: &mut Plan) -> Planned {
     match command {
         File::Create {
-            at,
             file,
             contiguous,
             created,
-        } => create(&at, &file, contiguous, created),
-        File::Grow { at, file, count } => grow(&at, &file, count),
-        File::Shrink { at, file, count } => shrink(&at, &file, count),
-        File::Delete { at, file } => delete(&at, &file),
-        File::Open { at, file } => open(&at, &file),
+            ..
+        } => create(plan, &file, contiguous, created),
+        File::Grow { file, count, .. } => grow(plan, &file, count),
+        File::Shrink { file, count, .. } => shrink(plan, &file, count),
+        File::Delete { file, .. } => delete(plan, &file),
+        File::Open { file, .. } => open(plan, &file),
     }
 }
 
-fn create(at: &Change, file: &FileName, contiguous: Option<u32>, created: u32) -> Result<Answer, Failure> {
-    let (user, index) = store::change(&at.image, at.wait, |image| make(image, file, contiguous, created))?;
-    Ok(Answer::new(
-        format!("user {user} file {index} created"),
-        json!({ "user": user, "file": index }),
-    ))
+/// A file by its indexes.
+#[derive(Serialize)]
+struct Indexed {
+    user: u32,
+    file: u32,
 }
 
-/// Creates an empty indexed file, or a contiguous one of so many pages, and gives its user's and its own index.
-pub fn make(image: &mut [u16], file: &FileName, contiguous: Option<u32>, created: u32) -> Result<(usize, usize), Failure> {
+/// A file that has grown: by how many pages, and which these are.
+#[derive(Serialize)]
+struct Grown {
+    user: u32,
+    file: u32,
+    pages: u32,
+    data: Vec<u32>,
+}
+
+/// A file that has shrunk by so many pages.
+#[derive(Serialize)]
+struct Shrunk {
+    user: u32,
+    file: u32,
+    pages: u32,
+}
+
+fn create(plan: &mut Plan, file: &FileName, contiguous: Option<Number>, created: u32) -> Planned {
+    let contiguous = contiguous.map(|count| count.value);
+    let Some((user, index)) = make(plan, file, contiguous, created)? else {
+        return Ok(None);
+    };
+    Ok(Some(Box::new(move |_| {
+        Answer::new(format!("user {user} file {index} created"), Indexed { user, file: index })
+    })))
+}
+
+/// The call that creates an empty indexed file, or a contiguous one of so many pages, and the file's indexes.
+pub fn make(plan: &mut Plan, file: &FileName, contiguous: Option<u32>, created: u32) -> Result<Option<Place>, Failure> {
     let Within::Name(name, kind) = &file.file else {
         return Err(Failure::Usage("a new file is named by its name, not by an index".to_string()));
     };
-    let user = file.user.index(image)?;
-    let (name, kind) = (name.as_bytes(), kind.as_bytes());
-    let index = match contiguous {
-        None => done(proved::create_indexed(image, user, name, kind, created), Call::CreateIndexed, file)?,
-        Some(count) => done(
-            proved::create_contiguous(image, user, name, kind, created, count as usize),
-            Call::CreateContiguous,
-            file,
-        )?,
+    let Some(user) = plan.user(&file.user) else { return Ok(None) };
+    let (number, call) = match contiguous {
+        None => (call::CREATE_INDEXED, Call::CreateIndexed),
+        Some(_) => (call::CREATE_CONTIGUOUS, Call::CreateContiguous),
     };
-    Ok((user, index as usize))
+    let step = Step {
+        created,
+        count: contiguous.unwrap_or(0),
+        ..plan.typed(number, user, name, kind)
+    };
+    let index = plan.forecast.add_file(user, name, kind, contiguous);
+    plan.call(call, file, index, step);
+    Ok(index.map(|index| (user, index)))
 }
 
-fn grow(at: &Change, file: &FileName, count: u32) -> Result<Answer, Failure> {
-    let pages = store::change(&at.image, at.wait, |image| {
-        let (user, index) = file.indexes(image)?;
-        grow_by(image, file, (user, index), some(count)?)
-    })?;
-    let numbers = pages.iter().map(u32::to_string).collect::<Vec<_>>().join(" ");
-    let words = answers::pages(pages.len() as u32);
-    Ok(Answer::new(format!("grown by {words}: {numbers}"), json!({ "pages": pages })))
+fn grow(plan: &mut Plan, file: &FileName, count: Number) -> Planned {
+    some(&count)?;
+    let Some((user, index)) = plan.file(file) else { return Ok(None) };
+    grow_by(plan, file, (user, index), &count);
+    Ok(Some(Box::new(move |made| {
+        let all = made.replies.iter().map(|reply| reply.value).collect::<Vec<_>>();
+        let data = all[all.len() - count.value as usize..].to_vec();
+        let numbers = data.iter().map(u32::to_string).collect::<Vec<_>>().join(" ");
+        let (line, pages) = (format!("grown by {}: {numbers}", count.pages()), count.value);
+        Answer::new(line, Grown { user, file: index, pages, data })
+    })))
 }
 
-fn shrink(at: &Change, file: &FileName, count: u32) -> Result<Answer, Failure> {
-    store::change(&at.image, at.wait, |image| {
-        let (user, index) = file.indexes(image)?;
-        shrink_by(image, file, (user, index), some(count)?)
-    })?;
-    Ok(Answer::new(
-        format!("shrunk by {}", answers::pages(count)),
-        json!({ "pages": count }),
-    ))
+fn shrink(plan: &mut Plan, file: &FileName, count: Number) -> Planned {
+    some(&count)?;
+    let Some((user, index)) = plan.file(file) else { return Ok(None) };
+    shrink_by(plan, file, (user, index), &count);
+    Ok(Some(Box::new(move |_| {
+        let (line, pages) = (format!("shrunk by {}", count.pages()), count.value);
+        Answer::new(line, Shrunk { user, file: index, pages })
+    })))
 }
 
-fn some(count: u32) -> Result<u32, Failure> {
-    match count {
+fn some(count: &Number) -> Result<(), Failure> {
+    match count.value {
         0 => Err(Failure::Usage("a file grows or shrinks by 1 page or more".to_string())),
-        _ => Ok(count),
+        _ => Ok(()),
     }
 }
 
-/// Grows by so many pages, and gives the new data pages. A refusal says how far it came, though nothing of it is kept.
-pub fn grow_by(image: &mut [u16], file: &FileName, place: Place, count: u32) -> Result<Vec<u32>, Failure> {
-    let grown = steps::make(image, "growing", count, &[], |_| step(call::GROW, place, 0));
-    Ok(grown.map_err(|refused| so_far(refused, Call::Grow, file, format!("of {count} to grow by")))?)
+/// The calls by which a file grows by so many pages. A refusal says how far it came, though nothing of it is kept.
+pub fn grow_by(plan: &mut Plan, file: &FileName, place: Place, count: &Number) {
+    let pages = plan.forecast.pages(place).unwrap_or(0).saturating_add(count.value);
+    let each = Each::PageOf(format!("{count} to grow by"));
+    plan.calls(Call::Grow, file, each, None, enough(count.value), |_| on_file(call::GROW, place, 0));
+    plan.forecast.resize(place, pages);
 }
 
-/// Shrinks by so many pages.
-pub fn shrink_by(image: &mut [u16], file: &FileName, place: Place, count: u32) -> Result<(), Failure> {
-    let shrunk = steps::make(image, "shrinking", count, &[], |_| step(call::SHRINK, place, 0));
-    shrunk.map_err(|refused| so_far(refused, Call::Shrink, file, format!("of {count} to shrink by")))?;
-    Ok(())
+/// The calls by which a file shrinks by so many pages.
+pub fn shrink_by(plan: &mut Plan, file: &FileName, place: Place, count: &Number) {
+    let pages = plan.forecast.pages(place).unwrap_or(0).saturating_sub(count.value);
+    let each = Each::PageOf(format!("{count} to shrink by"));
+    plan.calls(Call::Shrink, file, each, None, enough(count.value), |_| {
+        on_file(call::SHRINK, place, 0)
+    });
+    plan.forecast.resize(place, pages);
 }
 
-/// The refusal of one of several calls on a file, with the page that it was for.
-fn so_far(refused: Refused, call: Call, file: &FileName, of: String) -> Refusal {
-    Refusal::of(refused.reply, call, file).with(format!("page {} {of}", refused.before + 1))
+fn delete(plan: &mut Plan, file: &FileName) -> Planned {
+    let Some((user, index)) = plan.file(file) else { return Ok(None) };
+    plan.call(Call::DeleteFile, file, None, on_file(call::DELETE_FILE, (user, index), 0));
+    plan.forecast.remove_file((user, index));
+    Ok(Some(Box::new(move |_| {
+        Answer::new(format!("user {user} file {index} deleted"), Indexed { user, file: index })
+    })))
 }
 
-fn delete(at: &Change, file: &FileName) -> Result<Answer, Failure> {
-    let (user, index) = store::change(&at.image, at.wait, |image| {
-        let (user, index) = file.indexes(image)?;
-        done(proved::delete_file(image, user, index), Call::DeleteFile, file)?;
-        Ok((user, index))
-    })?;
-    Ok(Answer::new(
-        format!("user {user} file {index} deleted"),
-        json!({ "user": user, "file": index }),
-    ))
-}
-
-fn open(at: &Change, file: &FileName) -> Result<Answer, Failure> {
-    let (user, index) = store::change(&at.image, at.wait, |image| {
-        let (user, index) = file.indexes(image)?;
-        done(proved::note_open(image, user, index), Call::Open, file)?;
-        Ok((user, index))
-    })?;
-    Ok(Answer::new(
-        format!("user {user} file {index}: an open is noted"),
-        json!({ "user": user, "file": index }),
-    ))
+fn open(plan: &mut Plan, file: &FileName) -> Planned {
+    let Some((user, index)) = plan.file(file) else { return Ok(None) };
+    plan.call(Call::Open, file, None, on_file(call::NOTE_OPEN, (user, index), 0));
+    Ok(Some(Box::new(move |_| {
+        let line = format!("user {user} file {index}: an open is noted");
+        Answer::new(line, Indexed { user, file: index })
+    })))
 }

@@ -1,22 +1,30 @@
 //! Format, and the sample disk.
 
-use crate::answers::{self, done, Answer, Call, Refusal};
+use super::{files, transfer, users};
+use crate::answers::{Answer, Call};
 use crate::args::{Ask, Change};
 use crate::failure::Failure;
-use crate::store;
-use serde_json::json;
+use crate::names::is_legal;
+use crate::plan::{Plan, Planned};
+use crate::typed::Number;
+use crate::{session, store};
+use proved::{call, Step};
+use serde::Serialize;
 
-/// With a page count a new image file, else the one that is there.
-pub fn format(at: &Change, name: &str, pages: Option<u32>, bit_page: Option<u32>) -> Result<Answer, Failure> {
-    let answer = match pages {
-        None => store::change(&at.image, at.wait, |image| Ok(formatted(image, name, bit_page)?))?,
-        Some(pages) => {
-            let mut image = blank(pages);
-            let answer = formatted(&mut image, name, bit_page).map_err(|refusal| asked_for(refusal, pages))?;
-            store::create(&at.image, &image)?;
-            answer
-        }
-    };
+/// A volume that was formatted.
+#[derive(Serialize)]
+struct Formatted {
+    volume: String,
+    pages: u32,
+    bit_page: u32,
+    bit_pages: u32,
+}
+
+/// A new image file of so many pages.
+pub fn new(at: &Change, name: &str, pages: &Number, bit_page: Option<&Number>) -> Result<Answer, Failure> {
+    let mut image = blank(pages.value);
+    let answer = session::one(&mut image, &at.image, |list| plan(list, name, bit_page)).map_err(|failure| asked_for(failure, pages))?;
+    store::create(&at.image, &image)?;
     Ok(answer)
 }
 
@@ -26,29 +34,45 @@ fn blank(pages: u32) -> Vec<u16> {
 }
 
 /// Number 1 of a new image says how many pages it was to have.
-fn asked_for(refusal: Refusal, pages: u32) -> Refusal {
-    match refusal.number {
-        // A number that 32 bits do not hold has become the largest.
-        1 if pages == u32::MAX => refusal.with(format!("{pages} pages or more asked for")),
-        1 => refusal.with(format!("{} asked for", answers::pages(pages))),
-        _ => refusal,
+fn asked_for(failure: Failure, pages: &Number) -> Failure {
+    match failure {
+        Failure::Refused(refusal) if refusal.number == 1 => refusal.with(format!("{} asked for", pages.pages())).into(),
+        _ => failure,
     }
 }
 
-fn formatted(image: &mut [u16], name: &str, bit_page: Option<u32>) -> Result<Answer, Refusal> {
-    let pages = (image.len() / proved::PAGE) as u32;
-    let reply = proved::format(image, name.as_bytes(), bit_page.map(|page| page as usize));
-    let first = bit_page.unwrap_or(pages / 2);
-    done(reply, Call::Format, name).map_err(|refusal| out_of_place(refusal, pages, first))?;
-    let bit_pages = bits(pages);
-    let place = match bit_pages {
-        1 => format!("page {first}"),
-        _ => format!("pages {first} to {}", first + bit_pages - 1),
+/// The call that formats the image.
+pub fn plan(plan: &mut Plan, name: &str, bit_page: Option<&Number>) -> Planned {
+    let (pages, first) = (plan.pages(), bit_page.map_or(plan.pages() / 2, |page| page.value));
+    let step = match bit_page {
+        None => plan.named(call::FORMAT_DEFAULT, name),
+        Some(_) => Step {
+            count: first,
+            ..plan.named(call::FORMAT, name)
+        },
     };
-    Ok(Answer::new(
-        format!("volume {name} of {pages} pages, bit file on {place}"),
-        json!({ "volume": name, "pages": pages, "bit_page": first, "bit_pages": bit_pages }),
-    ))
+    match is_legal(name) {
+        true => plan.call(Call::FormatAt, would_be(pages, first, bit_page), None, step),
+        false => plan.call(Call::Format, name, None, step),
+    }
+    plan.forecast.clear();
+    let (volume, bit_pages) = (name.to_string(), bits(pages));
+    Ok(Some(Box::new(move |_| {
+        let place = match bit_pages {
+            1 => format!("page {first}"),
+            _ => format!("pages {first} to {}", first + bit_pages - 1),
+        };
+        let line = format!("volume {volume} of {pages} pages, bit file on {place}");
+        Answer::new(
+            line,
+            Formatted {
+                volume,
+                pages,
+                bit_page: first,
+                bit_pages,
+            },
+        )
+    })))
 }
 
 /// The pages of the bit file of so many pages.
@@ -56,50 +80,51 @@ fn bits(pages: u32) -> u32 {
     proved::bit_pages(pages as usize) as u32
 }
 
-/// Number 2 where the bit file would not lie in 1..P-1 says where it would.
-fn out_of_place(refusal: Refusal, pages: u32, first: u32) -> Refusal {
-    let bits = bits(pages);
-    let last = (u64::from(first) + u64::from(bits)).saturating_sub(1);
-    if refusal.number != 2 || (first >= 1 && last < pages.into()) {
-        return refusal;
-    }
+/// Where the bit file would be, for a refusal.
+fn would_be(pages: u32, first: u32, typed: Option<&Number>) -> String {
+    let (bits, begin) = (bits(pages), typed.map_or(first.to_string(), Number::to_string));
     let place = match bits {
-        1 => format!("the bit file would be page {first}"),
-        _ => format!("the {bits} pages of the bit file would be {first} to {last}"),
+        1 => format!("the bit file would be page {begin}"),
+        _ => format!("the {bits} pages of the bit file would begin at page {begin}"),
     };
-    refusal.with(format!("{place}, and pages 1 to {} are there for it", pages - 1))
+    format!("{place}, and pages 1 to {} are there for it", pages.saturating_sub(1))
+}
+
+/// A sample disk that was made.
+#[derive(Serialize)]
+struct Sample {
+    volume: &'static str,
+    pages: u32,
 }
 
 /// Volume YARD with user DOCK, an indexed file of three pages and a contiguous one of ten.
 pub fn sample(at: &Ask) -> Result<Answer, Failure> {
     let mut image = blank(154);
-    formatted(&mut image, "YARD", None)?;
-    let user = done(proved::create_user(&mut image, b"DOCK"), Call::AddUser, "DOCK")? as usize;
-    done(proved::give(&mut image, user, 100), Call::Give, "DOCK")?;
-    let reads = done(
-        proved::create_indexed(&mut image, user, b"READS", b"DATA", 0),
-        Call::CreateIndexed,
-        "DOCK/READS:DATA",
-    )? as usize;
-    for position in 0..3 {
-        done(proved::grow(&mut image, user, reads), Call::Grow, "DOCK/READS:DATA")?;
-        let text = format!("Page {position} of READS:DATA, a file of user DOCK on volume YARD.\n");
-        done(
-            proved::write_page(&mut image, user, reads, position, &page(&text)),
-            Call::Write,
-            "DOCK/READS:DATA",
-        )?;
-    }
-    done(
-        proved::create_contiguous(&mut image, user, b"LAMBS", b"DATA", 0, 10),
-        Call::CreateContiguous,
-        "DOCK/LAMBS:DATA",
-    )?;
+    session::one(&mut image, &at.image, yard)?;
     store::create(&at.image, &image)?;
+    let (volume, pages) = ("YARD", 154);
     Ok(Answer::new(
-        "sample disk: volume YARD of 154 pages",
-        json!({ "volume": "YARD", "pages": 154 }),
+        format!("sample disk: volume {volume} of {pages} pages"),
+        Sample { volume, pages },
     ))
+}
+
+/// The calls that make the sample disk.
+fn yard(list: &mut Plan) -> Planned {
+    let told = plan(list, "YARD", None)?;
+    let user = users::create(list, "DOCK").unwrap_or_default();
+    list.call(Call::Give, "DOCK", None, users::on_user(call::GIVE, user, 100));
+    let (reads, lambs) = ("DOCK/READS:DATA".parse(), "DOCK/LAMBS:DATA".parse());
+    let (reads, lambs) = (reads.map_err(Failure::Usage)?, lambs.map_err(Failure::Usage)?);
+    let page = |position| page(&format!("Page {position} of READS:DATA, a file of user DOCK on volume YARD.\n"));
+    let words = (0..3).flat_map(page).collect::<Vec<_>>();
+    let creation = transfer::Creation {
+        contiguous: false,
+        created: 0,
+    };
+    transfer::put(list, &reads, &words, &creation)?;
+    files::make(list, &lambs, Some(10), 0)?;
+    Ok(told)
 }
 
 /// A page that begins with the text and goes on with zeros.

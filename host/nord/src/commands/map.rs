@@ -3,8 +3,9 @@
 use crate::answers::{done, Answer, Call};
 use crate::args::{Ask, Colour};
 use crate::failure::Failure;
+use crate::typed::Number;
 use crate::volume::{self, Holder, Volume};
-use crate::{map, output, store, volume_json};
+use crate::{map, output, volume_json};
 use console::Term;
 use serde_json::Value;
 use std::path::Path;
@@ -12,30 +13,29 @@ use std::path::Path;
 /// Characters in a line where there is no terminal.
 const WIDTH: usize = 80;
 
-pub fn map(at: &Ask, svg: Option<&Path>, width: Option<u32>, colour: Colour) -> Result<Answer, Failure> {
-    let image = store::read(&at.image)?;
-    done(proved::check(&image), Call::Check, "")?;
-    let (volume, holders) = (volume::read(&image), volume::holders(&image));
-    let json = if at.json { json(&volume, &holders) } else { Value::Null };
+pub fn map(image: &[u16], at: &Ask, svg: Option<&Path>, width: Option<Number>, colour: Colour) -> Result<Answer, Failure> {
+    done(proved::check(image), Call::Check, "")?;
+    let (volume, holders) = (volume::read(image), volume::holders(image));
+    let mut json = if at.json { json(&volume, &holders) } else { Value::Null };
     match svg {
         Some(path) => {
             output::save(path, &at.image, map::svg(&volume, &holders).as_bytes())?;
+            if at.json {
+                json["output"] = path.to_string_lossy().into();
+            }
             Ok(Answer::new(format!("map of {} in {}", volume.name, path.display()), json))
         }
         None => {
             let text = map::text(&volume, &holders, columns(width), coloured(colour));
-            Ok(Answer {
-                text,
-                ..Answer::new("", json)
-            })
+            Ok(Answer::of(text, json))
         }
     }
 }
 
 /// The width that is wanted, else the terminal's.
-fn columns(width: Option<u32>) -> usize {
+fn columns(width: Option<Number>) -> usize {
     match width {
-        Some(width) => width as usize,
+        Some(width) => width.value as usize,
         None => Term::stdout().size_checked().map_or(WIDTH, |(_, columns)| columns.into()),
     }
 }

@@ -2,52 +2,149 @@
 
 mod ask;
 mod convert;
+mod export;
 mod files;
 mod format;
+mod import;
 mod map;
 mod page;
+mod run;
 mod salvage;
-mod steps;
 mod transfer;
 mod users;
 
 use crate::answers::Answer;
 use crate::args::{Cli, Command};
 use crate::failure::Failure;
-use crate::manual;
+use crate::plan::{Plan, Planned};
+use crate::store::{self, Then};
+use crate::{manual, session};
 use clap::CommandFactory;
+use std::path::{Path, PathBuf};
+
+/// What a command does with an image.
+pub enum Work {
+    /// It asks: nothing is changed.
+    Ask(Box<dyn FnOnce(&mut [u16]) -> Result<Answer, Failure>>),
+    /// It changes the image by a list of calls.
+    Change(Box<dyn FnOnce(&mut Plan) -> Planned>),
+    /// It makes a call by itself, and says whether there is anything to replace the image for.
+    Mend(Box<dyn FnOnce(&mut [u16]) -> Result<(Answer, Then), Failure>>),
+}
+
+/// A command's work on an image, or a command that makes an image or needs none.
+pub enum Kind {
+    On { image: PathBuf, wait: u64, work: Work },
+    Whole(Box<dyn FnOnce() -> Result<Answer, Failure>>),
+}
 
 pub fn run(command: Command) -> Result<Answer, Failure> {
+    match kind(command)? {
+        Kind::Whole(work) => work(),
+        Kind::On { image, wait, work } => on(&image, wait, work),
+    }
+}
+
+/// Work on an image file. Who only asks takes no lock.
+fn on(path: &Path, wait: u64, work: Work) -> Result<Answer, Failure> {
+    match work {
+        Work::Ask(ask) => {
+            let mut image = store::read(path)?;
+            ask(&mut image).map_err(|failure| failure.sized(image.len()))
+        }
+        Work::Change(change) => store::change(path, wait, |image| {
+            session::one(image, path, change).map_err(|failure| failure.sized(image.len()))
+        }),
+        Work::Mend(mend) => store::change_or_keep(path, wait, |image| {
+            mend(image).map_err(|failure| failure.sized(image.len()))
+        }),
+    }
+}
+
+/// What a command is.
+pub fn kind(command: Command) -> Result<Kind, Failure> {
     match command {
-        Command::Check(at) => ask::check(&at),
-        Command::List(at) => ask::list(&at),
-        Command::Find { at, name } => ask::find(&at, &name),
-        Command::Address { at, file, position } => ask::address(&at, &file, position),
-        Command::Who { at, page } => ask::who(&at, page),
-        Command::Format { at, name, pages, bit_page } => format::format(&at, &name, pages, bit_page),
-        Command::Convert { at, to } => convert::convert(&at, to),
-        Command::Salvage(with) => salvage::salvage(&with),
-        Command::Sample(at) => format::sample(&at),
-        Command::User(command) => users::run(command),
-        Command::File(command) => files::run(command),
-        Command::Read { at, file, output } => transfer::read(&at, &file, output.as_deref()),
+        Command::Format {
+            at,
+            name,
+            pages: Some(pages),
+            bit_page,
+        } => Ok(whole(move || format::new(&at, &name, &pages, bit_page.as_ref()))),
+        Command::Sample(at) => Ok(whole(move || format::sample(&at))),
+        Command::Run(with) => Ok(whole(move || run::run(&with))),
+        Command::Manual => Ok(whole(|| Ok(Answer::plain(manual::page())))),
+        Command::Completions { shell } => Ok(whole(move || Ok(Answer::plain(completions(shell))))),
+        Command::User(command) => Ok(change(command.at().clone(), |plan| users::plan(command, plan))),
+        Command::File(command) => Ok(change(command.at().clone(), |plan| files::plan(command, plan))),
+        Command::Format { at, name, bit_page, .. } => Ok(change(at, move |plan| format::plan(plan, &name, bit_page.as_ref()))),
+        Command::Convert { at, to } => Ok(change(at, move |plan| convert::plan(plan, to))),
+        Command::Import(with) => Ok(change(with.at.clone(), move |plan| import::plan(plan, &with))),
         Command::Write {
             at,
             file,
             input,
             contiguous,
             created,
-        } => transfer::write(&at, &file, &input, transfer::Creation { contiguous, created }),
-        Command::Page { at, page, word } => page::page(&at, page, word),
-        Command::Map { at, svg, width, colour } => map::map(&at, svg.as_deref(), width, colour),
-        Command::Manual => Ok(plain(manual::page())),
-        Command::Completions { shell } => Ok(plain(completions(shell))),
+        } => {
+            let (words, creation) = (transfer::load(&input)?, transfer::Creation { contiguous, created });
+            Ok(change(at, move |plan| transfer::write(plan, file, &words, &creation)))
+        }
+        Command::Salvage(with) => Ok(salvaging(with)),
+        asking => Ok(asks(asking)),
     }
 }
 
-/// Text that is no answer about an image.
-fn plain(text: String) -> Answer {
-    Answer { text, ..Answer::default() }
+fn whole(work: impl FnOnce() -> Result<Answer, Failure> + 'static) -> Kind {
+    Kind::Whole(Box::new(work))
+}
+
+fn change(at: crate::args::Change, work: impl FnOnce(&mut Plan) -> Planned + 'static) -> Kind {
+    Kind::On {
+        image: at.image,
+        wait: at.wait,
+        work: Work::Change(Box::new(work)),
+    }
+}
+
+fn ask(image: PathBuf, work: impl FnOnce(&mut [u16]) -> Result<Answer, Failure> + 'static) -> Kind {
+    Kind::On {
+        image,
+        wait: 0,
+        work: Work::Ask(Box::new(work)),
+    }
+}
+
+/// A dry run only asks the image: it needs no lock, and no leave to write.
+fn salvaging(with: crate::args::Salvage) -> Kind {
+    let (image, wait) = (with.at.image.clone(), with.at.wait);
+    match with.dry_run {
+        true => ask(image, move |image| salvage::salvage(image, &with).map(|(answer, _)| answer)),
+        false => Kind::On {
+            image,
+            wait,
+            work: Work::Mend(Box::new(move |image| salvage::salvage(image, &with))),
+        },
+    }
+}
+
+/// The commands that ask.
+fn asks(command: Command) -> Kind {
+    match command {
+        Command::List(at) => ask(at.image, |image| ask::list(image)),
+        Command::Find { at, name } => ask(at.image.clone(), move |image| ask::find(image, &at, &name)),
+        Command::Address { at, file, position } => ask(at.image.clone(), move |image| ask::address(image, &at, &file, &position)),
+        Command::Who { at, page } => ask(at.image, move |image| ask::who(image, &page)),
+        Command::Read { at, file, output } => ask(at.image.clone(), move |image| {
+            transfer::read(image, &at, &file, output.as_deref())
+        }),
+        Command::Export(with) => ask(with.at.image.clone(), move |image| export::export(image, &with)),
+        Command::Page { at, page, word } => ask(at.image, move |image| page::page(image, &page, word.as_ref())),
+        Command::Map { at, svg, width, colour } => ask(at.image.clone(), move |image| {
+            map::map(image, &at, svg.as_deref(), width, colour)
+        }),
+        Command::Check(at) => ask(at.image.clone(), move |image| ask::check(image, &at)),
+        _ => whole(|| Err(Failure::Usage("this command asks no image".to_string()))),
+    }
 }
 
 fn completions(shell: clap_complete::Shell) -> String {

@@ -4,18 +4,10 @@ use crate::answers::{pages, Answer};
 use crate::args::Salvage;
 use crate::failure::Failure;
 use crate::salvage::{copy_out, file_name, refusal, CopiedOut, Mended, Salvaged};
-use crate::store::{self, Then};
-
-/// A dry run only asks the image: it needs no lock, and no leave to write.
-pub fn salvage(with: &Salvage) -> Result<Answer, Failure> {
-    match with.dry_run {
-        true => salvaged(&mut store::read(&with.at.image)?, with).map(|(answer, _)| answer),
-        false => store::change_or_keep(&with.at.image, with.at.wait, |image| salvaged(image, with)),
-    }
-}
+use crate::store::Then;
 
 /// The library's salvage. Pages that nobody holds are copied out before the image is replaced.
-fn salvaged(image: &mut [u16], with: &Salvage) -> Result<(Answer, Then), Failure> {
+pub fn salvage(image: &mut [u16], with: &Salvage) -> Result<(Answer, Then), Failure> {
     let salvaged = Salvaged::of(image).map_err(|reply| refusal(image, reply, &with.at.image))?;
     let mended = Mended::of(image, &salvaged);
     let copied = match &with.orphans {
@@ -27,7 +19,9 @@ fn salvaged(image: &mut [u16], with: &Salvage) -> Result<(Answer, Then), Failure
         false => Then::Replace,
     };
     let answer = answer(&mended, copied.as_ref(), with, then);
-    image.copy_from_slice(&salvaged.image);
+    if then == Then::Replace {
+        image.copy_from_slice(&salvaged.image);
+    }
     Ok((answer, then))
 }
 

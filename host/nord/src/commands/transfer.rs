@@ -1,17 +1,18 @@
 //! Whole files out of an image and into it, page by page.
 
 use super::files;
-use super::steps::{self, step, Place, Refused};
-use crate::answers::{self, done, Answer, Call, Refusal};
-use crate::args::{Ask, Change};
+use crate::answers::{self, Answer, Call};
+use crate::args::Ask;
 use crate::failure::{of_file, standard_output, Failure};
-use crate::names::FileName;
-use crate::volume::{self, FileKind};
+use crate::names::{FileName, Within};
+use crate::plan::{self, on_file, Each, Place, Plan, Planned};
+use crate::volume::FileKind;
 use crate::{output, store};
-use proved::{call, Step};
-use serde_json::json;
+use proved::{call, Reply, Step};
+use serde::Serialize;
 use std::fs;
 use std::io::{Read, Write};
+use std::ops::Range;
 use std::path::Path;
 
 /// How a file is made that is not there yet.
@@ -20,87 +21,150 @@ pub struct Creation {
     pub created: u32,
 }
 
-pub fn read(at: &Ask, file: &FileName, output: Option<&Path>) -> Result<Answer, Failure> {
+/// A file that was copied out.
+#[derive(Serialize)]
+struct Copied {
+    pages: usize,
+    bytes: usize,
+    output: String,
+}
+
+pub fn read(image: &mut [u16], at: &Ask, file: &FileName, output: Option<&Path>) -> Result<Answer, Failure> {
     let output = output.filter(|path| *path != Path::new("-"));
     if at.json && output.is_none() {
         return Err(Failure::Usage(
             "read with --json needs a host's file: standard output has the answer".to_string(),
         ));
     }
-    let bytes = pages(&mut store::read(&at.image)?, file)?;
-    match output {
-        None => {
-            let mut out = std::io::stdout().lock();
-            out.write_all(&bytes).and_then(|()| out.flush()).map_err(standard_output)?;
-            Ok(Answer::default())
-        }
-        Some(path) => {
-            output::save(path, &at.image, &bytes)?;
-            let count = bytes.len() / store::PAGE;
-            let line = format!("{} of {file} in {}", answers::pages(count as u32), path.display());
-            Ok(Answer::new(
-                line,
-                json!({ "pages": count, "bytes": bytes.len(), "output": path.to_string_lossy() }),
-            ))
-        }
-    }
+    let bytes = all_pages(image, &at.image, file)?;
+    let Some(path) = output else {
+        let mut out = std::io::stdout().lock();
+        out.write_all(&bytes).and_then(|()| out.flush()).map_err(standard_output)?;
+        return Ok(Answer::default());
+    };
+    output::save(path, &at.image, &bytes)?;
+    let pages = bytes.len() / store::PAGE;
+    let line = format!("{} of {file} in {}", answers::pages(pages as u32), path.display());
+    let (bytes, output) = (bytes.len(), path.to_string_lossy().into_owned());
+    Ok(Answer::new(line, Copied { pages, bytes, output }))
 }
 
-/// All bytes of a file. The library is asked for the address of each page, which changes nothing, and the page lies there.
-fn pages(image: &mut [u16], file: &FileName) -> Result<Vec<u8>, Failure> {
-    let place = file.indexes(image)?;
-    let count = entry(image, file, place)?.pages;
-    let found = steps::make(image, "reading", count, &[], |position| step(call::ADDRESS, place, position));
-    let numbers = found.map_err(|refused| at_position(refused, Call::Address, file))?;
-    let mut bytes = Vec::with_capacity(numbers.len() * store::PAGE);
-    for number in numbers {
-        let start = number as usize * proved::PAGE;
+/// All bytes of a file.
+fn all_pages(image: &mut [u16], path: &Path, file: &FileName) -> Result<Vec<u8>, Failure> {
+    let mut list = Plan::on(image, path);
+    let calls = match list.file(file) {
+        Some(place) => addresses(&mut list, file, place),
+        None => 0..0,
+    };
+    let replies = plan::make(&list, 0..list.len(), image)?;
+    Ok(bytes_at(image, &replies[calls]))
+}
+
+/// The calls that ask for the address of each page of a file. They change nothing, and the pages lie there.
+pub fn addresses(list: &mut Plan, file: &FileName, place: Place) -> Range<usize> {
+    let first = list.len();
+    match list.forecast.pages(place) {
+        Some(pages) => list.calls(Call::Address, file, Each::Position, None, pages, |position| {
+            on_file(call::ADDRESS, place, position)
+        }),
+        // An index that no entry has: the library says which refusal it is.
+        None => list.call(Call::FindFile, file, None, on_file(call::ADDRESS, place, 0)),
+    }
+    first..list.len()
+}
+
+/// The bytes of the pages that these replies tell of.
+pub fn bytes_at(image: &[u16], replies: &[Reply]) -> Vec<u8> {
+    let mut bytes = Vec::with_capacity(replies.len() * store::PAGE);
+    for reply in replies {
+        let start = reply.value as usize * proved::PAGE;
         bytes.extend(store::bytes(&image[start..start + proved::PAGE]));
     }
-    Ok(bytes)
+    bytes
 }
 
-/// The refusal of a call on a page of a file, with its position.
-fn at_position(refused: Refused, call: Call, file: &FileName) -> Refusal {
-    Refusal::of(refused.reply, call, format!("position {} of {file}", refused.before))
+/// A file that was copied in.
+#[derive(Clone, Debug, Serialize)]
+pub struct Written {
+    pub user: u32,
+    pub file: u32,
+    pub pages: u32,
+    pub created: bool,
 }
 
-/// A file's entry in an image, which is checked before.
-fn entry(image: &[u16], file: &FileName, (user, index): Place) -> Result<volume::File, Failure> {
-    done(proved::check(image), Call::Check, "")?;
-    match volume::read(image).user(user as u32).and_then(|owner| owner.file(index as u32)) {
-        Some(entry) => Ok(entry.clone()),
-        // An index that no entry has: the address call says which refusal it is.
-        None => {
-            done(proved::address(image, user, index, 0), Call::FindFile, file)?;
-            Err(Failure::Host(format!("{file}: no entry is found")))
-        }
+impl Written {
+    /// "created: 3 pages".
+    pub fn words(&self) -> String {
+        let words = if self.created { "created" } else { "replaced" };
+        format!("{words}: {}", answers::pages(self.pages))
     }
 }
 
-pub fn write(at: &Change, file: &FileName, input: &Path, creation: Creation) -> Result<Answer, Failure> {
-    let data = load(input)?;
-    let count = (data.len() / proved::PAGE) as u32;
-    let mut created = false;
-    let (user, index) = store::change(&at.image, at.wait, |image| {
-        let place = match file.indexes(image) {
-            Err(refusal) if refusal.number == 4 => {
-                created = true;
-                files::make(image, file, creation.contiguous.then_some(count), creation.created)?
-            }
-            found => found?,
-        };
-        fit(image, file, place, count, creation.contiguous)?;
-        fill(image, file, place, &data)?;
-        Ok(place)
-    })?;
-    let words = if created { "created" } else { "replaced" };
-    let json = json!({ "user": user, "file": index, "pages": count, "created": created });
-    Ok(Answer::new(format!("{file} {words}: {}", answers::pages(count)), json))
+pub fn write(list: &mut Plan, file: FileName, words: &[u16], creation: &Creation) -> Planned {
+    let Some(written) = put(list, &file, words, creation)? else {
+        return Ok(None);
+    };
+    Ok(Some(Box::new(move |_| Answer::new(format!("{file} {}", written.words()), written))))
+}
+
+/// The calls that copy these words into a file: it is created where it is not there, grows or shrinks to fit, and every page is written.
+pub fn put(list: &mut Plan, file: &FileName, words: &[u16], creation: &Creation) -> Result<Option<Written>, Failure> {
+    let pages = (words.len() / proved::PAGE) as u32;
+    let created = creation.contiguous || is_new(list, file);
+    let place = match created {
+        true => files::make(list, file, creation.contiguous.then_some(pages), creation.created)?,
+        false => list.file(file),
+    };
+    let Some(place) = place else { return Ok(None) };
+    if !fit(list, file, place, pages) {
+        return Ok(None);
+    }
+    let data_at = list.lend(words);
+    list.calls(Call::Write, file, Each::Position, None, pages, |position| Step {
+        data_at: data_at + proved::PAGE as u32 * position,
+        ..on_file(call::WRITE_PAGE, place, position)
+    });
+    let (user, file) = place;
+    Ok(Some(Written {
+        user,
+        file,
+        pages,
+        created,
+    }))
+}
+
+/// Whether a file of a user who is there is to be created.
+fn is_new(list: &Plan, file: &FileName) -> bool {
+    let user = list.forecast.index(&file.user);
+    match (&file.file, user) {
+        (Within::Name(name, kind), Some(user)) => list.forecast.file_named(user, name, kind).is_none(),
+        _ => false,
+    }
+}
+
+/// The calls by which a file grows or shrinks to so many pages; whether the library is to make them.
+fn fit(list: &mut Plan, file: &FileName, place: Place, pages: u32) -> bool {
+    let Some(there) = list.forecast.pages(place) else {
+        list.call(Call::FindFile, file, None, on_file(call::ADDRESS, place, 0));
+        return false;
+    };
+    let contiguous = list.forecast.file(place).is_some_and(|file| file.kind == FileKind::Contiguous);
+    if contiguous && pages != there {
+        let subject = format!("{file} has {}, and the input has {}", answers::pages(there), answers::pages(pages));
+        list.call(Call::Fit, subject, None, on_file(call::GROW, place, 0));
+        return false;
+    }
+    if pages > there {
+        files::grow_by(list, file, place, &(pages - there).into());
+    }
+    if pages < there {
+        files::shrink_by(list, file, place, &(there - pages).into());
+    }
+    true
 }
 
 /// The input's words, filled with zeros to whole pages. Of an input larger than any image no more is read than shows that.
-fn load(input: &Path) -> Result<Vec<u16>, Failure> {
+pub fn load(input: &Path) -> Result<Vec<u16>, Failure> {
     let limit = (proved::MOST_PAGES * store::PAGE) as u64 + 1;
     let mut bytes = Vec::new();
     match input == Path::new("-") {
@@ -110,30 +174,4 @@ fn load(input: &Path) -> Result<Vec<u16>, Failure> {
     .map_err(of_file(input))?;
     bytes.resize(bytes.len().next_multiple_of(store::PAGE), 0);
     Ok(store::words(&bytes))
-}
-
-/// Grows or shrinks the file to so many pages.
-fn fit(image: &mut [u16], file: &FileName, place: Place, count: u32, contiguous: bool) -> Result<(), Failure> {
-    let entry = entry(image, file, place)?;
-    if contiguous && entry.kind != FileKind::Contiguous {
-        return Err(Failure::Usage(format!("{file}: is there and is not contiguous")));
-    }
-    if count > entry.pages {
-        files::grow_by(image, file, place, count - entry.pages)?;
-    }
-    if count < entry.pages {
-        files::shrink_by(image, file, place, entry.pages - count)?;
-    }
-    Ok(())
-}
-
-/// Writes every page.
-fn fill(image: &mut [u16], file: &FileName, place: Place, data: &[u16]) -> Result<(), Failure> {
-    let count = (data.len() / proved::PAGE) as u32;
-    let written = steps::make(image, "writing", count, data, |position| Step {
-        data_at: proved::PAGE as u32 * position,
-        ..step(call::WRITE_PAGE, place, position)
-    });
-    written.map_err(|refused| at_position(refused, Call::Write, file))?;
-    Ok(())
 }

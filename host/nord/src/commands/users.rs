@@ -1,55 +1,90 @@
 //! Users: add, delete, give, take.
 
-use crate::answers::{self, done, Answer, Call};
-use crate::args::{Change, User};
-use crate::failure::Failure;
+use crate::answers::{Answer, Call};
+use crate::args::User;
 use crate::names::UserName;
-use crate::store;
-use proved::Reply;
-use serde_json::json;
+use crate::plan::{Plan, Planned};
+use crate::typed::Number;
+use proved::{call, Step};
+use serde::Serialize;
 
-pub fn run(command: User) -> Result<Answer, Failure> {
+pub fn plan(command: User, plan: &mut Plan) -> Planned {
     match command {
-        User::Add { at, name } => add(&at, &name),
-        User::Delete { at, user } => delete(&at, &user),
-        User::Give { at, user, count } => moved(&at, &user, count, Call::Give),
-        User::Take { at, user, count } => moved(&at, &user, count, Call::Take),
+        User::Add { name, .. } => add(plan, name),
+        User::Delete { user, .. } => delete(plan, &user),
+        User::Give { user, count, .. } => moved(plan, &user, count, Call::Give),
+        User::Take { user, count, .. } => moved(plan, &user, count, Call::Take),
     }
 }
 
-fn add(at: &Change, name: &str) -> Result<Answer, Failure> {
-    let user = store::change(&at.image, at.wait, |image| {
-        Ok(done(proved::create_user(image, name.as_bytes()), Call::AddUser, name)?)
-    })?;
-    Ok(Answer::new(
-        format!("user {user} {name} added"),
-        json!({ "user": user, "name": name }),
-    ))
+/// A user that was added.
+#[derive(Serialize)]
+struct Added {
+    user: u32,
+    name: String,
 }
 
-fn delete(at: &Change, user: &UserName) -> Result<Answer, Failure> {
-    let index = store::change(&at.image, at.wait, |image| {
-        let index = user.index(image)?;
-        done(proved::delete_user(image, index), Call::DeleteUser, user)?;
-        Ok(index)
-    })?;
-    Ok(Answer::new(format!("user {index} deleted"), json!({ "user": index })))
+/// A user that is gone.
+#[derive(Serialize)]
+struct Gone {
+    user: u32,
+}
+
+/// Pages that were given to a user or taken from him.
+#[derive(Serialize)]
+struct Moved {
+    user: u32,
+    pages: u32,
+}
+
+fn add(plan: &mut Plan, name: String) -> Planned {
+    create(plan, &name);
+    Ok(Some(Box::new(move |made| {
+        let user = made.last();
+        Answer::new(format!("user {user} {name} added"), Added { user, name })
+    })))
+}
+
+/// The call that creates a user, and his index.
+pub fn create(plan: &mut Plan, name: &str) -> Option<u32> {
+    let step = plan.named(call::CREATE_USER, name);
+    let index = plan.forecast.add_user(name);
+    plan.call(Call::AddUser, name, index, step);
+    index
+}
+
+fn delete(plan: &mut Plan, user: &UserName) -> Planned {
+    let Some(index) = plan.user(user) else { return Ok(None) };
+    let step = on_user(call::DELETE_USER, index, 0);
+    plan.call(Call::DeleteUser, user, None, step);
+    plan.forecast.remove_user(index);
+    Ok(Some(Box::new(move |_| {
+        Answer::new(format!("user {index} deleted"), Gone { user: index })
+    })))
 }
 
 /// Give and take.
-fn moved(at: &Change, user: &UserName, count: u32, call: Call) -> Result<Answer, Failure> {
-    let index = store::change(&at.image, at.wait, |image| {
-        let index = user.index(image)?;
-        let reply: Reply = match call {
-            Call::Take => proved::take(image, index, count as usize),
-            _ => proved::give(image, index, count as usize),
-        };
-        done(reply, call, format!("{count} for {user}"))?;
-        Ok(index)
-    })?;
-    let words = if call == Call::Take { "taken from" } else { "given to" };
-    Ok(Answer::new(
-        format!("{} {words} user {index}", answers::pages(count)),
-        json!({ "user": index, "pages": count }),
-    ))
+fn moved(plan: &mut Plan, user: &UserName, count: Number, call: Call) -> Planned {
+    let Some(index) = plan.user(user) else { return Ok(None) };
+    let (number, words) = match call {
+        Call::Take => (call::TAKE, "taken from"),
+        _ => (call::GIVE, "given to"),
+    };
+    let step = on_user(number, index, count.value);
+    plan.call(call, format!("{count} for {user}"), None, step);
+    Ok(Some(Box::new(move |_| {
+        let line = format!("{} {words} user {index}", count.pages());
+        let pages = count.value;
+        Answer::new(line, Moved { user: index, pages })
+    })))
+}
+
+/// A call on a user, with a count or 0.
+pub fn on_user(call: u32, user: u32, count: u32) -> Step {
+    Step {
+        call,
+        user,
+        count,
+        ..Step::default()
+    }
 }

@@ -36,11 +36,7 @@ impl InTheWay<'_> {
 
     pub fn refusal(&self, reply: Reply, call: Call, path: &Path) -> Refusal {
         let refusal = Refusal::of(reply, call, self.subject());
-        Refusal {
-            more: self.lines(path),
-            json: self.json(reply),
-            ..refusal
-        }
+        refusal.over(self.lines(path)).detailed(self.json())
     }
 
     /// "the name of user 1 FLOCK ends in an apostrophe".
@@ -111,7 +107,7 @@ impl InTheWay<'_> {
     }
 
     /// The refusal's numbers, and all that is said here.
-    fn json(&self, reply: Reply) -> Value {
+    fn json(&self) -> Value {
         let Short { whose, stored, fill } = &self.first;
         let (field, user, file) = match *whose {
             Whose::Volume => ("volume", None, None),
@@ -121,8 +117,6 @@ impl InTheWay<'_> {
         };
         let place = self.disk.name_place(*whose);
         json!({
-            "number": reply.number,
-            "rule": reply.rule,
             "to": self.to.word(),
             "field": field,
             "user": user,

@@ -53,8 +53,7 @@ impl CanMend {
     /// The same refusal with what is said here.
     pub fn tell(&self, mut refusal: Refusal, path: &Path) -> Refusal {
         refusal.more.push(item("salvage", &self.words(path)));
-        refusal.json["salvage"] = self.json();
-        refusal
+        refusal.detailed(json!({ "salvage": self.json() }))
     }
 
     fn words(&self, path: &Path) -> String {

@@ -4,7 +4,6 @@ use super::{CanMend, Overdrawn};
 use crate::answers::{item, look_at, Call, Refusal};
 use crate::broken::Broken;
 use proved::Reply;
-use serde_json::Value;
 use std::path::Path;
 
 /// So many reasons are told; the rest is counted.
@@ -46,14 +45,5 @@ fn overdrawn(image: &[u16], reply: Reply, path: &Path) -> Refusal {
         "salvage changes no given count: the one that does not fit is to be looked at first",
     ));
     more.push(look_at(path, found.place()));
-    let json = merged(refusal.json, found.json());
-    Refusal { more, json, ..refusal }
-}
-
-/// One object with the fields of both.
-fn merged(mut json: Value, more: Value) -> Value {
-    if let Value::Object(fields) = more {
-        fields.into_iter().for_each(|(name, value)| json[name] = value);
-    }
-    json
+    refusal.over(more).detailed(found.json())
 }

@@ -361,7 +361,7 @@ fn json_has_all_numbers() {
         "number": 3,
         "rule": 4,
         "sentence": sentence,
-        "refusal": refusal,
+        "error": refusal,
         "page": 2,
         "word": 16,
         "what": "used pages of user 0 DOCK, words 16-17 of his entry",
@@ -374,7 +374,7 @@ fn json_has_all_numbers() {
     assert_eq!((check.status, check.json()), (3, wanted));
     let list = run(&image, "list IMAGE --json");
     let wanted = json!({
-        "number": 3, "rule": 4, "sentence": sentence, "refusal": refusal, "page": 2, "word": 16, "first": free, "second": free,
+        "number": 3, "rule": 4, "sentence": sentence, "error": refusal, "page": 2, "word": 16, "first": free, "second": free,
     });
     assert_eq!((list.status, list.json()), (3, wanted));
 }

@@ -274,7 +274,7 @@ fn done_as_json() {
 fn refused(image: &Path, line: &str) -> Value {
     let run = run(image, &format!("{line} --json"));
     let mut json = run.json();
-    let words = json.as_object_mut().unwrap().remove("refusal").unwrap();
+    let words = json.as_object_mut().unwrap().remove("error").unwrap();
     assert_eq!(run.status, 12);
     assert!(
         run.err.starts_with(&format!("nord: refused (12): {}\n", words.as_str().unwrap())),

@@ -227,6 +227,6 @@ fn what_is_no_image_file() {
 fn an_error_of_the_host_as_json() {
     let folder = Folder::new();
     let run = run(&folder.path("absent.img"), "check IMAGE --json");
-    assert_eq!((run.status, &run.json()["status"]), (74, &serde_json::json!(74)));
+    assert_eq!((run.status, &run.json()["number"]), (74, &serde_json::json!(74)));
     assert!(run.json()["error"].as_str().unwrap().contains("No such file"));
 }

@@ -178,7 +178,7 @@ fn numbers_9_to_11() {
 fn a_refusal_as_json_has_number_rule_and_words() {
     let (_folder, image) = sample();
     let run = run(&image, "user add IMAGE DOCK --json");
-    assert_eq!(run.json(), json!({ "number": 5, "rule": 0, "refusal": "the name is taken: DOCK" }));
+    assert_eq!(run.json(), json!({ "number": 5, "rule": 0, "error": "the name is taken: DOCK" }));
     assert_eq!((run.status, run.err.as_str()), (5, "nord: refused (5): the name is taken: DOCK\n"));
 }
 

@@ -428,7 +428,7 @@ fn number_13_says_who_holds_more_than_he_was_given() {
     }
     assert_eq!(check_says(&image), "cannot mend this: user 0 DOCK holds 14 pages and was given 10");
     let mut json = run(&image, "salvage IMAGE --json").json();
-    json.as_object_mut().unwrap().remove("refusal").unwrap();
+    json.as_object_mut().unwrap().remove("error").unwrap();
     let over = json!({ "user": 0, "name": "DOCK", "holds": 14, "given": 10 });
     assert_eq!(
         json,

@@ -224,5 +224,5 @@ fn an_apostrophe_in_an_argument_is_refused_and_told() {
     }
     let json = run(&image, "user add IMAGE DOCK' --json").json();
     assert_eq!((&json["number"], &json["rule"]), (&2.into(), &0.into()));
-    assert!(json["refusal"].as_str().unwrap().ends_with("and is no part of it)"), "{json}");
+    assert!(json["error"].as_str().unwrap().ends_with("and is no part of it)"), "{json}");
 }
