@@ -139,8 +139,11 @@ fn what_is_changed_has_json() {
             ("user take IMAGE FLOCK 9", json!({ "number": 0, "user": 1, "pages": 9 })),
             ("user delete IMAGE FLOCK", json!({ "number": 0, "user": 1 })),
             ("file create IMAGE DOCK/LOG", json!({ "number": 0, "user": 0, "file": 2 })),
-            ("file grow IMAGE DOCK/LOG 2", json!({ "number": 0, "pages": [9, 11] })),
-            ("file shrink IMAGE DOCK/LOG", json!({ "number": 0, "pages": 1 })),
+            (
+                "file grow IMAGE DOCK/LOG 2",
+                json!({ "number": 0, "user": 0, "file": 2, "pages": 2, "data": [9, 11] }),
+            ),
+            ("file shrink IMAGE DOCK/LOG", json!({ "number": 0, "user": 0, "file": 2, "pages": 1 })),
             ("file open IMAGE DOCK/LOG", json!({ "number": 0, "user": 0, "file": 2 })),
             ("file delete IMAGE DOCK/LOG", json!({ "number": 0, "user": 0, "file": 2 })),
             (

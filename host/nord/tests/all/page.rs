@@ -355,7 +355,7 @@ fn wrong_pages_words_and_lengths() {
     assert_eq!(fails(&image, "page IMAGE 154", 2), format!("{reason}: page 154 of 154\n"));
     assert_eq!(
         fails(&image, "page IMAGE 99999999999 5", 2),
-        format!("{reason}: page 4294967295 of 154\n")
+        format!("{reason}: page 99999999999 of 154\n")
     );
     assert_eq!(fails(&image, "page IMAGE 3 1024", 2), format!("{reason}: word 1024\n"));
     done(&image, "page IMAGE 153 1023");

@@ -18,7 +18,7 @@ fn number_1_for_lengths() {
     assert_eq!(said.status, 1);
     assert!(
         said.err
-            .ends_with("fewer than 8 or more than 140,733 pages: the image has 288223232 bytes\n"),
+            .ends_with("fewer than 8 or more than 140,733 pages (the image has 288223232 bytes, 140734 pages)\n"),
         "{}",
         said.err
     );
@@ -65,7 +65,7 @@ fn number_2_for_arguments() {
     assert!(fails(&image, "find IMAGE dock", 2).ends_with("dock (names are in capitals)\n"));
     let said = fails(&image, "format IMAGE YARD --bit-page 154", 2);
     assert!(
-        said.ends_with("YARD (the bit file would be page 154, and pages 1 to 153 are there for it)\n"),
+        said.ends_with("number of pages): the bit file would be page 154, and pages 1 to 153 are there for it\n"),
         "{said}"
     );
 }
@@ -132,27 +132,27 @@ const TOO_MUCH: [(&str, i32, &str); 6] = [
     (
         "file grow IMAGE DOCK/READS:DATA 87",
         9,
-        "given less used is below the pages needed: DOCK/READS:DATA (page 87 of 87 to grow by)",
+        "given less used is below the pages needed: DOCK/READS:DATA (1 page needed, 0 are there) (page 87 of 87 to grow by)",
     ),
     (
         "user take IMAGE DOCK 87",
         9,
-        "given less used is below the pages to be taken back: 87 for DOCK",
+        "given less used is below the pages to be taken back: 87 for DOCK (87 pages needed, 86 are there)",
     ),
     (
         "file create IMAGE DOCK/LONG --contiguous 87",
         9,
-        "given less used is below the pages needed",
+        "given less used is below the pages needed: DOCK/LONG: (87 pages needed, 86 are there)",
     ),
     (
         "user give IMAGE DOCK 49",
         10,
-        "unreserved is below the pages to be given: 49 for DOCK",
+        "unreserved is below the pages to be given: 49 for DOCK (49 pages needed, 48 are there)",
     ),
     (
         "user give IMAGE DOCK 140733",
         10,
-        "unreserved is below the pages to be given: 140733 for DOCK",
+        "unreserved is below the pages to be given: 140733 for DOCK (140733 pages needed, 48 are there)",
     ),
     (
         "file create IMAGE DOCK/LONG --contiguous 70",
@@ -171,7 +171,8 @@ fn numbers_9_to_11() {
     done(&image, "file grow IMAGE DOCK/READS:DATA 86");
     let (_folder, full) = disk(8, 3);
     let said = fails(&full, "file create IMAGE DOCK/READS", 10);
-    assert!(said.contains("unreserved is below the system pages needed"), "{said}");
+    let wanted = "unreserved is below the system pages needed: DOCK/READS: (1 page needed, 0 are there)\n";
+    assert!(said.ends_with(wanted), "{said}");
 }
 
 #[test]

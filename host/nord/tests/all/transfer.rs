@@ -114,15 +114,22 @@ fn contiguous_files_take_what_fits_exactly() {
         run(&image, "read IMAGE DOCK/LAMBS:DATA").out[..10 * 2048 - 7],
         noise(1, 10 * 2048 - 7)
     );
-    assert!(fails(&image, &format!("write IMAGE DOCK/LAMBS:DATA {}", eleven.display()), 6).contains("a contiguous file does not grow"));
-    assert!(fails(&image, &format!("write IMAGE DOCK/LAMBS:DATA {}", nine.display()), 6).contains("a contiguous file does not shrink"));
+    for (input, pages) in [(&eleven, 11), (&nine, 9)] {
+        let said = fails(&image, &format!("write IMAGE DOCK/LAMBS:DATA {}", input.display()), 6);
+        let wanted = format!("a contiguous file keeps its page count: DOCK/LAMBS:DATA has 10 pages, and the input has {pages} pages\n");
+        assert!(said.ends_with(&wanted), "{said}");
+    }
     done(
         &image,
         &format!("write IMAGE DOCK/RAMS:PLAN --contiguous --created 5 {}", nine.display()),
     );
     assert!(done(&image, "list IMAGE").ends_with("FILE 2 RAMS:PLAN PAGES 9 CONTIGUOUS\n"));
     assert_eq!(run(&image, "read IMAGE DOCK/RAMS:PLAN").out, noise(3, 9 * 2048));
-    assert!(fails(&image, &format!("write IMAGE DOCK/READS:DATA --contiguous {}", nine.display()), 64).contains("is not contiguous"));
+    // --contiguous creates: a file of that name must not be there, whatever its kind.
+    for name in ["READS:DATA", "RAMS:PLAN"] {
+        let line = format!("write IMAGE DOCK/{name} --contiguous {}", nine.display());
+        assert!(fails(&image, &line, 5).contains(&format!("the name is taken: DOCK/{name}")));
+    }
 }
 
 #[test]
