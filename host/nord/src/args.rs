@@ -211,7 +211,7 @@ pub enum Command {
         #[arg(help = FILE)]
         file: FileName,
         /// The page's position in the file, from 0
-                position: Number,
+        position: Number,
     },
     /// Say who holds a page of the image
     #[command(after_help = "Example:\n  nord who disk.img 5")]
@@ -219,7 +219,7 @@ pub enum Command {
         #[command(flatten)]
         at: Ask,
         /// The page's number
-                page: Number,
+        page: Number,
     },
     /// Show a page's words: octal as in the manual, decimal, and what each is
     #[command(
@@ -229,9 +229,9 @@ pub enum Command {
         #[command(flatten)]
         at: Ask,
         /// The page's number
-                page: Number,
+        page: Number,
         /// Only this word, 0 to 1,023, with its characters and bits
-                word: Option<Number>,
+        word: Option<Number>,
     },
     /// Draw the image: a cell for each page, or for several of a large pack, coloured by its holder
     #[command(after_help = "Example:\n  nord map disk.img\n  nord map disk.img --svg disk.svg")]
@@ -330,7 +330,7 @@ pub enum User {
         /// The user: DOCK, or by index @0
         user: UserName,
         /// How many pages
-                count: Number,
+        count: Number,
     },
     /// Take back pages that a user does not use
     #[command(after_help = "Example:\n  nord user take disk.img DOCK 10")]
@@ -340,7 +340,7 @@ pub enum User {
         /// The user: DOCK, or by index @0
         user: UserName,
         /// How many pages
-                count: Number,
+        count: Number,
     },
 }
 
@@ -453,4 +453,3 @@ impl Command {
         }
     }
 }
-

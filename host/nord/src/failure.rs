@@ -66,6 +66,7 @@ impl Failure {
     pub fn sized(self, words: usize) -> Failure {
         match self {
             Failure::Refused(refusal) if refusal.number == 1 => refusal.sized(2 * words as u64).into(),
+            Failure::Line(line, failure) => Failure::Line(line, Box::new(failure.sized(words))),
             _ => self,
         }
     }

@@ -45,7 +45,9 @@ fn written(image: &Path, files: Vec<New>) -> Result<Vec<Fresh>, Failure> {
 /// A new file beside the one that it is to replace, if there is one: a plain file that is not the image.
 fn beside(path: &Path, image: &Path) -> Result<Fresh, Failure> {
     replace::sweep(path);
-    let Ok(real) = fs::canonicalize(path) else { return Fresh::beside(path, None) };
+    let Ok(real) = fs::canonicalize(path) else {
+        return Fresh::beside(path, None);
+    };
     let old = fs::metadata(&real).map_err(of_file(path))?;
     let ours = fs::metadata(image).ok();
     if ours.is_some_and(|ours| (old.dev(), old.ino()) == (ours.dev(), ours.ino())) {

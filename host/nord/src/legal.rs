@@ -26,7 +26,9 @@ impl Given {
                 format!("{}{end}", &name[..name.len().min(NAME - end.len())])
             }
         };
-        let free = (1..).map(|number| (numbered(number), kind.clone())).find(|names| !self.0.contains(names));
+        let free = (1..)
+            .map(|number| (numbered(number), kind.clone()))
+            .find(|names| !self.0.contains(names));
         let names = free.unwrap_or((name.clone(), kind.clone()));
         self.0.insert(names.clone());
         names

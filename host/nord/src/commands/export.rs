@@ -119,7 +119,12 @@ fn answer(with: &Export, files: Vec<Exported>) -> Answer {
     let exported = files.iter().filter(|file| file.written).count();
     let pages = files.iter().filter(|file| file.written).map(|file| file.pages).sum();
     let (left, folder) = (files.len() - exported, with.folder.to_string_lossy().into_owned());
-    text += &format!("{} copied to {folder}, {}{}\n", some(exported), answers::pages(pages), and_left(left));
+    text += &format!(
+        "{} copied to {folder}, {}{}\n",
+        some(exported),
+        answers::pages(pages),
+        and_left(left)
+    );
     Answer::of(
         text,
         Exports {

@@ -12,10 +12,7 @@ use serde::Serialize;
 pub fn plan(command: File, plan: &mut Plan) -> Planned {
     match command {
         File::Create {
-            file,
-            contiguous,
-            created,
-            ..
+            file, contiguous, created, ..
         } => create(plan, &file, contiguous, created),
         File::Grow { file, count, .. } => grow(plan, &file, count),
         File::Shrink { file, count, .. } => shrink(plan, &file, count),
@@ -87,7 +84,15 @@ fn grow(plan: &mut Plan, file: &FileName, count: Number) -> Planned {
         let data = all[all.len() - count.value as usize..].to_vec();
         let numbers = data.iter().map(u32::to_string).collect::<Vec<_>>().join(" ");
         let (line, pages) = (format!("grown by {}: {numbers}", count.pages()), count.value);
-        Answer::new(line, Grown { user, file: index, pages, data })
+        Answer::new(
+            line,
+            Grown {
+                user,
+                file: index,
+                pages,
+                data,
+            },
+        )
     })))
 }
 

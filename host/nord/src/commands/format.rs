@@ -83,9 +83,12 @@ fn bits(pages: u32) -> u32 {
 /// Where the bit file would be, for a refusal.
 fn would_be(pages: u32, first: u32, typed: Option<&Number>) -> String {
     let (bits, begin) = (bits(pages), typed.map_or(first.to_string(), Number::to_string));
+    let last = u64::from(first) + u64::from(bits).saturating_sub(1);
     let place = match bits {
         1 => format!("the bit file would be page {begin}"),
-        _ => format!("the {bits} pages of the bit file would begin at page {begin}"),
+        // Of a number that 32 bits do not hold only its beginning is told.
+        _ if begin != first.to_string() => format!("the {bits} pages of the bit file would begin at {begin}"),
+        _ => format!("the {bits} pages of the bit file would be {first} to {last}"),
     };
     format!("{place}, and pages 1 to {} are there for it", pages.saturating_sub(1))
 }

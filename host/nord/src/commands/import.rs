@@ -41,7 +41,9 @@ pub fn plan(list: &mut Plan, with: &Import) -> Planned {
     let (mut given, mut files, mut pages) = (Given::default(), Vec::new(), 0);
     list.user(&with.user);
     for path in paths {
-        let Some(imported) = one(list, with, &path, &mut given)? else { return Ok(None) };
+        let Some(imported) = one(list, with, &path, &mut given)? else {
+            return Ok(None);
+        };
         pages += imported.written.as_ref().map_or(0, |written| written.pages);
         files.push(imported);
         bar.step();
@@ -76,12 +78,7 @@ fn one(list: &mut Plan, with: &Import, path: &Path, given: &mut Given) -> Result
         }
     };
     let path = path.to_string_lossy().into_owned();
-    Ok(Some(Imported {
-        path,
-        name,
-        kind,
-        written,
-    }))
+    Ok(Some(Imported { path, name, kind, written }))
 }
 
 fn answer(user: String, files: Vec<Imported>, pages: u32, warnings: Vec<String>) -> Answer {

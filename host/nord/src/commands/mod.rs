@@ -55,9 +55,7 @@ fn on(path: &Path, wait: u64, work: Work) -> Result<Answer, Failure> {
         Work::Change(change) => store::change(path, wait, |image| {
             session::one(image, path, change).map_err(|failure| failure.sized(image.len()))
         }),
-        Work::Mend(mend) => store::change_or_keep(path, wait, |image| {
-            mend(image).map_err(|failure| failure.sized(image.len()))
-        }),
+        Work::Mend(mend) => store::change_or_keep(path, wait, |image| mend(image).map_err(|failure| failure.sized(image.len()))),
     }
 }
 
@@ -134,14 +132,10 @@ fn asks(command: Command) -> Kind {
         Command::Find { at, name } => ask(at.image.clone(), move |image| ask::find(image, &at, &name)),
         Command::Address { at, file, position } => ask(at.image.clone(), move |image| ask::address(image, &at, &file, &position)),
         Command::Who { at, page } => ask(at.image, move |image| ask::who(image, &page)),
-        Command::Read { at, file, output } => ask(at.image.clone(), move |image| {
-            transfer::read(image, &at, &file, output.as_deref())
-        }),
+        Command::Read { at, file, output } => ask(at.image.clone(), move |image| transfer::read(image, &at, &file, output.as_deref())),
         Command::Export(with) => ask(with.at.image.clone(), move |image| export::export(image, &with)),
         Command::Page { at, page, word } => ask(at.image, move |image| page::page(image, &page, word.as_ref())),
-        Command::Map { at, svg, width, colour } => ask(at.image.clone(), move |image| {
-            map::map(image, &at, svg.as_deref(), width, colour)
-        }),
+        Command::Map { at, svg, width, colour } => ask(at.image.clone(), move |image| map::map(image, &at, svg.as_deref(), width, colour)),
         Command::Check(at) => ask(at.image.clone(), move |image| ask::check(image, &at)),
         _ => whole(|| Err(Failure::Usage("this command asks no image".to_string()))),
     }

@@ -75,7 +75,11 @@ impl Forecast {
             name: name.to_string(),
             type_name: kind.to_string(),
             pages: contiguous.unwrap_or(0),
-            kind: if contiguous.is_some() { FileKind::Contiguous } else { FileKind::Empty },
+            kind: if contiguous.is_some() {
+                FileKind::Contiguous
+            } else {
+                FileKind::Empty
+            },
             opens: 0,
             created: 0,
         };

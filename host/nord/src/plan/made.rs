@@ -1,6 +1,6 @@
 //! The library makes a list of calls.
 
-use super::{Plan, refused};
+use super::{refused, Plan};
 use crate::answers::Refusal;
 use crate::failure::Failure;
 use proved::Reply;
@@ -58,7 +58,9 @@ fn foreseen(plan: &Plan, calls: Range<usize>, replies: Vec<Reply>) -> Result<Vec
 
 /// The end of a list for that reason.
 pub fn unforeseen(what: &str) -> Stopped {
-    Stopped::Unforeseen(Failure::Host(format!("the library has answered otherwise than forecast, and nothing is changed: {what}")))
+    Stopped::Unforeseen(Failure::Host(format!(
+        "the library has answered otherwise than forecast, and nothing is changed: {what}"
+    )))
 }
 
 impl From<Stopped> for Failure {

@@ -143,7 +143,10 @@ fn what_is_changed_has_json() {
                 "file grow IMAGE DOCK/LOG 2",
                 json!({ "number": 0, "user": 0, "file": 2, "pages": 2, "data": [9, 11] }),
             ),
-            ("file shrink IMAGE DOCK/LOG", json!({ "number": 0, "user": 0, "file": 2, "pages": 1 })),
+            (
+                "file shrink IMAGE DOCK/LOG",
+                json!({ "number": 0, "user": 0, "file": 2, "pages": 1 }),
+            ),
             ("file open IMAGE DOCK/LOG", json!({ "number": 0, "user": 0, "file": 2 })),
             ("file delete IMAGE DOCK/LOG", json!({ "number": 0, "user": 0, "file": 2 })),
             (

@@ -69,10 +69,11 @@ fn a_bit_file_lies_in_the_volume_as_a_whole() {
     for first in [0, 16_384, 4_294_967_295_u32] {
         let said = run(&new, &format!("format IMAGE PACK --pages 16385 --bit-page {first}"));
         assert_eq!(said.status, 2);
+        let last = u64::from(first) + 1;
         has(
             &said.err,
             &[&format!(
-                ": the 2 pages of the bit file would begin at page {first}, and pages 1 to 16384 are there for it\n"
+                ": the 2 pages of the bit file would be {first} to {last}, and pages 1 to 16384 are there for it\n"
             )],
         );
     }
@@ -271,7 +272,7 @@ fn the_288_mb_pack() {
         &said.err,
         &[
             "refused (2)",
-            "(the 9 pages of the bit file would be 140725 to 140733, and pages 1 to 140732 are there for it)\n",
+            ": the 9 pages of the bit file would be 140725 to 140733, and pages 1 to 140732 are there for it\n",
         ],
     );
     assert_eq!(folder.names(), ["map.svg", "pack.img"]);
