@@ -29,7 +29,7 @@ pub fn step(call: u32, (user, file): Place, position: u32) -> Step {
 
 /// Makes so many calls, each for its number from 0 on, and gives their values; the first that is refused is the last that is made.
 pub fn make(image: &mut [u16], what: &'static str, count: u32, data: &[u16], step: impl Fn(u32) -> Step) -> Result<Vec<u32>, Refused> {
-    let bar = Progress::start(what, count.into());
+    let bar = Progress::start(what, "pages", count.into());
     let (mut values, mut replies) = (Vec::new(), vec![Reply::default(); AT_ONCE]);
     for first in (0..count).step_by(AT_ONCE) {
         let end = first.saturating_add(AT_ONCE as u32).min(count);

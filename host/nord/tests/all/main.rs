@@ -15,6 +15,7 @@ mod page;
 mod readme;
 mod refusals;
 mod salvage;
+mod screen;
 mod stored;
 mod terminal;
 mod traced;
