@@ -1,6 +1,7 @@
 //! The arguments of every command, and its help with an example.
 
 use crate::limits::{most_pages, pages_to_a_bit_page};
+use crate::map::NARROWEST;
 use crate::names::{FileName, UserName};
 use clap::{Args, Parser, Subcommand, ValueEnum};
 use std::path::PathBuf;
@@ -190,8 +191,8 @@ pub enum Command {
         /// Write the picture to an SVG file
         #[arg(long, value_name = "FILE")]
         svg: Option<PathBuf>,
-        /// Characters in a line of the text; by default the terminal's, or 80
-        #[arg(long, value_name = "N", value_parser = number)]
+        /// Characters in a line of the text, 20 or more; by default the terminal's, or 80
+        #[arg(long, value_name = "N", value_parser = width)]
         width: Option<u32>,
         /// Colours in the text
         #[arg(long, value_enum, default_value_t = Colour::Auto)]
@@ -362,5 +363,13 @@ pub fn number(text: &str) -> Result<u32, String> {
     match text.bytes().all(|byte| byte.is_ascii_digit()) && !text.is_empty() {
         true => Ok(text.parse().unwrap_or(u32::MAX)),
         false => Err("a number of decimal digits is wanted".to_string()),
+    }
+}
+
+/// The width of a map.
+fn width(text: &str) -> Result<u32, String> {
+    match number(text)? {
+        width if width as usize >= NARROWEST => Ok(width),
+        _ => Err(format!("a line of the map has {NARROWEST} characters or more")),
     }
 }

@@ -176,9 +176,14 @@ fn what_is_read_written_and_made_has_json() {
 #[test]
 fn the_map_as_text_picture_and_json() {
     let (folder, image) = sample();
-    let text = done(&image, "map IMAGE --width 40");
-    assert!(text.starts_with("YARD: ") && !text.contains('\u{1b}'), "{text}");
-    assert!(text.lines().all(|line| line.chars().count() <= 80), "{text}");
+    for width in [20, 30, 40, 80] {
+        let text = done(&image, &format!("map IMAGE --width {width}"));
+        assert!(text.starts_with("YARD: ") && !text.contains('\u{1b}'), "{text}");
+        assert!(text.lines().all(|line| line.chars().count() <= width), "{width}: {text}");
+    }
+    let narrow = run(&image, "map IMAGE --width 19");
+    assert_eq!(narrow.status, 64);
+    assert!(narrow.err.contains("a line of the map has 20 characters or more"), "{}", narrow.err);
     assert!(done(&image, "map IMAGE --colour always").contains('\u{1b}'));
     let picture = folder.path("map.svg");
     done(&image, &format!("map IMAGE --svg {}", picture.display()));

@@ -1,6 +1,6 @@
 //! Long work shows a bar on a terminal and nothing in a pipe, and leaves only the answer.
 
-use crate::common::{disk, done, noise, words, NORD};
+use crate::common::{disk, done, noise, sample, words, NORD};
 use crate::screen::Screen;
 use std::path::Path;
 use std::process::Command;
@@ -38,5 +38,15 @@ fn the_bar_is_no_wider_than_the_terminal_and_leaves_nothing() {
         assert_eq!(screen.wraps, screen.rows().len() - 1, "{columns}: {:?}", screen.seen);
         done(&image, "file shrink IMAGE DOCK/READS:DATA 1800");
         answer = "DOCK/READS:DATA replaced: 1800 pages";
+    }
+}
+
+#[test]
+fn the_map_is_no_wider_than_the_terminal() {
+    let (_folder, image) = sample();
+    for columns in [20, 33, 40, 79] {
+        let screen = Screen::after(&format!("{NORD} map {}", image.display()), columns);
+        assert!(screen.rows().iter().any(|row| row.contains("bit file")), "{}", screen.seen);
+        assert_eq!(screen.wraps, 0, "{columns}: {}", screen.seen);
     }
 }
