@@ -71,7 +71,7 @@ pub enum Command {
     List(Ask),
     /// Format an image, or make a new one of so many pages
     #[command(
-        after_help = "Example:\n  nord format disk.img YARD --pages 154\n  nord format pack.img PACK --pages 37035\n\nWithout --pages the image file is there, keeps its size, and loses its users and files."
+        after_help = "Example:\n  nord format disk.img YARD --pages 154\n  nord format pack.img PACK --pages 37035\n\nWithout --pages the image file is there, keeps its size, and loses its users and files. Where it is a sound volume that has files,\n--force has to be given; without it the command says how many there are and changes nothing (64)."
     )]
     Format {
         #[command(flatten)]
@@ -82,6 +82,9 @@ pub enum Command {
         pages: Option<u32>,
         #[arg(long, value_name = "PAGE", value_parser = number, help = BIT_PAGE)]
         bit_page: Option<u32>,
+        /// Format also over a sound volume that has files, which are lost
+        #[arg(long, conflicts_with = "pages")]
+        force: bool,
     },
     /// Convert what stands behind short names and types: zeros alone to an apostrophe and zeros, or back
     #[command(

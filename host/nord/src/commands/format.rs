@@ -3,13 +3,24 @@
 use crate::answers::{self, done, Answer, Call, Refusal};
 use crate::args::{Ask, Change};
 use crate::failure::Failure;
-use crate::store;
+use crate::{store, volume};
 use serde_json::json;
 
-/// With a page count a new image file, else the one that is there.
-pub fn format(at: &Change, name: &str, pages: Option<u32>, bit_page: Option<u32>) -> Result<Answer, Failure> {
+/// With a page count a new image file, else the one that is there; files on it are lost only by `force`.
+pub fn format(at: &Change, name: &str, pages: Option<u32>, bit_page: Option<u32>, force: bool) -> Result<Answer, Failure> {
     let answer = match pages {
-        None => store::change(&at.image, at.wait, |image| Ok(formatted(image, name, bit_page)?))?,
+        None => store::change(&at.image, at.wait, |image| {
+            let lost = if force { None } else { files(image) };
+            // A format that the library refuses loses nothing: that is said first.
+            let answer = formatted(image, name, bit_page)?;
+            match lost {
+                None => Ok(answer),
+                Some(files) => Err(Failure::Usage(format!(
+                    "{}: {files}, which a format loses: nothing is changed without --force (`nord read` copies a file out)",
+                    at.image.display()
+                ))),
+            }
+        })?,
         Some(pages) => {
             let mut image = blank(pages);
             let answer = formatted(&mut image, name, bit_page).map_err(|refusal| asked_for(refusal, pages))?;
@@ -18,6 +29,25 @@ pub fn format(at: &Change, name: &str, pages: Option<u32>, bit_page: Option<u32>
         }
     };
     Ok(answer)
+}
+
+/// What stands on a sound volume with files: "volume YARD has 1 user and 2 files". An unsound image has none that a command reads.
+fn files(image: &[u16]) -> Option<String> {
+    if proved::check(image).number != 0 {
+        return None;
+    }
+    let volume = volume::read(image);
+    let [users, files] = [volume.users.len(), volume.users.iter().map(|user| user.files.len()).sum()];
+    let counted = |count: usize, what: &str| format!("{count} {what}{}", if count == 1 { "" } else { "s" });
+    let words = || {
+        format!(
+            "volume {} has {} and {}",
+            volume.name,
+            counted(users, "user"),
+            counted(files, "file")
+        )
+    };
+    (files > 0).then(words)
 }
 
 /// An image of zeros. Where there are too many pages, one too many is enough for the library to refuse.

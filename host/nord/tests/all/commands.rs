@@ -86,7 +86,7 @@ fn changes_are_in_the_listing() {
 fn format_as_it_stands_keeps_the_size() {
     let (_folder, image) = sample();
     assert_eq!(
-        done(&image, "format IMAGE BERTH --bit-page 3"),
+        done(&image, "format IMAGE BERTH --bit-page 3 --force"),
         "volume BERTH of 154 pages, bit file on page 3\n"
     );
     assert_eq!(done(&image, "list IMAGE"), "VOLUME BERTH PAGES 154 RESERVED 2 UNRESERVED 152\n");
@@ -144,7 +144,7 @@ fn what_is_changed_has_json() {
             ("file open IMAGE DOCK/LOG", json!({ "number": 0, "user": 0, "file": 2 })),
             ("file delete IMAGE DOCK/LOG", json!({ "number": 0, "user": 0, "file": 2 })),
             (
-                "format IMAGE YARD",
+                "format IMAGE YARD --force",
                 json!({ "number": 0, "volume": "YARD", "pages": 154, "bit_page": 77, "bit_pages": 1 }),
             ),
         ],

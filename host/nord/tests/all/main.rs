@@ -5,6 +5,7 @@ mod commands;
 mod common;
 mod convert;
 mod full;
+mod format;
 mod help;
 mod host;
 mod killed;
