@@ -3,7 +3,7 @@
 use crate::limits::{most_pages, pages_to_a_bit_page};
 use crate::map::NARROWEST;
 use crate::names::{FileName, UserName};
-use clap::{Args, Parser, Subcommand, ValueEnum};
+use clap::{Args, Parser, Subcommand, ValueEnum, ValueHint};
 use std::path::PathBuf;
 
 /// Check, list and change NORD File System disk images, by a proved library.
@@ -57,7 +57,7 @@ pub struct Salvage {
     #[arg(long)]
     pub dry_run: bool,
     /// First copy each page that is reserved and that nobody holds to a file page-NUMBER.bin in this folder; none is written over
-    #[arg(long, value_name = "FOLDER")]
+    #[arg(long, value_name = "FOLDER", value_hint = ValueHint::DirPath)]
     pub orphans: Option<PathBuf>,
 }
 

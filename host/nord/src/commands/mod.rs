@@ -12,10 +12,9 @@ mod transfer;
 mod users;
 
 use crate::answers::Answer;
-use crate::args::{Cli, Command};
+use crate::args::Command;
 use crate::failure::Failure;
-use crate::manual;
-use clap::CommandFactory;
+use crate::{completions, manual};
 
 pub fn run(command: Command) -> Result<Answer, Failure> {
     match command {
@@ -47,17 +46,11 @@ pub fn run(command: Command) -> Result<Answer, Failure> {
         Command::Page { at, page, word } => page::page(&at, page, word),
         Command::Map { at, svg, width, colour } => map::map(&at, svg.as_deref(), width, colour),
         Command::Manual => Ok(plain(manual::page())),
-        Command::Completions { shell } => Ok(plain(completions(shell))),
+        Command::Completions { shell } => Ok(plain(completions::script(shell))),
     }
 }
 
 /// Text that is no answer about an image.
 fn plain(text: String) -> Answer {
     Answer { text, ..Answer::default() }
-}
-
-fn completions(shell: clap_complete::Shell) -> String {
-    let mut script = Vec::new();
-    clap_complete::generate(shell, &mut Cli::command(), "nord", &mut script);
-    String::from_utf8_lossy(&script).into_owned()
 }

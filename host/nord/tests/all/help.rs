@@ -1,6 +1,6 @@
 //! Help, the manual page and the completions have every command.
 
-use crate::common::{run, untried, Run, NORD};
+use crate::common::{run, untried, Run};
 use clap::CommandFactory;
 use std::path::Path;
 use std::process::Command;
@@ -82,13 +82,4 @@ fn completions_know_the_commands() {
         }
     }
     assert_eq!(nord("completions tcsh").status, 64);
-}
-
-#[test]
-fn bash_completes_a_command() {
-    let script = format!(
-        "source <({NORD} completions bash); COMP_WORDS=(nord user gi); COMP_CWORD=2; _nord nord gi user; echo \"${{COMPREPLY[*]}}\""
-    );
-    let run = Run::of(Command::new("bash").args(["-c", &script]).output().unwrap());
-    assert_eq!((run.text(), run.err.as_str()), ("give\n", ""));
 }

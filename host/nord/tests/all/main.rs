@@ -3,9 +3,10 @@
 mod broken;
 mod commands;
 mod common;
+mod completions;
 mod convert;
-mod full;
 mod format;
+mod full;
 mod help;
 mod host;
 mod killed;
