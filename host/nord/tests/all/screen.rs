@@ -51,8 +51,8 @@ impl Screen {
     fn code(&mut self, code: &str) {
         match (code, code.ends_with('m')) {
             ("[2K", _) => self.rows[self.row].fill(' '),
-            ("[1A", _) => self.to_row(self.row.saturating_sub(1)),
-            ("[1B", _) => self.to_row(self.row + 1),
+            ("[1A", _) => self.go_to(self.row.saturating_sub(1)),
+            ("[1B", _) => self.go_to(self.row + 1),
             // Colours.
             (_, true) => {}
             (other, _) => panic!("a code that is not known here: {other:?}"),
@@ -63,7 +63,7 @@ impl Screen {
         for letter in text.chars() {
             match letter {
                 '\r' => self.column = 0,
-                '\n' => self.to_row(self.row + 1),
+                '\n' => self.go_to(self.row + 1),
                 letter => self.letter(letter),
             }
         }
@@ -74,13 +74,13 @@ impl Screen {
         if self.column == self.columns {
             self.wraps += 1;
             self.column = 0;
-            self.to_row(self.row + 1);
+            self.go_to(self.row + 1);
         }
         self.rows[self.row][self.column] = letter;
         self.column += 1;
     }
 
-    fn to_row(&mut self, row: usize) {
+    fn go_to(&mut self, row: usize) {
         self.row = row;
         self.rows.resize(self.rows.len().max(row + 1), vec![' '; self.columns]);
     }
