@@ -1,9 +1,10 @@
 //! The arguments of every command, and its help with an example.
 
 use crate::limits::{most_pages, pages_to_a_bit_page};
+use crate::map::NARROWEST;
 use crate::names::{FileName, UserName};
 use crate::typed::Number;
-use clap::{Args, Parser, Subcommand, ValueEnum};
+use clap::{Args, Parser, Subcommand, ValueEnum, ValueHint};
 use std::path::PathBuf;
 
 /// Check, list and change NORD File System disk images, by a proved library.
@@ -57,7 +58,7 @@ pub struct Salvage {
     #[arg(long)]
     pub dry_run: bool,
     /// First copy each page that is reserved and that nobody holds to a file page-NUMBER.bin in this folder; none is written over
-    #[arg(long, value_name = "FOLDER")]
+    #[arg(long, value_name = "FOLDER", value_hint = ValueHint::DirPath)]
     pub orphans: Option<PathBuf>,
 }
 
@@ -116,7 +117,7 @@ pub enum Command {
     List(Ask),
     /// Format an image, or make a new one of so many pages
     #[command(
-        after_help = "Example:\n  nord format disk.img YARD --pages 154\n  nord format pack.img PACK --pages 37035\n\nWithout --pages the image file is there, keeps its size, and loses its users and files."
+        after_help = "Example:\n  nord format disk.img YARD --pages 154\n  nord format pack.img PACK --pages 37035\n\nWithout --pages the image file is there, keeps its size, and loses its users and files. Where it is a sound volume that has files,\n--force has to be given; without it the command says how many there are and changes nothing (64)."
     )]
     Format {
         #[command(flatten)]
@@ -127,6 +128,9 @@ pub enum Command {
         pages: Option<Number>,
         #[arg(long, value_name = "PAGE", help = BIT_PAGE)]
         bit_page: Option<Number>,
+        /// Format also over a sound volume that has files, which are lost
+        #[arg(long, conflicts_with = "pages")]
+        force: bool,
     },
     /// Convert what stands behind short names and types: zeros alone to an apostrophe and zeros, or back
     #[command(
@@ -241,9 +245,9 @@ pub enum Command {
         /// Write the picture to an SVG file
         #[arg(long, value_name = "FILE")]
         svg: Option<PathBuf>,
-        /// Characters in a line of the text; by default the terminal's, or 80
-        #[arg(long, value_name = "N")]
-        width: Option<Number>,
+        /// Characters in a line of the text, 20 or more; by default the terminal's, or 80
+        #[arg(long, value_name = "N", value_parser = width)]
+        width: Option<u32>,
         /// Colours in the text
         #[arg(long, value_enum, default_value_t = Colour::Auto)]
         colour: Colour,
@@ -451,5 +455,13 @@ impl Command {
             Command::Run(with) => with.at.json,
             Command::Manual | Command::Completions { .. } => false,
         }
+    }
+}
+
+/// The width of a map.
+fn width(text: &str) -> Result<u32, String> {
+    match text.parse::<Number>()?.value {
+        width if width as usize >= NARROWEST => Ok(width),
+        _ => Err(format!("a line of the map has {NARROWEST} characters or more")),
     }
 }

@@ -5,6 +5,7 @@ pub mod answers;
 pub mod args;
 pub mod broken;
 pub mod commands;
+pub mod completions;
 pub mod convert;
 pub mod failure;
 pub mod folder;

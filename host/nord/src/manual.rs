@@ -51,7 +51,12 @@ fn section(page: &mut String, command: &Command, before: &str) {
     );
     for argument in arguments {
         let help = argument.get_help().map(|help| help.to_string()).unwrap_or_default();
-        let _ = write!(page, ".TP\n.B {}\n{}.\n", escape(&form(argument)), escape(&help));
+        let text = [format!("{help}.")]
+            .into_iter()
+            .chain(values(argument))
+            .collect::<Vec<_>>()
+            .join("\n");
+        let _ = write!(page, ".TP\n.B {}\n{}\n", escape(&form(argument)), escape(&text));
     }
     for part in command
         .get_after_help()
@@ -65,6 +70,23 @@ fn section(page: &mut String, command: &Command, before: &str) {
             None => {}
         }
     }
+}
+
+/// What an argument is where it is not given, and the words that it can be. A switch is there or not: it has no values.
+fn values(argument: &Arg) -> Vec<String> {
+    if !argument.get_action().takes_values() {
+        return Vec::new();
+    }
+    let default: Vec<_> = argument.get_default_values().iter().map(|value| value.to_string_lossy()).collect();
+    let possible = argument.get_possible_values();
+    let words: Vec<&str> = possible
+        .iter()
+        .filter(|value| !value.is_hide_set())
+        .map(|value| value.get_name())
+        .collect();
+    let sentences = [("Default", default.join(" ")), ("One of", words.join(", "))].into_iter();
+    let said = sentences.filter(|(_, values)| !values.is_empty());
+    said.map(|(what, values)| format!("{what}: {values}.")).collect()
 }
 
 /// An argument as it stands in a call: IMAGE, [OUTPUT], [--pages COUNT].

@@ -153,9 +153,10 @@ fn a_picture_is_well_formed_whatever_the_names() {
     }
 }
 
-/// The page rows of a text map: number, two blanks, a character a page.
+/// The page rows of a text map, from below the columns' numbers on: number, two blanks, a character a page.
 fn page_rows(lines: &[String]) -> Vec<(usize, String)> {
-    let rows = lines.iter().skip(2).take_while(|line| !line.is_empty());
+    let below = lines.iter().skip_while(|line| !line.trim_start().starts_with("+0")).skip(1);
+    let rows = below.take_while(|line| !line.is_empty());
     rows.map(|line| {
         line.trim_start()
             .split_once("  ")
@@ -169,12 +170,10 @@ fn page_rows(lines: &[String]) -> Vec<(usize, String)> {
 fn rows_of_text_have_a_character_for_each_page() {
     for image in volumes() {
         let pages = image.len() / proved::PAGE;
-        for width in [0, 12, 40, 80, 132, 400] {
-            let lines = lines(image, width, false);
-            let rows = page_rows(&lines);
+        for width in [0, 12, 20, 40, 80, 132, 400] {
+            let rows = page_rows(&lines(image, width, false));
             let (last, whole) = rows.split_last().unwrap();
             let columns = rows[0].1.len();
-            assert!(columns == 8 || lines[2].len() <= width);
             assert!(whole.iter().all(|(_, cells)| cells.len() == columns) && last.1.len() <= columns);
             assert!(rows.iter().enumerate().all(|(row, (at, _))| *at == row * columns));
             assert_eq!(last.0 + last.1.len(), pages);
@@ -191,16 +190,54 @@ fn characters_are_the_holders() {
     assert_eq!(cells.matches('.').count(), 92);
 }
 
+/// Volumes whose names have 16 letters and whose numbers are long, made once.
+fn wide_volumes() -> &'static [Vec<u16>] {
+    static VOLUMES: OnceLock<Vec<Vec<u16>>> = OnceLock::new();
+    VOLUMES.get_or_init(|| vec![long_names(), long_numbers()])
+}
+
+/// In characters, and with colours too, whose codes take no place.
+#[test]
+fn no_line_of_text_is_wider_than_asked_for() {
+    let packs = packs().iter().map(|(image, _)| image);
+    for image in volumes().iter().chain(packs).chain(wide_volumes()) {
+        let (volume, held) = (read(image), holders(image));
+        for width in 20..=200 {
+            let lines = text(&volume, &held, width, width % 20 == 0);
+            for line in lines.lines().map(without_codes) {
+                assert!(line.chars().count() <= width, "{} at {width}: {line}", volume.name);
+            }
+        }
+    }
+}
+
+/// The legend's lines as pairs of a name and its pages, where a row has a line or two.
+fn legend_rows(lines: &[String]) -> Vec<(String, usize)> {
+    let below = lines.iter().skip_while(|line| !line.is_empty()).skip(1);
+    let mut rows: Vec<String> = Vec::new();
+    for line in below.take_while(|line| line.starts_with(' ')) {
+        match (&line[1..2], rows.last_mut()) {
+            (" ", Some(row)) => row.push_str(line),
+            _ => rows.push(line[4..].to_string()),
+        }
+    }
+    let row = |row: &String| {
+        let (name, pages) = row.split(" of ").next().unwrap().trim_end().rsplit_once(' ').unwrap();
+        (name.trim_end().to_string(), number(pages))
+    };
+    rows.iter().map(row).collect()
+}
+
 #[test]
 fn the_texts_legend_adds_up() {
-    for image in volumes() {
-        let lines = lines(image, 20, false);
-        let legend = lines
-            .iter()
-            .skip_while(|line| !line.is_empty())
-            .filter(|line| line.starts_with(' '));
-        let pages = legend.map(|line| number(line[4..].split(" of ").next().unwrap().split_whitespace().last().unwrap()));
-        assert_eq!(pages.sum::<usize>() * proved::PAGE, image.len());
+    for image in volumes().iter().chain(wide_volumes()) {
+        for width in [20, 28, 36, 44] {
+            let rows = legend_rows(&lines(image, width, false));
+            assert_eq!(rows.iter().map(|(_, pages)| pages).sum::<usize>() * proved::PAGE, image.len());
+            let users = read(image).users;
+            let names = rows.iter().skip(5).map(|(name, _)| name);
+            assert!(names.clone().all(|name| users.iter().any(|user| user.name == *name)), "{rows:?}");
+        }
     }
 }
 

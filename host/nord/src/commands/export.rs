@@ -47,7 +47,7 @@ pub fn export(image: &mut [u16], with: &Export) -> Result<Answer, Failure> {
     if calls.is_empty() && with.files.contains('/') {
         return Err(plain(4, format!("there is no such file: no file is named like {}", with.files)).into());
     }
-    let bar = Progress::start("writing", calls.len() as u64);
+    let bar = Progress::start("writing", "files", calls.len() as u64);
     let (mut new, mut files) = (Vec::new(), Vec::new());
     for (mut file, calls) in calls {
         let path = with.folder.join(host_name(&file.name, &file.kind));

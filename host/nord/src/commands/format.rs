@@ -7,9 +7,11 @@ use crate::failure::Failure;
 use crate::names::is_legal;
 use crate::plan::{Plan, Planned};
 use crate::typed::Number;
-use crate::{session, store};
+use crate::store::{self, Then};
+use crate::{session, volume};
 use proved::{call, Step};
 use serde::Serialize;
+use std::path::Path;
 
 /// A volume that was formatted.
 #[derive(Serialize)]
@@ -26,6 +28,45 @@ pub fn new(at: &Change, name: &str, pages: &Number, bit_page: Option<&Number>) -
     let answer = session::one(&mut image, &at.image, |list| plan(list, name, bit_page)).map_err(|failure| asked_for(failure, pages))?;
     store::create(&at.image, &image)?;
     Ok(answer)
+}
+
+/// What stands on a sound volume with files: "volume YARD has 1 user and 2 files". An unsound image has none that a command reads.
+fn lost(image: &[u16]) -> Option<String> {
+    if proved::check(image).number != 0 {
+        return None;
+    }
+    let volume = volume::read(image);
+    let [users, files] = [volume.users.len(), volume.users.iter().map(|user| user.files.len()).sum()];
+    let counted = |count: usize, what: &str| format!("{count} {what}{}", if count == 1 { "" } else { "s" });
+    let words = || {
+        format!(
+            "volume {} has {} and {}",
+            volume.name,
+            counted(users, "user"),
+            counted(files, "file")
+        )
+    };
+    (files > 0).then(words)
+}
+
+/// Formats an image that is there. Files on it are lost only by `force`.
+pub fn over(
+    image: &mut [u16],
+    path: &Path,
+    name: &str,
+    bit_page: Option<&Number>,
+    force: bool,
+) -> Result<(Answer, Then), Failure> {
+    let Some(lost) = lost(image).filter(|_| !force) else {
+        let answer = session::one(image, path, |list| plan(list, name, bit_page))?;
+        return Ok((answer, Then::Replace));
+    };
+    // A format that the library refuses loses nothing: that is said first.
+    session::one(&mut image.to_vec(), path, |list| plan(list, name, bit_page))?;
+    Err(Failure::Usage(format!(
+        "{}: {lost}, which a format loses: nothing is changed without --force (`nord export` copies files out)",
+        path.display()
+    )))
 }
 
 /// An image of zeros. Where there are too many pages, one too many is enough for the library to refuse.

@@ -37,7 +37,7 @@ struct Imports {
 /// The calls that copy all files in.
 pub fn plan(list: &mut Plan, with: &Import) -> Planned {
     let (paths, warnings) = found(&with.paths)?;
-    let bar = Progress::start("reading", paths.len() as u64);
+    let bar = Progress::start("reading", "files", paths.len() as u64);
     let (mut given, mut files, mut pages) = (Given::default(), Vec::new(), 0);
     list.user(&with.user);
     for path in paths {

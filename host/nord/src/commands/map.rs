@@ -3,7 +3,6 @@
 use crate::answers::{done, Answer, Call};
 use crate::args::{Ask, Colour};
 use crate::failure::Failure;
-use crate::typed::Number;
 use crate::volume::{self, Holder, Volume};
 use crate::{map, output, volume_json};
 use console::Term;
@@ -13,7 +12,7 @@ use std::path::Path;
 /// Characters in a line where there is no terminal.
 const WIDTH: usize = 80;
 
-pub fn map(image: &[u16], at: &Ask, svg: Option<&Path>, width: Option<Number>, colour: Colour) -> Result<Answer, Failure> {
+pub fn map(image: &[u16], at: &Ask, svg: Option<&Path>, width: Option<u32>, colour: Colour) -> Result<Answer, Failure> {
     done(proved::check(image), Call::Check, "")?;
     let (volume, holders) = (volume::read(image), volume::holders(image));
     let mut json = if at.json { json(&volume, &holders) } else { Value::Null };
@@ -33,9 +32,9 @@ pub fn map(image: &[u16], at: &Ask, svg: Option<&Path>, width: Option<Number>, c
 }
 
 /// The width that is wanted, else the terminal's.
-fn columns(width: Option<Number>) -> usize {
+fn columns(width: Option<u32>) -> usize {
     match width {
-        Some(width) => width.value as usize,
+        Some(width) => width as usize,
         None => Term::stdout().size_checked().map_or(WIDTH, |(_, columns)| columns.into()),
     }
 }

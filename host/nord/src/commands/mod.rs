@@ -14,12 +14,11 @@ mod transfer;
 mod users;
 
 use crate::answers::Answer;
-use crate::args::{Cli, Command};
+use crate::args::Command;
 use crate::failure::Failure;
 use crate::plan::{Plan, Planned};
 use crate::store::{self, Then};
-use crate::{manual, session};
-use clap::CommandFactory;
+use crate::{completions, manual, session};
 use std::path::{Path, PathBuf};
 
 /// What a command does with an image.
@@ -28,7 +27,7 @@ pub enum Work {
     Ask(Box<dyn FnOnce(&mut [u16]) -> Result<Answer, Failure>>),
     /// It changes the image by a list of calls.
     Change(Box<dyn FnOnce(&mut Plan) -> Planned>),
-    /// It makes a call by itself, and says whether there is anything to replace the image for.
+    /// It sees the image itself, and says whether there is anything to replace it for. Where it fails the image is as it was.
     Mend(Box<dyn FnOnce(&mut [u16]) -> Result<(Answer, Then), Failure>>),
 }
 
@@ -67,14 +66,17 @@ pub fn kind(command: Command) -> Result<Kind, Failure> {
             name,
             pages: Some(pages),
             bit_page,
+            ..
         } => Ok(whole(move || format::new(&at, &name, &pages, bit_page.as_ref()))),
         Command::Sample(at) => Ok(whole(move || format::sample(&at))),
         Command::Run(with) => Ok(whole(move || run::run(&with))),
         Command::Manual => Ok(whole(|| Ok(Answer::plain(manual::page())))),
-        Command::Completions { shell } => Ok(whole(move || Ok(Answer::plain(completions(shell))))),
+        Command::Completions { shell } => Ok(whole(move || Ok(Answer::plain(completions::script(shell))))),
         Command::User(command) => Ok(change(command.at().clone(), |plan| users::plan(command, plan))),
         Command::File(command) => Ok(change(command.at().clone(), |plan| files::plan(command, plan))),
-        Command::Format { at, name, bit_page, .. } => Ok(change(at, move |plan| format::plan(plan, &name, bit_page.as_ref()))),
+        Command::Format {
+            at, name, bit_page, force, ..
+        } => Ok(mend(at.clone(), move |image| format::over(image, &at.image, &name, bit_page.as_ref(), force))),
         Command::Convert { at, to } => Ok(change(at, move |plan| convert::plan(plan, to))),
         Command::Import(with) => Ok(change(with.at.clone(), move |plan| import::plan(plan, &with))),
         Command::Write {
@@ -104,6 +106,14 @@ fn change(at: crate::args::Change, work: impl FnOnce(&mut Plan) -> Planned + 'st
     }
 }
 
+fn mend(at: crate::args::Change, work: impl FnOnce(&mut [u16]) -> Result<(Answer, Then), Failure> + 'static) -> Kind {
+    Kind::On {
+        image: at.image,
+        wait: at.wait,
+        work: Work::Mend(Box::new(work)),
+    }
+}
+
 fn ask(image: PathBuf, work: impl FnOnce(&mut [u16]) -> Result<Answer, Failure> + 'static) -> Kind {
     Kind::On {
         image,
@@ -114,14 +124,9 @@ fn ask(image: PathBuf, work: impl FnOnce(&mut [u16]) -> Result<Answer, Failure> 
 
 /// A dry run only asks the image: it needs no lock, and no leave to write.
 fn salvaging(with: crate::args::Salvage) -> Kind {
-    let (image, wait) = (with.at.image.clone(), with.at.wait);
     match with.dry_run {
-        true => ask(image, move |image| salvage::salvage(image, &with).map(|(answer, _)| answer)),
-        false => Kind::On {
-            image,
-            wait,
-            work: Work::Mend(Box::new(move |image| salvage::salvage(image, &with))),
-        },
+        true => ask(with.at.image.clone(), move |image| salvage::salvage(image, &with).map(|(answer, _)| answer)),
+        false => mend(with.at.clone(), move |image| salvage::salvage(image, &with)),
     }
 }
 
@@ -139,10 +144,4 @@ fn asks(command: Command) -> Kind {
         Command::Check(at) => ask(at.image.clone(), move |image| ask::check(image, &at)),
         _ => whole(|| Err(Failure::Usage("this command asks no image".to_string()))),
     }
-}
-
-fn completions(shell: clap_complete::Shell) -> String {
-    let mut script = Vec::new();
-    clap_complete::generate(shell, &mut Cli::command(), "nord", &mut script);
-    String::from_utf8_lossy(&script).into_owned()
 }

@@ -6,6 +6,9 @@ const CELLS: usize = 16_384;
 /// The most rows in a terminal where a character is several pages: about a screen.
 const ROWS: usize = 40;
 
+/// The least characters in a line in a terminal: what a name, or a pack's numbers, take.
+pub const NARROWEST: usize = 20;
+
 /// Pages to a cell of a picture.
 pub fn pages_to_a_cell(pages: usize) -> usize {
     fewest(pages, CELLS)

@@ -1,43 +1,50 @@
 //! The map for a terminal: a character for each page, or for several of a large pack.
 
 use super::cell;
-use super::layout::{columns, pages_to_a_character};
+use super::fold::folded;
+use super::layout::{columns, pages_to_a_character, NARROWEST};
 use super::legend::{colour, grouped, numbers, Group, Legend, Part, Row};
 use super::letters::Letters;
 use crate::palette::Colour;
 use crate::volume::{Holder, Volume};
 
-/// The map in lines of at most `width` characters (eight to a row where that is too narrow), with a terminal's colours behind the characters
-/// if `colour`.
+/// The map in lines of at most `width` characters (or 20, where that is less), with a terminal's colours behind the characters if `colour`.
 pub fn text(volume: &Volume, holders: &[Holder], width: usize, colour: bool) -> String {
+    let width = width.max(NARROWEST);
     let legend = Legend::of(volume, holders);
     let letters = Letters::of(&legend.rows);
     let edge = holders.len().saturating_sub(1).to_string().len() + 2;
     let columns = columns(holders.len(), width.saturating_sub(edge));
     let each = pages_to_a_character(holders.len(), columns);
-    let mut lines = vec![format!("{}: {}", volume.name, numbers(volume, holders)), ruler(edge, columns, each)];
+    let head = format!("{}: {}", volume.name, numbers(volume, holders));
+    let mut lines = folded(head.split_inclusive(", ").map(str::trim_end), width);
+    lines.push(ruler(edge, columns, each));
     for (row, signs) in signs(&letters, holders, each).chunks(columns).enumerate() {
         let number = row * columns * each;
         lines.push(format!("{number:>0$}  {1}", edge - 2, characters(signs, colour)));
     }
     lines.push(String::new());
     lines.extend(key(&letters, &legend.rows, width, colour));
-    lines.extend(legend.others_in_words());
-    lines.extend(meant(each));
-    if letters.come_again() {
-        lines.push("some letters stand for several users: their colours differ".to_string());
-    }
+    let notes = [
+        legend.others_in_words(),
+        Some(meant(each)),
+        letters.come_again().then(|| AGAIN.to_string()),
+    ];
+    lines.extend(notes.iter().flatten().flat_map(|note| folded(note.split(' '), width)));
     lines.iter().map(|line| format!("{}\n", line.trim_end())).collect()
 }
 
+/// What is said where the letters do not suffice.
+const AGAIN: &str = "some letters stand for several users: their colours differ";
+
 /// What the characters mean.
-fn meant(each: usize) -> Vec<String> {
+fn meant(each: usize) -> String {
     match each {
-        1 => vec!["capitals: master, bit file, index and subindex blocks".to_string()],
-        _ => vec![
-            format!("a character is {each} pages: . where all are free, else whoever holds most of them,"),
-            "a capital where none of them is free; M and B: master block and bit file".to_string(),
-        ],
+        1 => "capitals: master, bit file, index and subindex blocks".to_string(),
+        _ => format!(
+            "a character is {each} pages: . where all are free, else whoever holds most of them, \
+             a capital where none of them is free; M and B: master block and bit file"
+        ),
     }
 }
 
@@ -106,29 +113,62 @@ fn paint(behind: Option<Colour>) -> String {
     }
 }
 
-/// The legend in as many columns as the width has place for.
+/// The legend: names and numbers in wide columns, else in narrow ones, else each in a line of its own.
 fn key(letters: &Letters, rows: &[Row], width: usize, coloured: bool) -> Vec<String> {
-    let count = |row: &Row| grouped(row.pages as usize).len();
-    let wide = rows.iter().map(count).max().unwrap_or(0).max(6);
-    let items: Vec<String> = rows.iter().map(|row| item(row, wide)).collect();
-    let longest = items.iter().map(String::len).max().unwrap_or(0);
+    let signs: Vec<String> = rows.iter().map(|row| sign(letters, row.group, coloured)).collect();
+    let name = rows.iter().map(|row| row.name.chars().count()).max().unwrap_or(0);
+    let pages = rows.iter().map(|row| held(row).len()).max().unwrap_or(0);
+    let forms = [(16, pages.max(6)), (name, pages)].map(|(name, pages)| {
+        let items = rows
+            .iter()
+            .map(|row| format!("{:<name$} {:>pages$}{}", row.name, held(row), given(row)));
+        items.collect::<Vec<String>>()
+    });
+    let form = forms.iter().find(|items| longest(items) + 4 <= width);
+    match form {
+        Some(items) => in_columns(&signs, items, width),
+        None => one_below_the_other(&signs, rows, width),
+    }
+}
+
+/// Items with their signs before them in as many columns as the width has place for.
+fn in_columns(signs: &[String], items: &[String], width: usize) -> Vec<String> {
+    let longest = longest(items);
     let across = (width / (longest + 7)).max(1);
     let down = items.len().div_ceil(across);
     let line = |first: usize| {
         let of_line = (first..items.len()).step_by(down);
-        of_line
-            .map(|at| format!(" {}  {:<longest$}   ", sign(letters, rows[at].group, coloured), items[at]))
-            .collect()
+        of_line.map(|at| format!(" {}  {:<longest$}   ", signs[at], items[at])).collect()
     };
     (0..down).map(line).collect()
 }
 
-/// "DOCK 24 of 60": a name, its pages, and what a user is given.
-fn item(row: &Row, wide: usize) -> String {
-    let given = row
-        .given
-        .map_or_else(String::new, |given| format!(" of {}", grouped(given as usize)));
-    format!("{:<16} {:>wide$}{given}", row.name, grouped(row.pages as usize))
+/// Of each row the name, and its numbers below it.
+fn one_below_the_other(signs: &[String], rows: &[Row], width: usize) -> Vec<String> {
+    let numbers: Vec<String> = rows.iter().map(|row| format!("{}{}", held(row), given(row))).collect();
+    let edge = width.saturating_sub(longest(&numbers)).clamp(2, 4);
+    let row = |((sign, row), numbers): ((&String, &Row), &String)| {
+        let name = format!(" {sign}  {}", row.name);
+        let below = folded([numbers.as_str()], width - edge);
+        let below = below.into_iter().map(move |line| format!("{:edge$}{line}", ""));
+        std::iter::once(name).chain(below)
+    };
+    signs.iter().zip(rows).zip(&numbers).flat_map(row).collect()
+}
+
+fn longest(texts: &[String]) -> usize {
+    texts.iter().map(|text| text.chars().count()).max().unwrap_or(0)
+}
+
+/// The pages of a row.
+fn held(row: &Row) -> String {
+    grouped(row.pages as usize)
+}
+
+/// " of 60": what a user is given.
+fn given(row: &Row) -> String {
+    row.given
+        .map_or_else(String::new, |given| format!(" of {}", grouped(given as usize)))
 }
 
 /// A group's letter on its colour.

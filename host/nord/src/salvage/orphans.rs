@@ -70,7 +70,7 @@ fn write(folder: &Path, missing: &[(PathBuf, Vec<u8>)]) -> Result<(), Failure> {
         replace::sync_folder(folder)?;
     }
     sweep(folder)?;
-    let bar = Progress::start("copying out", missing.len() as u64);
+    let bar = Progress::start("copying out", "pages", missing.len() as u64);
     for (target, bytes) in missing {
         let mut fresh = Fresh::beside(target, None)?;
         fresh.fill(bytes)?;

@@ -86,7 +86,7 @@ fn changes_are_in_the_listing() {
 fn format_as_it_stands_keeps_the_size() {
     let (_folder, image) = sample();
     assert_eq!(
-        done(&image, "format IMAGE BERTH --bit-page 3"),
+        done(&image, "format IMAGE BERTH --bit-page 3 --force"),
         "volume BERTH of 154 pages, bit file on page 3\n"
     );
     assert_eq!(done(&image, "list IMAGE"), "VOLUME BERTH PAGES 154 RESERVED 2 UNRESERVED 152\n");
@@ -150,7 +150,7 @@ fn what_is_changed_has_json() {
             ("file open IMAGE DOCK/LOG", json!({ "number": 0, "user": 0, "file": 2 })),
             ("file delete IMAGE DOCK/LOG", json!({ "number": 0, "user": 0, "file": 2 })),
             (
-                "format IMAGE YARD",
+                "format IMAGE YARD --force",
                 json!({ "number": 0, "volume": "YARD", "pages": 154, "bit_page": 77, "bit_pages": 1 }),
             ),
         ],
@@ -182,9 +182,14 @@ fn what_is_read_written_and_made_has_json() {
 #[test]
 fn the_map_as_text_picture_and_json() {
     let (folder, image) = sample();
-    let text = done(&image, "map IMAGE --width 40");
-    assert!(text.starts_with("YARD: ") && !text.contains('\u{1b}'), "{text}");
-    assert!(text.lines().all(|line| line.chars().count() <= 80), "{text}");
+    for width in [20, 30, 40, 80] {
+        let text = done(&image, &format!("map IMAGE --width {width}"));
+        assert!(text.starts_with("YARD: ") && !text.contains('\u{1b}'), "{text}");
+        assert!(text.lines().all(|line| line.chars().count() <= width), "{width}: {text}");
+    }
+    let narrow = run(&image, "map IMAGE --width 19");
+    assert_eq!(narrow.status, 64);
+    assert!(narrow.err.contains("a line of the map has 20 characters or more"), "{}", narrow.err);
     assert!(done(&image, "map IMAGE --colour always").contains('\u{1b}'));
     let picture = folder.path("map.svg");
     done(&image, &format!("map IMAGE --svg {}", picture.display()));

@@ -265,7 +265,7 @@ fn done_as_json() {
     let wanted = |to: &str| json!({ "number": 0, "to": to, "changed": 4, "volume": 1, "users": 1, "files": 2, "types": 0 });
     assert_eq!(answer(TO_ZEROS), wanted("zeros"));
     assert_eq!(answer(TO_APOSTROPHE), wanted("apostrophe"));
-    done(&image, "format IMAGE SIXTEEN-LETTERS1");
+    done(&image, "format IMAGE SIXTEEN-LETTERS1 --force");
     let nothing = json!({ "number": 0, "to": "zeros", "changed": 0, "volume": 0, "users": 0, "files": 0, "types": 0 });
     assert_eq!(answer(TO_ZEROS), nothing);
 }

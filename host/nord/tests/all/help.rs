@@ -1,6 +1,6 @@
 //! Help, the manual page and the completions have every command.
 
-use crate::common::{run, untried, Run, NORD};
+use crate::common::{run, untried, Run};
 use clap::CommandFactory;
 use std::path::Path;
 use std::process::Command;
@@ -63,6 +63,21 @@ fn the_manual_is_nord_1_and_has_every_command() {
 }
 
 #[test]
+fn the_manual_has_defaults_and_the_words_of_options() {
+    let manual = nord("manual");
+    for said in [
+        "0 fails at once.\nDefault: 60.\n",
+        ".B [COUNT]\nHow many pages.\nDefault: 1.\n",
+        ".B [\\-\\-colour COLOUR]\nColours in the text.\nDefault: auto.\nOne of: auto, always, never.\n",
+        "or zeros (alone).\nOne of: apostrophe, zeros.\n",
+        ".B SHELL\nThe shell.\nOne of: bash, elvish, fish, powershell, zsh.\n",
+        ".B [\\-\\-json]\nAnswer with a JSON object.\n.TP\n",
+    ] {
+        assert!(manual.text().contains(said), "{said}");
+    }
+}
+
+#[test]
 fn the_manual_is_well_formed() {
     let path = Path::new(env!("CARGO_MANIFEST_DIR")).join("nord.1");
     match Command::new("groff").args(["-man", "-Tutf8", "-ww", "-z"]).arg(path).output() {
@@ -82,13 +97,4 @@ fn completions_know_the_commands() {
         }
     }
     assert_eq!(nord("completions tcsh").status, 64);
-}
-
-#[test]
-fn bash_completes_a_command() {
-    let script = format!(
-        "source <({NORD} completions bash); COMP_WORDS=(nord user gi); COMP_CWORD=2; _nord nord gi user; echo \"${{COMPREPLY[*]}}\""
-    );
-    let run = Run::of(Command::new("bash").args(["-c", &script]).output().unwrap());
-    assert_eq!((run.text(), run.err.as_str()), ("give\n", ""));
 }

@@ -153,7 +153,7 @@ fn other_changes_killed_at_many_moments() {
         "user delete IMAGE FLOCK",
         "file delete IMAGE DOCK/READS:DATA",
         "file grow IMAGE DOCK/READS:DATA 50",
-        "format IMAGE BERTH",
+        "format IMAGE BERTH --force",
     ] {
         let (old, new) = kill_at_moments(&other_change(line), 16);
         println!("{line}: {old} old images, {new} new ones");
@@ -192,7 +192,7 @@ mod staged {
         let lines = [
             "user add IMAGE BERTH",
             "file create IMAGE DOCK/NEW --contiguous 9",
-            "format IMAGE BERTH",
+            "format IMAGE BERTH --force",
         ];
         for case in lines.map(other_change).iter().chain([&large_write(), &salvage()]) {
             for (stage, new) in STAGES {

@@ -3,7 +3,9 @@
 mod broken;
 mod commands;
 mod common;
+mod completions;
 mod convert;
+mod format;
 mod full;
 mod help;
 mod host;
@@ -16,6 +18,7 @@ mod page;
 mod readme;
 mod refusals;
 mod salvage;
+mod screen;
 mod script;
 mod stored;
 mod terminal;

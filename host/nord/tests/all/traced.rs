@@ -121,7 +121,7 @@ fn killed_at_each_system_call() {
         "",
         "user delete IMAGE FLOCK",
         "file grow IMAGE DOCK/READS:DATA 3",
-        "format IMAGE BERTH",
+        "format IMAGE BERTH --force",
         "salvage IMAGE",
     ] {
         match line {

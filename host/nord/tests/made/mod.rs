@@ -109,6 +109,27 @@ pub fn pack(pages: usize) -> Vec<u16> {
     image
 }
 
+/// Thirty users with names of 16 letters on a volume with such a name, and some who hold nothing.
+pub fn long_names() -> Vec<u16> {
+    let mut image = volume("SIXTEEN-LETTERS1", 1000);
+    for n in 10..40 {
+        let user = user(&mut image, &format!("FORTRAN-GROUP-{n}"), 15 * (n % 4));
+        if n % 4 > 0 {
+            run(&mut image, user, "OWN", n / 4);
+        }
+    }
+    image
+}
+
+/// The largest pack, nearly all of it one user's.
+pub fn long_numbers() -> Vec<u16> {
+    let mut image = volume("SIXTEEN-LETTERS2", 140_733);
+    let user = user(&mut image, "FORTRAN-PROJECT1", 130_000);
+    run(&mut image, user, "FIRST", 60_000);
+    run(&mut image, user, "SECOND", 60_000);
+    image
+}
+
 /// Numbers that look random, the same each time.
 pub struct Dice(pub u64);
 
