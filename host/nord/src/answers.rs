@@ -1,10 +1,11 @@
 //! What a command says: the answer of a call that was done, and the library's refusals in words.
 
 use crate::limits::{most_pages, pages_to_a_bit_page};
-use crate::volume_json;
+use crate::volume;
+use crate::volume_json::Holder;
 use proved::{Place, Reply};
 use serde::Serialize;
-use serde_json::{json, Map, Value};
+use serde_json::{Map, Value};
 use std::fmt::Display;
 use std::path::Path;
 
@@ -151,7 +152,7 @@ impl Refusal {
             0 => format!("{bytes} bytes, {pages} pages"),
             _ => format!("{bytes} bytes, {pages} pages and {over} bytes over"),
         };
-        self.with(format!("the image has {size}")).detailed(json!({ "bytes": bytes }))
+        self.with(format!("the image has {size}")).detailed(Length { bytes })
     }
 
     /// The same refusal, with more said. Number 3 speaks of the image alone.
@@ -204,14 +205,35 @@ fn unsound(reply: Reply) -> Refusal {
         words: broken_at(rule, place),
         rule,
         more: vec![format!("  rule {rule}: {} nord check tells more", self::rule(rule))],
-        details: fields(json!({
-            "sentence": self::rule(rule),
-            "page": place.page,
-            "word": place.word,
-            "first": volume_json::holder_numbers(&reply.first.into()),
-            "second": volume_json::holder_numbers(&reply.second.into()),
-        })),
+        details: fields(Unsound {
+            sentence: self::rule(rule),
+            page: place.page,
+            word: place.word,
+            first: told(reply.first),
+            second: told(reply.second),
+        }),
     }
+}
+
+/// A holder for programs.
+fn told(holder: proved::Holder) -> Holder {
+    (&volume::Holder::from(holder)).into()
+}
+
+/// Where the lowest broken rule is broken, with rule 8 by whom.
+#[derive(Serialize)]
+struct Unsound {
+    sentence: &'static str,
+    page: u32,
+    word: u32,
+    first: Holder,
+    second: Holder,
+}
+
+/// How long an image is.
+#[derive(Serialize)]
+struct Length {
+    bytes: u64,
 }
 
 /// Which rule an image breaks, and where.

@@ -7,14 +7,14 @@ mod blocks;
 mod entries;
 mod names;
 mod shapes;
+mod told;
 
 pub use asked::Expected;
+pub use told::Told;
 
 use crate::answers::{self, item, Refusal};
-use crate::volume::{meaning, number, Disk, Holder, Kind, Meaning};
-use crate::volume_json;
+use crate::volume::{meaning, Disk, Holder, Kind, Meaning};
 use proved::{Place, Reply};
-use serde_json::{json, Value};
 use std::path::Path;
 
 /// The first place of the lowest broken rule.
@@ -65,7 +65,7 @@ impl Broken<'_> {
 
     /// Number 3 with all that can be told of the place.
     pub fn tell(&self, refusal: Refusal, path: &Path) -> Refusal {
-        refusal.over(self.lines(path)).detailed(self.json())
+        refusal.over(self.lines(path)).detailed(self.told())
     }
 
     /// What the place is: "used pages of user 0 DOCK, words 16-17 of his entry".
@@ -116,35 +116,6 @@ impl Broken<'_> {
     fn holders_told(&self) -> Vec<(&'static str, Holder)> {
         let both = ["first", "second"].into_iter().zip(self.holders);
         both.filter(|(_, holder)| holder.kind != Kind::Free).collect()
-    }
-
-    /// All numbers, and the words.
-    pub fn json(&self) -> Value {
-        let words = self.words();
-        let mut json = json!({
-            "rule": self.rule,
-            "sentence": answers::rule(self.rule),
-            "page": self.place.page,
-            "word": self.place.word,
-            "what": self.what(),
-            "there": { "words": words, "octal": words.iter().map(|word| format!("{word:06o}")).collect::<Vec<_>>() },
-            "expected": { "words": self.expected() },
-            "first": volume_json::named_holder(&self.disk, &self.holders[0]),
-            "second": volume_json::named_holder(&self.disk, &self.holders[1]),
-        });
-        if words.len() <= 2 {
-            json["there"]["number"] = number(words).into();
-        }
-        if let Some((meaning, expected)) = &self.told {
-            json["there"]["says"] = meaning.says.clone().into();
-            if let Some(leftovers) = &meaning.leftovers {
-                json["there"]["leftovers"] = leftovers.clone().into();
-            }
-            if let Some((from, to)) = expected.range {
-                (json["expected"]["from"], json["expected"]["to"]) = (from.into(), to.into());
-            }
-        }
-        json
     }
 }
 

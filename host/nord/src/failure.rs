@@ -107,7 +107,7 @@ pub struct Failed {
 impl Failed {
     /// One line.
     pub fn line(&self) -> String {
-        format!("{}\n", serde_json::json!(self))
+        format!("{}\n", Value::from(fields(self)))
     }
 }
 

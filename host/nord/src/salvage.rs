@@ -2,7 +2,7 @@
 //! which pages, users and counts these words are is found in the image before and after.
 
 mod can_mend;
-mod mended;
+pub mod mended;
 mod orphans;
 mod overdrawn;
 mod page_list;

@@ -1,69 +1,123 @@
 //! A volume for other programs to read: what the listing says, each file's opens and creation number, and who holds a page.
 
-use crate::volume::{Disk, File, Holder, User, Volume, ENTRIES};
-use serde_json::{json, Value};
+use crate::volume::{self, Disk, Volume, ENTRIES};
+use serde::Serialize;
 
-/// The volume as one JSON object.
-pub fn json(volume: &Volume) -> Value {
-    json!({
-        "name": volume.name,
-        "pages": volume.pages,
-        "reserved": volume.reserved,
-        "unreserved": volume.unreserved,
-        "users": volume.users.iter().map(user).collect::<Vec<Value>>(),
-    })
+/// A volume with its users.
+#[derive(Serialize)]
+pub struct Listed {
+    name: String,
+    pages: u32,
+    reserved: u32,
+    unreserved: u32,
+    users: Vec<User>,
 }
 
-fn user(user: &User) -> Value {
-    json!({
-        "index": user.index,
-        "name": user.name,
-        "given": user.given,
-        "used": user.used,
-        "files": user.files.iter().map(file).collect::<Vec<Value>>(),
-    })
+/// A user with his files.
+#[derive(Serialize)]
+struct User {
+    index: u32,
+    name: String,
+    given: u32,
+    used: u32,
+    files: Vec<File>,
 }
 
-fn file(file: &File) -> Value {
-    json!({
-        "index": file.index,
-        "name": file.name,
-        "type": file.type_name,
-        "pages": file.pages,
-        "kind": file.kind.word(),
-        "opens": file.opens,
-        "created": file.created,
-    })
+#[derive(Serialize)]
+struct File {
+    index: u32,
+    name: String,
+    #[serde(rename = "type")]
+    type_name: String,
+    pages: u32,
+    kind: &'static str,
+    opens: u32,
+    created: u32,
 }
 
-/// A holder: user and file only where a file holds the page.
-pub fn holder(holder: &Holder) -> Value {
-    let mut json = json!({ "holder": holder.kind.word(), "kind": holder.kind as u32, "position": holder.position });
-    if holder.kind.of_a_file() {
-        (json["user"], json["file"]) = (holder.user.into(), holder.file.into());
+impl From<&Volume> for Listed {
+    fn from(volume: &Volume) -> Listed {
+        Listed {
+            name: volume.name.clone(),
+            pages: volume.pages,
+            reserved: volume.reserved,
+            unreserved: volume.unreserved,
+            users: volume.users.iter().map(User::from).collect(),
+        }
     }
-    json
 }
 
-/// A holder with all its numbers.
-pub fn holder_numbers(holder: &Holder) -> Value {
-    let Holder {
-        kind,
-        user,
-        file,
-        position,
-    } = *holder;
-    json!({ "holder": kind.word(), "kind": kind as u32, "user": user, "file": file, "position": position })
+impl From<&volume::User> for User {
+    fn from(user: &volume::User) -> User {
+        User {
+            index: user.index,
+            name: user.name.clone(),
+            given: user.given,
+            used: user.used,
+            files: user.files.iter().map(File::from).collect(),
+        }
+    }
 }
 
-/// A holder with all its numbers, and with the names of his user and his file where they can be read.
-pub fn named_holder(disk: &Disk, holder: &Holder) -> Value {
-    let mut json = holder_numbers(holder);
-    if holder.kind.of_a_file() {
+impl From<&volume::File> for File {
+    fn from(file: &volume::File) -> File {
+        File {
+            index: file.index,
+            name: file.name.clone(),
+            type_name: file.type_name.clone(),
+            pages: file.pages,
+            kind: file.kind.word(),
+            opens: file.opens,
+            created: file.created,
+        }
+    }
+}
+
+/// A holder with all its numbers; names only where they are wanted, and only of a file.
+#[derive(Serialize)]
+pub struct Holder {
+    holder: &'static str,
+    kind: u32,
+    user: u32,
+    file: u32,
+    position: u32,
+    #[serde(flatten)]
+    names: Option<Names>,
+}
+
+/// The names of a holder's user and file, where they can be read.
+#[derive(Serialize)]
+struct Names {
+    user_name: Option<String>,
+    file_name: Option<String>,
+    type_name: Option<String>,
+}
+
+impl From<&volume::Holder> for Holder {
+    fn from(holder: &volume::Holder) -> Holder {
+        Holder {
+            holder: holder.kind.word(),
+            kind: holder.kind as u32,
+            user: holder.user,
+            file: holder.file,
+            position: holder.position,
+            names: None,
+        }
+    }
+}
+
+impl Holder {
+    /// With the names of his user and his file.
+    pub fn named(disk: &Disk, holder: &volume::Holder) -> Holder {
         let file = disk.object(ENTRIES * holder.user + holder.file);
-        json["user_name"] = disk.user(holder.user).map(|entry| entry.name()).into();
-        json["file_name"] = file.map(|entry| entry.name()).into();
-        json["type_name"] = file.map(|entry| entry.type_name()).into();
+        let names = || Names {
+            user_name: disk.user(holder.user).map(|entry| entry.name()),
+            file_name: file.map(|entry| entry.name()),
+            type_name: file.map(|entry| entry.type_name()),
+        };
+        Holder {
+            names: holder.kind.of_a_file().then(names),
+            ..Holder::from(holder)
+        }
     }
-    json
 }

@@ -216,7 +216,7 @@ fn any_image_is_shown_without_panic() {
             let page = Page::of(image, number, broken);
             let marks = page.text().lines().filter(|line| line.starts_with('>')).count();
             assert_eq!(marks, if reply.number == 3 && reply.place.page == number { 2 } else { 0 });
-            assert_eq!(page.json()["words"].as_array().map(Vec::len), Some(1024));
+            assert_eq!(nord::answers::fields(page.shown())["words"].as_array().map(Vec::len), Some(1024));
             let word = dice.below(1024) as u32;
             assert!(page.word_text(word).contains(&format!("word {word} (octal {word:o})")));
             assert_eq!(page.word_json(word)["words"][0]["word"], word);

@@ -9,7 +9,8 @@ use crate::plan::{on_file, Plan, Planned};
 use crate::salvage::CanMend;
 use crate::typed::Number;
 use crate::volume::{Disk, Holder};
-use crate::{session, volume, volume_json};
+use crate::volume_json::{self, Listed};
+use crate::{session, volume};
 use proved::{call, HolderReply, Reply};
 use serde::Serialize;
 
@@ -39,7 +40,7 @@ pub fn check(image: &[u16], at: &Ask) -> Result<Answer, Failure> {
 pub fn list(image: &[u16]) -> Result<Answer, Failure> {
     done(proved::check(image), Call::Check, "")?;
     let text = String::from_utf8_lossy(&proved::list(image)).into_owned();
-    Ok(Answer::of(text, volume_json::json(&volume::read(image))))
+    Ok(Answer::of(text, Listed::from(&volume::read(image))))
 }
 
 /// What was found: a user's index, and of a file its own too.
@@ -117,14 +118,24 @@ fn addressed(list: &mut Plan, file: &FileName, position: &Number) -> Planned {
     })))
 }
 
+/// Who holds a page.
+#[derive(Serialize)]
+struct Who {
+    page: u32,
+    #[serde(flatten)]
+    holder: volume_json::Holder,
+}
+
 pub fn who(image: &[u16], page: &Number) -> Result<Answer, Failure> {
     let answer = proved::who_holds(image, page.value as usize);
     let subject = format!("page {page} of {}", image.len() / proved::PAGE);
     done(plain(answer), Call::Who, subject)?;
-    let holder = Holder::from(answer.holder);
-    let mut json = volume_json::holder(&holder);
-    json["page"] = page.value.into();
-    Ok(Answer::new(Disk::new(image).holder_words(&holder), json))
+    let (page, holder) = (page.value, Holder::from(answer.holder));
+    let who = Who {
+        page,
+        holder: (&holder).into(),
+    };
+    Ok(Answer::new(Disk::new(image).holder_words(&holder), who))
 }
 
 /// An answer about a holder without him.

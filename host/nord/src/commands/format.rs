@@ -6,8 +6,8 @@ use crate::args::{Ask, Change};
 use crate::failure::Failure;
 use crate::names::is_legal;
 use crate::plan::{Plan, Planned};
-use crate::typed::Number;
 use crate::store::{self, Then};
+use crate::typed::Number;
 use crate::{session, volume};
 use proved::{call, Step};
 use serde::Serialize;
@@ -50,13 +50,7 @@ fn lost(image: &[u16]) -> Option<String> {
 }
 
 /// Formats an image that is there. Files on it are lost only by `force`.
-pub fn over(
-    image: &mut [u16],
-    path: &Path,
-    name: &str,
-    bit_page: Option<&Number>,
-    force: bool,
-) -> Result<(Answer, Then), Failure> {
+pub fn over(image: &mut [u16], path: &Path, name: &str, bit_page: Option<&Number>, force: bool) -> Result<(Answer, Then), Failure> {
     let Some(lost) = lost(image).filter(|_| !force) else {
         let answer = session::one(image, path, |list| plan(list, name, bit_page))?;
         return Ok((answer, Then::Replace));

@@ -4,9 +4,10 @@ use crate::answers::{done, Answer, Call};
 use crate::args::{Ask, Colour};
 use crate::failure::Failure;
 use crate::volume::{self, Holder, Volume};
-use crate::{map, output, volume_json};
+use crate::volume_json::{self, Listed};
+use crate::{map, output};
 use console::Term;
-use serde_json::Value;
+use serde::Serialize;
 use std::path::Path;
 
 /// Characters in a line where there is no terminal.
@@ -15,18 +16,19 @@ const WIDTH: usize = 80;
 pub fn map(image: &[u16], at: &Ask, svg: Option<&Path>, width: Option<u32>, colour: Colour) -> Result<Answer, Failure> {
     done(proved::check(image), Call::Check, "")?;
     let (volume, holders) = (volume::read(image), volume::holders(image));
-    let mut json = if at.json { json(&volume, &holders) } else { Value::Null };
+    // For people alone no object of so many holders is made.
+    let json = |output: Option<&Path>| at.json.then(|| Mapped::of(&volume, &holders, output));
     match svg {
         Some(path) => {
             output::save(path, &at.image, map::svg(&volume, &holders).as_bytes())?;
-            if at.json {
-                json["output"] = path.to_string_lossy().into();
-            }
-            Ok(Answer::new(format!("map of {} in {}", volume.name, path.display()), json))
+            Ok(Answer::new(
+                format!("map of {} in {}", volume.name, path.display()),
+                json(Some(path)),
+            ))
         }
         None => {
             let text = map::text(&volume, &holders, columns(width), coloured(colour));
-            Ok(Answer::of(text, json))
+            Ok(Answer::of(text, json(None)))
         }
     }
 }
@@ -48,9 +50,21 @@ fn coloured(colour: Colour) -> bool {
     }
 }
 
-/// What the listing has, and the holder of each page.
-fn json(volume: &Volume, holders: &[Holder]) -> Value {
-    let mut json = volume_json::json(volume);
-    json["holders"] = holders.iter().map(volume_json::holder).collect();
-    json
+/// What the listing has, the holder of each page, and where the picture is.
+#[derive(Serialize)]
+struct Mapped {
+    #[serde(flatten)]
+    listed: Listed,
+    holders: Vec<volume_json::Holder>,
+    output: Option<String>,
+}
+
+impl Mapped {
+    fn of(volume: &Volume, holders: &[Holder], output: Option<&Path>) -> Mapped {
+        Mapped {
+            listed: volume.into(),
+            holders: holders.iter().map(volume_json::Holder::from).collect(),
+            output: output.map(|path| path.to_string_lossy().into_owned()),
+        }
+    }
 }

@@ -76,7 +76,9 @@ pub fn kind(command: Command) -> Result<Kind, Failure> {
         Command::File(command) => Ok(change(command.at().clone(), |plan| files::plan(command, plan))),
         Command::Format {
             at, name, bit_page, force, ..
-        } => Ok(mend(at.clone(), move |image| format::over(image, &at.image, &name, bit_page.as_ref(), force))),
+        } => Ok(mend(at.clone(), move |image| {
+            format::over(image, &at.image, &name, bit_page.as_ref(), force)
+        })),
         Command::Convert { at, to } => Ok(change(at, move |plan| convert::plan(plan, to))),
         Command::Import(with) => Ok(change(with.at.clone(), move |plan| import::plan(plan, &with))),
         Command::Write {
@@ -125,7 +127,9 @@ fn ask(image: PathBuf, work: impl FnOnce(&mut [u16]) -> Result<Answer, Failure> 
 /// A dry run only asks the image: it needs no lock, and no leave to write.
 fn salvaging(with: crate::args::Salvage) -> Kind {
     match with.dry_run {
-        true => ask(with.at.image.clone(), move |image| salvage::salvage(image, &with).map(|(answer, _)| answer)),
+        true => ask(with.at.image.clone(), move |image| {
+            salvage::salvage(image, &with).map(|(answer, _)| answer)
+        }),
         false => mend(with.at.clone(), move |image| salvage::salvage(image, &with)),
     }
 }

@@ -21,8 +21,8 @@ pub fn page(image: &[u16], page: &Number, word: Option<&Number>) -> Result<Answe
     let broken = (reply.number == 3).then(|| Broken::of(image, reply));
     let page = Page::of(image, page.value, broken);
     Ok(match word {
-        None => Answer::of(page.text(), page.json()),
-        Some(word) => Answer::of(page.word_text(word.value), page.word_json(word.value)),
+        None => Answer::of(page.text(), page.shown()),
+        Some(word) => Answer::of(page.word_text(word.value), page.word_shown(word.value)),
     })
 }
 

@@ -3,8 +3,9 @@
 use crate::answers::{pages, Answer};
 use crate::args::Salvage;
 use crate::failure::Failure;
-use crate::salvage::{copy_out, file_name, refusal, CopiedOut, Mended, Salvaged};
+use crate::salvage::{copy_out, file_name, mended, refusal, CopiedOut, Mended, Salvaged};
 use crate::store::Then;
+use serde::Serialize;
 
 /// The library's salvage. Pages that nobody holds are copied out before the image is replaced.
 pub fn salvage(image: &mut [u16], with: &Salvage) -> Result<(Answer, Then), Failure> {
@@ -37,12 +38,25 @@ fn answer(mended: &Mended, copied: Option<&CopiedOut>, with: &Salvage, then: The
             None => to_copy_out(&mended.orphans, with),
         });
     }
-    let mut json = mended.json();
-    json["dry_run"] = with.dry_run.into();
-    json["replaced"] = (then == Then::Replace).into();
-    json["folder"] = copied.map(|copied| copied.folder.to_string_lossy()).into();
-    json["written"] = copied.map(|copied| copied.written).into();
-    Answer::new(lines.join("\n"), json)
+    let told = Told {
+        mended: mended.told(),
+        dry_run: with.dry_run,
+        replaced: then == Then::Replace,
+        folder: copied.map(|copied| copied.folder.to_string_lossy().into_owned()),
+        written: copied.map(|copied| copied.written),
+    };
+    Answer::new(lines.join("\n"), told)
+}
+
+/// What a salvage has changed, and where the pages are that nobody held.
+#[derive(Serialize)]
+struct Told {
+    #[serde(flatten)]
+    mended: mended::Told,
+    dry_run: bool,
+    replaced: bool,
+    folder: Option<String>,
+    written: Option<usize>,
 }
 
 fn first_line(mended: &Mended, with: &Salvage) -> String {

@@ -3,15 +3,24 @@
 use crate::answers::Answer;
 use crate::args::Ending;
 use crate::volume::{Disk, Whose};
-use serde_json::json;
+use serde::Serialize;
 
 /// How many names and types were changed, by whose they are.
-#[derive(Clone, Copy, Debug, PartialEq, Eq)]
+#[derive(Clone, Copy, Debug, PartialEq, Eq, Serialize)]
 pub struct Changed {
     volume: usize,
     users: usize,
     files: usize,
     types: usize,
+}
+
+/// To which fill so many were changed.
+#[derive(Serialize)]
+struct Converted {
+    to: &'static str,
+    changed: usize,
+    #[serde(flatten)]
+    by: Changed,
 }
 
 impl Changed {
@@ -32,21 +41,12 @@ impl Changed {
     }
 
     pub fn answer(&self, to: Ending) -> Answer {
-        let Changed {
-            volume,
-            users,
-            files,
-            types,
-        } = *self;
-        let json = json!({
-            "to": to.word(),
-            "changed": self.all(),
-            "volume": volume,
-            "users": users,
-            "files": files,
-            "types": types,
-        });
-        Answer::new(self.words(to), json)
+        let converted = Converted {
+            to: to.word(),
+            changed: self.all(),
+            by: *self,
+        };
+        Answer::new(self.words(to), converted)
     }
 
     /// "3 short names and types now end in an apostrophe: the volume's name, 2 users' names".

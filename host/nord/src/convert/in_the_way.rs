@@ -1,11 +1,10 @@
 //! What is in the way of a conversion: the first name or type that is not in the fill which is converted from, and how many are not.
 
-use super::word;
 use crate::answers::{item, look_at, Call, Refusal};
 use crate::args::Ending;
 use crate::volume::{Disk, Fill, Short, Whose};
-use proved::Reply;
-use serde_json::{json, Value};
+use proved::{Place, Reply};
+use serde::Serialize;
 use std::path::Path;
 
 /// The first that is in the way, and how many short names and types there are of each fill.
@@ -36,7 +35,7 @@ impl InTheWay<'_> {
 
     pub fn refusal(&self, reply: Reply, call: Call, path: &Path) -> Refusal {
         let refusal = Refusal::of(reply, call, self.subject());
-        refusal.over(self.lines(path)).detailed(self.json())
+        refusal.over(self.lines(path)).detailed(self.told())
     }
 
     /// "the name of user 1 FLOCK ends in an apostrophe".
@@ -106,8 +105,8 @@ impl InTheWay<'_> {
         }
     }
 
-    /// The refusal's numbers, and all that is said here.
-    fn json(&self) -> Value {
+    /// All that is said here, for programs.
+    fn told(&self) -> Told {
         let Short { whose, stored, fill } = &self.first;
         let (field, user, file) = match *whose {
             Whose::Volume => ("volume", None, None),
@@ -115,20 +114,49 @@ impl InTheWay<'_> {
             Whose::File(user, file) => ("name", Some(user), Some(file)),
             Whose::Type(user, file) => ("type", Some(user), Some(file)),
         };
-        let place = self.disk.name_place(*whose);
-        json!({
-            "to": self.to.word(),
-            "field": field,
-            "user": user,
-            "file": file,
-            "name": stored.to_string(),
-            "fill": word(*fill),
-            "behind": self.behind().concat(),
-            "leftovers": stored.leftovers(),
-            "page": place.page,
-            "word": place.word,
-            "in_the_way": self.count(),
-            "short": { "zeros": self.zeros, "apostrophe": self.apostrophes, "leftovers": self.leftovers },
-        })
+        let Place { page, word } = self.disk.name_place(*whose);
+        Told {
+            to: self.to.word(),
+            field,
+            user,
+            file,
+            name: stored.to_string(),
+            fill: super::word(*fill),
+            behind: self.behind().concat(),
+            leftovers: stored.leftovers(),
+            page,
+            word,
+            in_the_way: self.count(),
+            short: Fills {
+                zeros: self.zeros,
+                apostrophe: self.apostrophes,
+                leftovers: self.leftovers,
+            },
+        }
     }
+}
+
+/// The first name or type that is in the way, and how many are.
+#[derive(Serialize)]
+struct Told {
+    to: &'static str,
+    field: &'static str,
+    user: Option<u32>,
+    file: Option<u32>,
+    name: String,
+    fill: &'static str,
+    behind: String,
+    leftovers: Option<String>,
+    page: u32,
+    word: u32,
+    in_the_way: usize,
+    short: Fills,
+}
+
+/// Short names and types of each fill.
+#[derive(Serialize)]
+struct Fills {
+    zeros: usize,
+    apostrophe: usize,
+    leftovers: usize,
 }

@@ -4,7 +4,7 @@ use super::{Mended, Overdrawn, Salvaged};
 use crate::answers::{item, pages, Refusal};
 use crate::volume::ENTRY_WORDS;
 use proved::Reply;
-use serde_json::{json, Value};
+use serde::Serialize;
 use std::path::Path;
 
 /// The word of a user's entry where rule 4 compares used with given.
@@ -53,7 +53,7 @@ impl CanMend {
     /// The same refusal with what is said here.
     pub fn tell(&self, mut refusal: Refusal, path: &Path) -> Refusal {
         refusal.more.push(item("salvage", &self.words(path)));
-        refusal.detailed(json!({ "salvage": self.json() }))
+        refusal.detailed(Salvage { salvage: self.told() })
     }
 
     fn words(&self, path: &Path) -> String {
@@ -73,12 +73,36 @@ impl CanMend {
         format!("can mend this by changing {changed}: nord salvage {}{copied_out}", path.display())
     }
 
-    fn json(&self) -> Value {
+    /// The same for programs.
+    fn told(&self) -> Told {
         match self {
-            CanMend::Yes { words, orphans } => json!({ "mends": true, "changed": words, "orphans": orphans }),
-            CanMend::No { reply, why } => json!({ "mends": false, "number": reply.number, "rule": reply.rule, "why": why }),
+            CanMend::Yes { words, orphans } => Told::Yes {
+                mends: true,
+                changed: *words,
+                orphans: *orphans,
+            },
+            CanMend::No { reply, why } => Told::No {
+                mends: false,
+                number: reply.number,
+                rule: reply.rule,
+                why: why.clone(),
+            },
         }
     }
+}
+
+/// Whether a salvage mends an image, and what it changes, or why it is refused.
+#[derive(Serialize)]
+#[serde(untagged)]
+enum Told {
+    Yes { mends: bool, changed: usize, orphans: usize },
+    No { mends: bool, number: u32, rule: u32, why: String },
+}
+
+/// What a check says of a salvage.
+#[derive(Serialize)]
+struct Salvage {
+    salvage: Told,
 }
 
 /// Whether what the check refuses is bits or counts: rules 9 and 10, and rule 4 where it compares used with given.

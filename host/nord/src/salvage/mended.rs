@@ -4,13 +4,13 @@ use super::page_list::page_list;
 use super::Salvaged;
 use crate::volume::{meaning, Disk, Entry, Held};
 use proved::Change;
-use serde_json::{json, Value};
+use serde::Serialize;
 
 /// So many users and so many changed words are told in lines of their own; the rest is counted.
 const LINES: usize = 16;
 
 /// A count as it was and as it is made.
-#[derive(Clone, Copy, Debug, PartialEq, Eq)]
+#[derive(Clone, Copy, Debug, PartialEq, Eq, Serialize)]
 pub struct Count {
     pub old: u32,
     pub new: u32,
@@ -99,22 +99,58 @@ impl<'a> Mended<'a> {
     }
 
     /// Every changed word, and the same facts.
-    pub fn json(&self) -> Value {
+    pub fn told(&self) -> Told {
         let disk = Disk::new(self.before);
-        let change = |Change { page, word, old, new }: &Change| json!({ "page": page, "word": word, "old": old, "new": new });
-        let user = |(user, count): &(u32, Count)| {
-            let name = disk.user(*user).map(|entry| entry.name());
-            json!({ "user": user, "name": name, "old": count.old, "new": count.new })
+        let user = |(user, count): &(u32, Count)| User {
+            user: *user,
+            name: disk.user(*user).map(|entry| entry.name()),
+            used: *count,
         };
-        json!({
-            "changed": self.changes.len(),
-            "changes": self.changes.iter().map(change).collect::<Vec<_>>(),
-            "users": self.users.iter().map(user).collect::<Vec<_>>(),
-            "unreserved": { "old": self.unreserved.old, "new": self.unreserved.new },
-            "held": self.held,
-            "orphans": self.orphans,
-        })
+        Told {
+            changed: self.changes.len(),
+            changes: self.changes.iter().map(Word::from).collect(),
+            users: self.users.iter().map(user).collect(),
+            unreserved: self.unreserved,
+            held: self.held.clone(),
+            orphans: self.orphans.clone(),
+        }
     }
+}
+
+/// What a salvage changes, for programs.
+#[derive(Serialize)]
+pub struct Told {
+    changed: usize,
+    changes: Vec<Word>,
+    users: Vec<User>,
+    unreserved: Count,
+    held: Vec<u32>,
+    orphans: Vec<u32>,
+}
+
+/// A changed word.
+#[derive(Serialize)]
+struct Word {
+    page: u32,
+    word: u32,
+    old: u32,
+    new: u32,
+}
+
+impl From<&Change> for Word {
+    fn from(change: &Change) -> Word {
+        let Change { page, word, old, new } = *change;
+        Word { page, word, old, new }
+    }
+}
+
+/// A user whose used count changes.
+#[derive(Serialize)]
+struct User {
+    user: u32,
+    name: Option<String>,
+    #[serde(flatten)]
+    used: Count,
 }
 
 /// The pages whose bits are cleared, and those whose bits are set.

@@ -2,7 +2,7 @@
 
 use crate::volume::{Disk, Held, Kind};
 use proved::Place;
-use serde_json::{json, Value};
+use serde::Serialize;
 
 /// A user who holds more pages than he was given.
 struct Over {
@@ -66,17 +66,38 @@ impl Overdrawn<'_> {
         }
     }
 
-    pub fn json(&self) -> Value {
-        let user = |over: &Over| {
-            let name = self.disk.user(over.user).map(|entry| entry.name());
-            json!({ "user": over.user, "name": name, "holds": over.holds, "given": over.given })
+    /// The same for programs.
+    pub fn told(&self) -> Told {
+        let user = |over: &Over| User {
+            user: over.user,
+            name: self.disk.user(over.user).map(|entry| entry.name()),
+            holds: over.holds,
+            given: over.given,
         };
-        json!({
-            "users": self.over.iter().map(user).collect::<Vec<_>>(),
-            "pages": self.disk.pages(),
-            "given": self.given,
-            "system": self.system,
-            "below_zero": self.below_zero(),
-        })
+        Told {
+            users: self.over.iter().map(user).collect(),
+            pages: self.disk.pages(),
+            given: self.given,
+            system: self.system,
+            below_zero: self.below_zero(),
+        }
     }
+}
+
+/// Who holds more than he was given, and the sum of the whole volume.
+#[derive(Serialize)]
+pub struct Told {
+    users: Vec<User>,
+    pages: u32,
+    given: u64,
+    system: u32,
+    below_zero: u64,
+}
+
+#[derive(Serialize)]
+struct User {
+    user: u32,
+    name: Option<String>,
+    holds: u32,
+    given: u32,
 }

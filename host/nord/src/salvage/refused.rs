@@ -45,5 +45,5 @@ fn overdrawn(image: &[u16], reply: Reply, path: &Path) -> Refusal {
         "salvage changes no given count: the one that does not fit is to be looked at first",
     ));
     more.push(look_at(path, found.place()));
-    refusal.over(more).detailed(found.json())
+    refusal.over(more).detailed(found.told())
 }

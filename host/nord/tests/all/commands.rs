@@ -117,7 +117,7 @@ fn what_is_asked_has_json() {
             ("who IMAGE 153", file),
             (
                 "who IMAGE 4",
-                json!({ "number": 0, "page": 4, "holder": "object page", "kind": 7, "position": 0 }),
+                json!({ "number": 0, "page": 4, "holder": "object page", "kind": 7, "user": 0, "file": 0, "position": 0 }),
             ),
         ],
     );

@@ -18,7 +18,7 @@ fn files_are_lost_only_by_force() {
             image.display()
         )
     );
-    assert_eq!(run(&image, "format IMAGE BERTH --json").json()["status"], 64);
+    assert_eq!(run(&image, "format IMAGE BERTH --json").json()["number"], 64);
     done(&image, "file delete IMAGE DOCK/LAMBS:DATA");
     done(&image, "user delete IMAGE FLOCK");
     assert!(fails(&image, "format IMAGE BERTH", 64).contains("volume YARD has 1 user and 1 file, which"));

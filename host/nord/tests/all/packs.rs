@@ -92,7 +92,7 @@ fn who_and_page_say_which_bit_page_and_of_which_pages() {
     assert_eq!(done(&image, "who IMAGE 18519"), "third of the bit file's 3 pages\n");
     assert_eq!(
         run(&image, "who IMAGE 18518 --json").json(),
-        json!({ "number": 0, "page": 18518, "holder": "bit file", "kind": 2, "position": 1 })
+        json!({ "number": 0, "page": 18518, "holder": "bit file", "kind": 2, "user": 0, "file": 0, "position": 1 })
     );
     has(
         &done(&image, "page IMAGE 18518"),
