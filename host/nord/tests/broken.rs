@@ -16,7 +16,7 @@ fn told(image: &[u16]) -> Option<u32> {
         return None;
     }
     let broken = Broken::of(image, reply);
-    let json = broken.json();
+    let json = serde_json::Value::from(nord::answers::fields(broken.told()));
     let line = format!("{reply:?} {json}");
     if reply.rule == 8 {
         let both: Vec<Holder> = vec![reply.first.into(), reply.second.into()];
@@ -193,7 +193,7 @@ fn of_a_page_held_twice_the_one_it_is_wrong_to_is_told() {
     image[index * 1024 + 5] = pages[1];
     let reply = proved::check(&image);
     assert_eq!((reply.number, reply.rule), (3, 4));
-    let json = Broken::of(&image, reply).json();
+    let json = nord::answers::fields(Broken::of(&image, reply).told());
     assert_eq!(json["what"], "name of user 64 U32, words 1-8 of his entry");
     assert_eq!(json["expected"]["words"], "a name of his own: user 32 has this one");
 }
@@ -219,7 +219,7 @@ fn any_image_is_shown_without_panic() {
             assert_eq!(nord::answers::fields(page.shown())["words"].as_array().map(Vec::len), Some(1024));
             let word = dice.below(1024) as u32;
             assert!(page.word_text(word).contains(&format!("word {word} (octal {word:o})")));
-            assert_eq!(page.word_json(word)["words"][0]["word"], word);
+            assert_eq!(nord::answers::fields(page.word_shown(word))["words"][0]["word"], word);
         }
     }
 }

@@ -30,7 +30,7 @@ pub enum Stopped {
 /// Makes these calls with one check for all of them, and gives their replies.
 pub fn make(plan: &Plan, calls: Range<usize>, image: &mut [u16]) -> Result<Vec<Reply>, Stopped> {
     let mut replies = vec![Reply::default(); calls.len()];
-    let count = proved::run(image, &plan.steps[calls.clone()], &plan.text, &plan.data, &mut replies);
+    let count = proved::run(image, &plan.steps[calls.clone()], &plan.text, &plan.data, &mut [], &mut replies);
     replies.truncate(count);
     match replies.last() {
         Some(last) if last.number != 0 => {
