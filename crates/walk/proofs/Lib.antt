@@ -4,6 +4,7 @@ pub mod Walks
 pub mod Short
 pub mod Pointers
 pub mod Runs
+pub mod Rows
 pub mod Entries
 pub mod Holding
 pub mod Judged

@@ -1,7 +1,7 @@
 -- Trees of which no more than n positions are filled: what a walk that looks at no more asks for. Assumes nothing.
 use mathlib.Core.Path.{_≡_}
 use mathlib.Core.List.{List}
-use Prim.Native.Nat.{ℕ, zero, suc, _*_, _^_, _≤_, _<_}
+use Prim.Native.Nat.{ℕ, zero, suc, _+_, _-_, _*_, _^_, _≤_, _<_}
 use lib.ListN.{length}
 use Rattle.book.specs.Words.{Vol, vol}
 use Rattle.book.specs.Pointers.{slot}
@@ -37,3 +37,14 @@ pub record PointersBelow (img block : List ℕ) (l : ℕ) : Type 0 where
 pub record Pointers (img block : List ℕ) (l n : ℕ) : Type 0 where
   pub none : (k : ℕ) → k < 512 → n ≤ k * 512 ^ l → pointerIn block k ≡ 0
   pub short : (k : ℕ) → k < 512 → Short (vol img) l (pointerIn block k) (share l n k)
+
+-- ---- rows: pointers whose pages follow each other
+
+-- n pointers from pointer 1 on name the pages from s on
+abbrev pub Follows : List ℕ → ℕ → ℕ → Type 0
+Follows block n s = (k : ℕ) → k < n → pointerIn block (k + 1) ≡ s + k
+
+-- so do all of the first n but pointer 0
+pub record Row (block : List ℕ) (n : ℕ) : Type 0 where
+  pub some : 1 < n
+  pub follows : Follows block (n - 1) (pointerIn block 1)

@@ -1,10 +1,11 @@
 -- What a walk is given and how it ends, over the pages that a weigher W weighs: W (hit p) is how often page p is among them, W some how many they are.
 -- Assumes nothing.
 use mathlib.Core.Path.{_≡_}
+use mathlib.Core.Bool.{Bool, true, false}
 use mathlib.Core.List.{List}
-use Prim.Native.Nat.{ℕ, _+_, _*_, _≤_, _<_}
+use Prim.Native.Nat.{ℕ, _+_, _*_, _/_, _≤_, _<_}
 use lib.ListN.{length}
-use Rattle.sums.specs.Sum.{sum}
+use Rattle.sums.specs.Sum.{sum, is}
 use Rattle.book.specs.Holders.{hit, some}
 use Rattle.book.specs.Image.{pages, mostPages}
 use Rattle.walk.specs.declared.Walk.{Walk}
@@ -32,3 +33,8 @@ pub record WalkedOn (P : ℕ) (m : List ℕ) (v : ℕ) (W : Weigher) (m′ : Lis
 abbrev pub Walked : ℕ → List ℕ → ℕ → Weigher → List ℕ → Walk → Type 0
 Walked P m v W m′ (On x) = WalkedOn P m v W m′ x
 Walked P m v W m′ Met = (p : ℕ) × (p < P) × (2 ≤ marked m p + W (hit p))
+
+-- what filling word w of the marks answers: that its sixteen pages were not marked, and are now; or that nothing is done
+abbrev pub Filling : List ℕ → ℕ → List ℕ → Bool → Type 0
+Filling m w m′ true = ((q : ℕ) → marked m′ q ≡ marked m q + is w (q / 16)) × (length m′ ≡ length m)
+Filling m w m′ false = m′ ≡ m

@@ -2,6 +2,7 @@
 pub mod files;
 pub mod pages;
 pub mod roots;
+pub mod run;
 pub mod same;
 pub mod volume;
 

@@ -1,7 +1,7 @@
-// The pages of a run, and of any root by the flags of its pointer.
+// The pages of any root, by the flags of its pointer.
 use crate::Walk;
-use crate::pages::mark_page;
 use crate::pages::mark_pointer;
+use crate::run::mark_run;
 ghost use Prim.Native.Nat.{_+_, _≤_};
 ghost use Rattle.sums.specs.Sum.{sum};
 ghost use Rattle.book.specs.Words.{vol};
@@ -10,27 +10,6 @@ ghost use Rattle.book.specs.Image.{pages};
 ghost use Rattle.laws.specs.Tree.Weigh.{BelowR};
 ghost use Rattle.walk.specs.Walked.{Walking, Walked};
 ghost use Rattle.walk.specs.Short.{ShortR};
-
-// Marks the pages of a run.
-pub fn mark_run(img: &[u16], marks: &mut [u16], start: usize, count: usize, visited: u32) -> Walk
-    requires { ⌜ Walking (now img) (now marks) visited × (start + count ≤ pages (now img)) ⌝ }
-    ensures { λ r. ⌜ Walked (pages (now (img .entry))) (now (marks .entry)) visited (λ g. sum count (λ i. g (start + i))) (now (marks .exit)) r ⌝ }
-{
-    let mut v = visited;
-    let mut i: usize = 0;
-    while i < count {
-        match mark_page(img, marks, start + i, v) {
-            Walk::On { visited: n } => {
-                v = n;
-            }
-            Walk::Met => {
-                return Walk::Met;
-            }
-        }
-        i += 1;
-    }
-    Walk::On { visited: v }
-}
 
 // Marks the tree of a pointer with these flags and this page, in which at most `count` positions are filled. One without flags has none.
 pub fn mark_tree(

@@ -1,8 +1,8 @@
 // All that is held: the master page, the bit file, the user file, the object file and the files.
 use crate::Walk;
 use crate::files::mark_files;
-use crate::roots::mark_run;
 use crate::roots::mark_tree;
+use crate::run::mark_run;
 use bits::bit_pages;
 use bits::marks::mark;
 use page::BITS;

@@ -1,20 +1,16 @@
 -- `walk::pages::page_of` meets its contract. Assumes nothing.
 use borrow.Author.Needs.{needs}
-use Rattle.tree.proofs.Blocks.{pointer-read}
 use Rattle.walk.proofs.pages.page_of.Statement.{statement}
 use Rattle.walk.proofs.pages.page_of.Tie as tie
 
-mul-dword : tie.Need-mul-dword
-mul-dword c = search needs
-
-dword-requires : tie.Need-dword-requires
-dword-requires c κs = search needs
+page-in-requires : tie.Need-page-in-requires
+page-in-requires c κs = search needs
 
 cast-result : tie.Need-cast-result
 cast-result c = search needs
 
 returns : tie.Need-returns
-returns c = let a = c .before .before .before .args in pointer-read (a .block .now) (a .i) _ (c .dword .ensures .0)
+returns c = search needs
 
 near-page-requires : tie.Need-near-page-requires
 near-page-requires c κs = let s = c .before .before in (s .pre .0, s .pre .1, s .pre .2 (c .if1 .left))
@@ -24,4 +20,4 @@ returns-2 c = search needs
 
 pub page-of-spec : {M : Type 1} → statement M
 page-of-spec =
-    tie.close (tie.spec mul-dword dword-requires cast-result returns near-page-requires returns-2)
+    tie.close (tie.spec page-in-requires cast-result returns near-page-requires returns-2)

@@ -10,8 +10,8 @@ use Rattle.walk.specs.Walked.{Walked}
 use Rattle.bits.proofs.Marked.{marking-new, marking-old, new-other}
 use Rattle.walk.proofs.Pointers.{below-top, pointer-none, pointer-met, pointer-page, mark-fits}
 use borrow.Author.Needs.{needs}
-use Rattle.walk.proofs.pages.mark_page.Statement.{statement}
-use Rattle.walk.proofs.pages.mark_page.Tie as tie
+use Rattle.walk.proofs.run.mark_page.Statement.{statement}
+use Rattle.walk.proofs.run.mark_page.Tie as tie
 
 mark-requires : tie.Need-mark-requires
 mark-requires c κs = let s = c .before .before .before in let i = below-top _ _ _ _ (s .pre .1) in omega (arith, s .pre .0 .room)

@@ -7,8 +7,8 @@ use Rattle.book.specs.Words.{vol}
 use Rattle.walk.specs.Walked.{WalkedOn}
 use Rattle.walk.proofs.Walks.{rowOf, row-start, row-on, row-met, row-end}
 use Rattle.walk.proofs.Runs.{runOf, run-walking, page-below, page-weigh}
-use Rattle.walk.proofs.roots.mark_run.Statement.{statement}
-use Rattle.walk.proofs.roots.mark_run.Tie as tie
+use Rattle.walk.proofs.run.mark_each.Statement.{statement}
+use Rattle.walk.proofs.run.mark_each.Tie as tie
 
 abbrev Inv-loop : tie.InvT-loop
 Inv-loop img marks₀ start count visited v₀ i₀ marks v i = (i ≤ count) × WalkedOn (pages img) marks₀ visited (rowOf (runOf start) i) marks v
@@ -60,8 +60,8 @@ same-length c = search needs
 same-length-2 : tie.Need-same-length-2 Inv-loop μ-loop
 same-length-2 c = search needs
 
-pub mark-run-spec : {M : Type 1} → statement M
-mark-run-spec =
+pub mark-each-spec : {M : Type 1} → statement M
+mark-each-spec =
     tie.close
     (tie.spec
     Inv-loop
