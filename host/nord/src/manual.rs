@@ -1,5 +1,7 @@
 //! The manual page, made from the arguments' definitions, so that no command is forgotten in it.
 
+mod json;
+
 use crate::answers;
 use crate::args::Cli;
 use crate::limits::{most_pages, pages_to_a_bit_page};
@@ -27,6 +29,7 @@ pub fn page() -> String {
     page.push_str(NAMES);
     page.push_str(FILES);
     page.push_str(STATUS);
+    page.push_str(json::JSON);
     page.push_str(UNSOUND);
     page.push_str(SALVAGE);
     page.push_str(".SH RULES OF A SOUND IMAGE\nRefusal 3 names the lowest broken rule of these. P is the number of pages.\n");
@@ -134,27 +137,9 @@ An image is a file of 8 to "#,
 calls are proved against the rules of the file system, on a copy in memory; then the image file is replaced whole. A command that is refused,
 fails or is killed leaves the image as it was, or as the whole command makes it.
 .PP
-With
+Long work shows a bar on a terminal. With
 .B \-\-json
-the answer is one object on standard output: "number" is 0 and the rest says what was done; of a refusal it has "number", "rule" and "refusal"
-in words, of a failure of the host "error" and "status". Of refusal 3 it has also "sentence" (the rule), "page" and "word" (its first broken place),
-"first" and "second" (the page's first two holders with rule 8, free else: "kind", "user", "file", "position");
-.B nord check
-adds "what" (what the words there are), "there" (what they are now, with "leftovers" where something stands behind the end of a name), "expected"
-(in words, and "from" and "to" where numbers of one range are right) and the holders' names. Of refusal 12 it has also "to", and of the first name
-or type in the way "field" ("volume", "user", "name" or "type"), "user" and "file" (their indexes, or null), "name", "fill" ("zeros", "apostrophe" or
-"leftovers"), "behind" (the bytes behind it, in hexadecimal), "leftovers" (as characters, or null), "page" and "word"; then "in_the_way", how many
-are, and "short", how many short names and types there are of each fill. Of refusal 13 it has also "users", who hold more than they were given ("user",
-"name", "holds", "given"), then "pages", "given" and "system" of the whole volume, and "below_zero", by how much unreserved would be. Long work shows
-a bar on a terminal.
-.PP
-.B nord salvage
-answers with "changed" and "changes", every changed word ("page", "word", "old", "new") by page and word; "users", those whose used count changes ("user",
-"name", "old", "new"); "unreserved" ("old", "new"); "held", the pages marked free that are held; "orphans", the pages reserved that nobody holds;
-"dry_run", "replaced" (whether the image file was), "folder" and "written" (where the orphans are, and how many files were written; null without
-.BR \-\-orphans ).
-.B nord check
-of an unsound image has "salvage": "mends", and then "changed" and "orphans", how many, or else "number", "rule" and "why".
+a command answers with an object for programs, of which JSON below tells.
 .SH COMMANDS
 "#
 );

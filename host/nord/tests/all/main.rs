@@ -10,6 +10,7 @@ mod full;
 mod help;
 mod host;
 mod import;
+mod json;
 mod killed;
 mod listing;
 mod names;
