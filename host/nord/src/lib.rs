@@ -4,6 +4,7 @@
 pub mod answers;
 pub mod args;
 pub mod broken;
+pub mod chunks;
 pub mod commands;
 pub mod convert;
 pub mod failure;
@@ -20,6 +21,8 @@ pub mod progress;
 pub mod replace;
 pub mod salvage;
 pub mod store;
+pub mod structure;
+pub mod swapped;
 pub mod volume;
 pub mod volume_json;
 

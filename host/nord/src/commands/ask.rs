@@ -7,17 +7,17 @@ use crate::failure::Failure;
 use crate::names::{FileName, UserName, Within};
 use crate::salvage::CanMend;
 use crate::volume::{Disk, Holder};
-use crate::{store, volume, volume_json};
+use crate::{store, swapped, volume, volume_json};
 use proved::{HolderReply, Reply};
 use serde_json::json;
 
 pub fn check(at: &Ask) -> Result<Answer, Failure> {
-    let image = store::read(&at.image)?;
-    let reply = proved::check(&image);
+    let (image, reply) = store::checked(&at.image)?;
     let visits = done(reply, Call::Check, "").map_err(|refusal| match refusal.number {
         3 => {
             let told = Broken::of(&image, reply).tell(refusal, &at.image);
-            CanMend::of(&image, reply).tell(told, &at.image)
+            let told = CanMend::of(&image, reply).tell(told, &at.image);
+            swapped::tell(told, &image, &at.image)
         }
         _ => refusal,
     })?;
