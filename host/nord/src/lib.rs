@@ -8,6 +8,7 @@ pub mod chunks;
 pub mod commands;
 pub mod convert;
 pub mod failure;
+pub mod image;
 mod limits;
 pub mod lock;
 pub mod manual;

@@ -2,6 +2,7 @@
 
 use crate::answers::Refusal;
 use crate::failure::{of_file, Failure};
+use crate::image::Image;
 use crate::replace::Fresh;
 use crate::{chunks, lock, pause, replace, structure};
 use proved::Reply;
@@ -42,8 +43,16 @@ fn open(path: &Path) -> Result<Source, Failure> {
     })
 }
 
+/// The image's name in a command that is shown: what came by standard input has none.
+pub fn shown(path: &Path) -> &Path {
+    match path == Path::new(STANDARD) {
+        true => Path::new("IMAGE"),
+        false => path,
+    }
+}
+
 /// The words of an image that is only asked. No lock: writers put another file in its place and leave this one alone.
-pub fn read(path: &Path) -> Result<Vec<u16>, Failure> {
+pub fn read(path: &Path) -> Result<Image, Failure> {
     match open(path)? {
         Source::Plain(file) => contents(&file, path),
         Source::Pipe(mut pipe) => piped(&mut pipe, path),
@@ -51,7 +60,7 @@ pub fn read(path: &Path) -> Result<Vec<u16>, Failure> {
 }
 
 /// The image and the library's check of it. Of a large file that is sound no more is read than the rules speak of, and the rest is zeros.
-pub fn checked(path: &Path) -> Result<(Vec<u16>, Reply), Failure> {
+pub fn checked(path: &Path) -> Result<(Image, Reply), Failure> {
     let image = match open(path)? {
         Source::Plain(file) => {
             let part = undisturbed(&file, path, structure::read)?;
@@ -93,7 +102,7 @@ pub fn change_or_keep<T>(path: &Path, wait: u64, work: impl FnOnce(&mut [u16]) -
     replace::sweep(path);
     let before = contents(&file, path)?;
     pause::at("read");
-    let mut image = before.clone();
+    let mut image = before.copy();
     let (answer, then) = work(&mut image)?;
     if then == Then::Keep {
         return Ok(answer);
@@ -152,9 +161,9 @@ fn unchanged(file: &File, path: &Path, before: &[u16]) -> Result<(), Failure> {
 }
 
 /// All words of the file.
-fn contents(file: &File, path: &Path) -> Result<Vec<u16>, Failure> {
+fn contents(file: &File, path: &Path) -> Result<Image, Failure> {
     undisturbed(file, path, |file, count| {
-        let mut words = vec![0; count];
+        let mut words = Image::full(count);
         chunks::read(file, 0, &mut words)?;
         Ok(words)
     })
@@ -192,13 +201,13 @@ fn long_enough<T>(read: io::Result<T>, path: &Path) -> Result<Option<T>, Failure
 }
 
 /// All words of a pipe. Of one that is longer than any image no more is read than shows that.
-fn piped(pipe: &mut impl Read, path: &Path) -> Result<Vec<u16>, Failure> {
+fn piped(pipe: &mut impl Read, path: &Path) -> Result<Image, Failure> {
     let (words, odd) = chunks::read_to_end(pipe, MOST as usize / 2).map_err(of_file(path))?;
     let length = 2 * words.len() as u64 + u64::from(odd);
     match length {
         _ if length > MOST => Err(Refusal::length(length).with("or more").into()),
         _ if odd => Err(Refusal::length(length).into()),
-        _ => Ok(words),
+        _ => Ok(words.into()),
     }
 }
 

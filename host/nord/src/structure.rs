@@ -5,6 +5,7 @@
 //! refuses is read whole and judged again.
 
 use crate::chunks;
+use crate::image::Image;
 use crate::volume::{Disk, Pointer, ENTRIES_TO_A_PAGE, OBJECT_BLOCKS, SLOTS, USER_PAGES};
 use proved::PAGE;
 use std::fs::File;
@@ -22,7 +23,7 @@ const APART: u32 = 4;
 /// An image as far as it was read.
 pub struct Partial {
     /// Pages that were not read are zeros.
-    pub words: Vec<u16>,
+    pub words: Image,
     /// Whether all was read.
     pub whole: bool,
 }
@@ -32,7 +33,7 @@ const STAGES: [fn(Disk) -> Vec<u32>; 6] = [master, systems, blocks, object_pages
 
 /// The pages of an image of so many words that the rules speak of; small or crowded, the whole image.
 pub fn read(file: &File, words: usize) -> io::Result<Partial> {
-    let mut image = vec![0; words];
+    let mut image = Image::zeros(words);
     let pages = words / PAGE;
     for stage in STAGES {
         let mut wanted = stage(Disk::new(&image));
@@ -40,8 +41,7 @@ pub fn read(file: &File, words: usize) -> io::Result<Partial> {
         wanted.sort_unstable();
         wanted.dedup();
         if pages < LEAST || wanted.len() > pages / SHARE {
-            chunks::read(file, 0, &mut image)?;
-            return Ok(Partial { words: image, whole: true });
+            return whole(file, words);
         }
         for run in wanted.chunk_by(|page, next| next - page < APART) {
             let (first, last) = (run[0] as usize, run[run.len() - 1] as usize);
@@ -52,6 +52,13 @@ pub fn read(file: &File, words: usize) -> io::Result<Partial> {
         words: image,
         whole: false,
     })
+}
+
+/// In memory of its own: where some small pages were touched, large ones are no longer to be had.
+fn whole(file: &File, words: usize) -> io::Result<Partial> {
+    let mut image = Image::full(words);
+    chunks::read(file, 0, &mut image)?;
+    Ok(Partial { words: image, whole: true })
 }
 
 fn master(_: Disk) -> Vec<u32> {

@@ -15,9 +15,10 @@ pub fn check(at: &Ask) -> Result<Answer, Failure> {
     let (image, reply) = store::checked(&at.image)?;
     let visits = done(reply, Call::Check, "").map_err(|refusal| match refusal.number {
         3 => {
-            let told = Broken::of(&image, reply).tell(refusal, &at.image);
-            let told = CanMend::of(&image, reply).tell(told, &at.image);
-            swapped::tell(told, &image, &at.image)
+            let path = store::shown(&at.image);
+            let told = Broken::of(&image, reply).tell(refusal, path);
+            let told = CanMend::of(&image, reply).tell(told, path);
+            swapped::tell(told, &image, path)
         }
         _ => refusal,
     })?;
@@ -29,8 +30,8 @@ pub fn check(at: &Ask) -> Result<Answer, Failure> {
 }
 
 pub fn list(at: &Ask) -> Result<Answer, Failure> {
-    let image = store::read(&at.image)?;
-    done(proved::check(&image), Call::Check, "")?;
+    let (image, reply) = store::checked(&at.image)?;
+    done(reply, Call::Check, "")?;
     Ok(Answer {
         text: String::from_utf8_lossy(&proved::list(&image)).into_owned(),
         ..Answer::new("", volume_json::json(&volume::read(&image)))

@@ -13,8 +13,8 @@ use std::path::Path;
 const WIDTH: usize = 80;
 
 pub fn map(at: &Ask, svg: Option<&Path>, width: Option<u32>, colour: Colour) -> Result<Answer, Failure> {
-    let image = store::read(&at.image)?;
-    done(proved::check(&image), Call::Check, "")?;
+    let (image, reply) = store::checked(&at.image)?;
+    done(reply, Call::Check, "")?;
     let (volume, holders) = (volume::read(&image), volume::holders(&image));
     let json = if at.json { json(&volume, &holders) } else { Value::Null };
     match svg {

@@ -196,6 +196,25 @@ mod paused {
         }
     }
 
+    #[test]
+    fn an_image_that_is_overwritten_while_it_is_read() {
+        for (pages, line) in [154, 2000]
+            .into_iter()
+            .flat_map(|pages| ["check IMAGE", "page IMAGE 0"].map(|line| (pages, line)))
+        {
+            let (_folder, image) = disk(pages, 50);
+            let paused = Paused::start(&image, line, "reading");
+            let file = std::fs::File::options().write(true).open(&image).unwrap();
+            std::os::unix::fs::FileExt::write_all_at(&file, &[1], 2048 * u64::from(pages) - 1).unwrap();
+            let (status, said) = paused.end();
+            assert_eq!(
+                (status, said.ends_with("has changed it while it was read\n")),
+                (75, true),
+                "{line}: {said}"
+            );
+        }
+    }
+
     /// A program that knows nothing of the lock changes the image while a command is at work.
     fn meanwhile(change: impl Fn(&Path), stage: &str) -> (i32, String) {
         let (folder, image) = disk(154, 50);
