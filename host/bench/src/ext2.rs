@@ -87,7 +87,13 @@ pub fn own_child(task: &str, image: &Path) -> io::Result<Command> {
     Ok(command)
 }
 
-/// Figures of the check beside e2fsck: in process, as a process that reads and swaps a file, and as one that maps a file.
+/// The command nord, if it was built beside this program.
+fn nord() -> Option<PathBuf> {
+    let path = std::env::current_exe().ok()?.with_file_name("nord");
+    path.exists().then_some(path)
+}
+
+/// Figures of the check beside e2fsck: in process, as a process that reads and swaps a file, as one that maps a file, and as the command.
 pub struct Beside {
     /// The files and blocks that e2fsck counts in its image.
     pub content: String,
@@ -98,6 +104,8 @@ pub struct Beside {
     pub check_ratio: Spread,
     pub reading_ratio: Spread,
     pub mapping_ratio: Spread,
+    /// The command's time and ratio, if it is there.
+    pub nord: Option<(f64, Spread)>,
 }
 
 /// The last line of e2fsck, without the image's name.
@@ -123,6 +131,7 @@ fn beside(content: String, times: &[Times]) -> Beside {
         check_ratio: ratio(0),
         reading_ratio: ratio(1),
         mapping_ratio: ratio(2),
+        nord: (times.len() > 4).then(|| (median(4), ratio(4))),
     }
 }
 
@@ -139,7 +148,14 @@ pub fn contest(scratch: &Scratch, volume: &Volume, effort: Effort) -> io::Result
     });
     let reading = process(own_child("check-file", &house)?);
     let mapping = process(own_child("check-mapped", &native)?);
-    let times = race(&mut [check, reading, mapping, process(fsck)], effort);
+    let mut sides = vec![check, reading, mapping, process(fsck)];
+    if let Some(nord) = nord() {
+        let mut command = Command::new(nord);
+        command.arg("check").arg(&house);
+        sides.push(process(command));
+    }
+    let times = race(&mut sides, effort);
+    drop(sides);
     let content = content(&ext2)?;
     [ext2, house].iter().try_for_each(fs::remove_file)?;
     Ok(beside(content, &times))

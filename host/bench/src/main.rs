@@ -12,6 +12,7 @@ use std::process::ExitCode;
 const USE: &str = "bench [--quick] [--output FILE.md]
 bench searches                   the part on volumes that are nearly full, alone
 bench salvage                    the part on salvage, alone
+bench beside                     the part on e2fsck, alone
 bench packs                      the part on packs of 37,035 and 140,733 pages, alone
 bench machine                    the machine and the tools
 bench volumes FOLDER             writes the volumes there, for the next three
@@ -74,6 +75,7 @@ fn main() -> ExitCode {
         }
         ["searches"] => parts::run_searches(Plan::thorough()).map(drop),
         ["salvage"] => parts::run_salvage(Plan::thorough()).map(drop),
+        ["beside"] => parts::run_beside(Plan::thorough()).map(drop),
         ["packs"] => parts::run_packs(Plan::thorough()).map(drop),
         ["volumes", folder] => write_volumes(folder),
         ["check-file", image] => children::check_file(Path::new(image)).and_then(verdict),

@@ -46,6 +46,11 @@ fn a_quick_run_prints_every_table() {
         12,
         "four volumes and two packs, sound and stale"
     );
+    let nord = goals("nord check as a process, time over e2fsck's");
+    assert!(
+        nord == 6 || text.contains("Left out: e2fsck") || (text.contains("not built") && std::env::var_os("NORD_GATE").is_none()),
+        "{nord}: four volumes and two packs"
+    );
     let beside = goals("salvage, process over e2fsck's that mends");
     assert!(
         matches!(beside, 4 | 8) || text.contains("Left out: e2fsck"),

@@ -169,6 +169,12 @@ impl Refusal {
         self
     }
 
+    /// The same refusal with one line more under its words.
+    pub fn also(mut self, line: String) -> Refusal {
+        self.more.push(line);
+        self
+    }
+
     /// The same refusal with other lines under its words.
     pub fn over(mut self, more: Vec<String>) -> Refusal {
         self.more = more;

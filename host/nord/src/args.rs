@@ -29,7 +29,7 @@ A refused or failed command leaves the image as it was. `nord help COMMAND` has 
 /// A command that asks an image and changes nothing.
 #[derive(Args, Debug)]
 pub struct Ask {
-    /// The image file
+    /// The image file; for a command that asks, - is standard input
     pub image: PathBuf,
     /// Answer with a JSON object
     #[arg(long)]

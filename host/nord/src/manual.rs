@@ -211,6 +211,13 @@ The new image is written to
 .I .IMAGE.nord\-PROCESS
 in the image's folder, synced, and renamed over the image; then the folder is synced. Owner and permissions are kept. What a killed run has left
 is removed by the next one that changes the image. The image is locked (flock) while a command changes it; a second one waits.
+.PP
+An image that is a symbolic link is replaced where the link leads to. Other names of the image file (hard links) keep the old image, as the new one is
+another file: the command says on standard error how many there are.
+.PP
+A command that asks (check, list, find, address, who, page, map, read) takes
+.B \-
+for the image and reads standard input to its end; so it does with a pipe or a device at a path. A command that changes wants a file.
 "#;
 
 const UNSOUND: &str = r#".SH UNSOUND IMAGES
@@ -218,7 +225,8 @@ A rule is judged only where all lower ones hold. Refusal 3 tells the lowest brok
 the library that is proved says which.
 .B nord check
 says what the words there are, what stands there and what was expected; with rule 8, which two hold the page. A number of two words, a pointer and
-a name are one thing, whose place is their first word.
+a name are one thing, whose place is their first word. An image that is sound with the two bytes of each word exchanged has the low byte first; the
+check says so (in JSON "swapped": true), and how to convert it.
 .PP
 .B nord page
 shows any page of any image. A line has the word's number, decimal and octal, its value, octal and decimal, its two bytes as characters, and what

@@ -2,7 +2,7 @@
 //! rename the old file is there, after it the new one.
 
 use crate::failure::{of_file, Failure};
-use crate::pause;
+use crate::{chunks, pause};
 use std::fs::{self, File, Metadata, OpenOptions, Permissions};
 use std::io::{self, Write};
 use std::os::unix::fs::{fchown, MetadataExt, OpenOptionsExt, PermissionsExt};
@@ -50,10 +50,19 @@ impl Fresh {
 
     /// Writes the bytes and waits until they are on the disk.
     pub fn fill(&mut self, bytes: &[u8]) -> Result<(), Failure> {
-        let (first, rest) = bytes.split_at(bytes.len() / 2);
-        self.file.write_all(first).map_err(not_written(&self.target))?;
+        self.fill_by_halves(bytes, |file, half| file.write_all(half))
+    }
+
+    /// The same with words, the high byte first.
+    pub fn fill_with_words(&mut self, words: &[u16]) -> Result<(), Failure> {
+        self.fill_by_halves(words, chunks::write)
+    }
+
+    fn fill_by_halves<T>(&mut self, whole: &[T], write: impl Fn(&mut File, &[T]) -> io::Result<()>) -> Result<(), Failure> {
+        let (first, rest) = whole.split_at(whole.len() / 2);
+        write(&mut self.file, first).map_err(not_written(&self.target))?;
         pause::at("half");
-        self.file.write_all(rest).map_err(not_written(&self.target))?;
+        write(&mut self.file, rest).map_err(not_written(&self.target))?;
         pause::at("written");
         self.file.sync_all().map_err(not_written(&self.target))?;
         pause::at("synced");
@@ -136,7 +145,8 @@ fn prefix(target: &Path) -> String {
     format!(".{}.nord-", target.file_name().unwrap_or_default().to_string_lossy())
 }
 
-fn folder(target: &Path) -> &Path {
+/// The folder that a file is in.
+pub fn folder(target: &Path) -> &Path {
     match target.parent() {
         Some(parent) if parent != Path::new("") => parent,
         _ => Path::new("."),

@@ -2,21 +2,60 @@
 
 use crate::answers::Refusal;
 use crate::failure::{of_file, Failure};
+use crate::image::Image;
 use crate::replace::Fresh;
-use crate::{lock, pause, replace};
+use crate::{chunks, lock, pause, replace};
 use std::fs::{self, File};
-use std::io::{Read, Seek};
+use std::io::{self, Read};
+use std::os::unix::fs::MetadataExt;
 use std::path::Path;
 use std::time::Duration;
 
 /// The bytes of a page.
 pub const PAGE: usize = 2 * proved::PAGE;
 
-/// The words of an image that is only asked. No lock: writers put another file in its place and leave this one alone.
-pub fn read(path: &Path) -> Result<Vec<u16>, Failure> {
-    regular(path)?;
+/// The bytes of the largest image.
+const MOST: u64 = (proved::MOST_PAGES * PAGE) as u64;
+
+/// Standard input in the place of an image file.
+pub const STANDARD: &str = "-";
+
+/// Where the bytes of an image come from: a file, whose length is known and that stays, or a pipe or a device, which is read to its end.
+enum Source {
+    Plain(File),
+    Pipe(Box<dyn Read>),
+}
+
+/// The image at a path, to be asked: for `-` standard input. A folder is none.
+fn open(path: &Path) -> Result<Source, Failure> {
+    if path == Path::new(STANDARD) {
+        return Ok(Source::Pipe(Box::new(io::stdin().lock())));
+    }
+    let kind = fs::metadata(path).map_err(of_file(path))?.file_type();
+    if kind.is_dir() {
+        return Err(no_file(path));
+    }
     let file = File::open(path).map_err(of_file(path))?;
-    Ok(words(&contents(&file, path)?))
+    Ok(match kind.is_file() {
+        true => Source::Plain(file),
+        false => Source::Pipe(Box::new(file)),
+    })
+}
+
+/// The image's name in a command that is shown: what came by standard input has none.
+pub fn shown(path: &Path) -> &Path {
+    match path == Path::new(STANDARD) {
+        true => Path::new("IMAGE"),
+        false => path,
+    }
+}
+
+/// The words of an image that is only asked. No lock: writers put another file in its place and leave this one alone.
+pub fn read(path: &Path) -> Result<Image, Failure> {
+    match open(path)? {
+        Source::Plain(file) => contents(&file, path),
+        Source::Pipe(mut pipe) => piped(&mut pipe, path),
+    }
 }
 
 /// What becomes of the image after work that is done.
@@ -33,7 +72,11 @@ pub fn change<T>(path: &Path, wait: u64, work: impl FnOnce(&mut [u16]) -> Result
 
 /// The same for work that says whether there is anything to replace the image for.
 pub fn change_or_keep<T>(path: &Path, wait: u64, work: impl FnOnce(&mut [u16]) -> Result<(T, Then), Failure>) -> Result<T, Failure> {
-    regular(path)?;
+    named(path)?;
+    let given = path;
+    if !fs::metadata(path).map_err(of_file(path))?.is_file() {
+        return Err(no_file(path));
+    }
     // A link is followed, so that the image is replaced and not the link.
     let path = &fs::canonicalize(path).map_err(of_file(path))?;
     let file = lock::take(path, Duration::from_secs(wait))?;
@@ -41,43 +84,76 @@ pub fn change_or_keep<T>(path: &Path, wait: u64, work: impl FnOnce(&mut [u16]) -
     replace::sweep(path);
     let before = contents(&file, path)?;
     pause::at("read");
-    let mut image = words(&before);
+    let mut image = before.copy();
     let (answer, then) = work(&mut image)?;
     if then == Then::Keep {
         return Ok(answer);
     }
     let mut fresh = Fresh::beside(path, Some(&file.metadata().map_err(of_file(path))?))?;
-    fresh.fill(&bytes(&image))?;
+    fresh.fill_with_words(&image)?;
     unchanged(&file, path, &before)?;
     fresh.put()?;
+    tell_other_names(&file, given);
     Ok(answer)
 }
 
 /// Makes an image file where there is none.
 pub fn create(path: &Path, image: &[u16]) -> Result<(), Failure> {
+    named(path)?;
     replace::sweep(path);
     let mut fresh = Fresh::beside(path, None)?;
-    fresh.fill(&bytes(image))?;
+    fresh.fill_with_words(image)?;
     fresh.put_new()
 }
 
-/// The image is still the file that was read, byte for byte; programs that know nothing of the lock may have changed it.
-fn unchanged(file: &File, path: &Path, before: &[u8]) -> Result<(), Failure> {
-    let changed = || {
-        Failure::Busy(format!(
-            "{}: another program has changed it meanwhile; it is left as that program made it",
-            path.display()
-        ))
-    };
-    let same_length = file.metadata().map_err(of_file(path))?.len() == before.len() as u64;
-    match same_length && lock::is_at(file, path)? && contents(file, path)? == before {
-        true => Ok(()),
-        false => Err(changed()),
+/// What is written has to have a name: standard input cannot be replaced.
+fn named(path: &Path) -> Result<(), Failure> {
+    match path == Path::new(STANDARD) {
+        true => Err(Failure::Usage(
+            "-: only a command that asks reads its image from standard input; one that writes an image needs a file (./- is one of that name)"
+                .to_string(),
+        )),
+        false => Ok(()),
     }
 }
 
-/// All bytes of the file. A length that the library cannot be asked about is refused as the library would.
-fn contents(mut file: &File, path: &Path) -> Result<Vec<u8>, Failure> {
+/// Says that the file whose place was taken has other names, which keep the old image.
+fn tell_other_names(old: &File, path: &Path) {
+    let names = match old.metadata().map_or(0, |old| old.nlink()) {
+        0 => return,
+        1 => "1 other name of the old file (hard link) keeps".to_string(),
+        more => format!("{more} other names of the old file (hard links) keep"),
+    };
+    eprintln!("nord: {}: {names} the old image", path.display());
+}
+
+/// The image is still the file that was read, byte for byte; programs that know nothing of the lock may have changed it.
+fn unchanged(file: &File, path: &Path, before: &[u16]) -> Result<(), Failure> {
+    let length = file.metadata().map_err(of_file(path))?.len();
+    let same = length == 2 * before.len() as u64
+        && lock::is_at(file, path)?
+        && long_enough(chunks::begins_with(file, before), path)?.unwrap_or(false);
+    match same {
+        true => Ok(()),
+        false => Err(Failure::Busy(format!(
+            "{}: another program has changed it meanwhile; it is left as that program made it",
+            path.display()
+        ))),
+    }
+}
+
+/// All words of the file.
+fn contents(file: &File, path: &Path) -> Result<Image, Failure> {
+    undisturbed(file, path, |file, count| {
+        let mut words = Image::full(count);
+        chunks::read(file, 0, &mut words)?;
+        Ok(words)
+    })
+}
+
+/// What is read of a file of so many words while nobody changes it. A length that the library cannot be asked about is refused as the library
+/// would.
+fn undisturbed<T>(file: &File, path: &Path, read: impl Fn(&File, usize) -> io::Result<T>) -> Result<T, Failure> {
     let stamp = || {
         file.metadata()
             .and_then(|now| Ok((now.len(), now.modified()?)))
@@ -85,41 +161,53 @@ fn contents(mut file: &File, path: &Path) -> Result<Vec<u8>, Failure> {
     };
     let at_first = stamp()?;
     let length = at_first.0;
-    if length % 2 != 0 || length > (proved::MOST_PAGES * PAGE) as u64 {
+    if length % 2 != 0 || length > MOST {
         return Err(Refusal::length(length).into());
     }
     pause::at("reading");
-    let mut bytes = Vec::with_capacity(length as usize);
-    file.rewind()
-        .and_then(|()| file.take(length + 1).read_to_end(&mut bytes))
-        .map_err(of_file(path))?;
-    match bytes.len() as u64 == length && stamp()? == at_first {
-        true => Ok(bytes),
-        false => Err(Failure::Busy(format!(
+    match long_enough(read(file, length as usize / 2), path)? {
+        Some(read) if stamp()? == at_first => Ok(read),
+        _ => Err(Failure::Busy(format!(
             "{}: another program has changed it while it was read",
             path.display()
         ))),
     }
 }
 
-/// A folder, a device or a pipe is no image.
-fn regular(path: &Path) -> Result<(), Failure> {
-    match fs::metadata(path).map_err(of_file(path))?.is_file() {
-        true => Ok(()),
-        false => Err(Failure::Host(format!("{}: not a file", path.display()))),
+/// What came of reading a file, unless it was shorter than it was before.
+fn long_enough<T>(read: io::Result<T>, path: &Path) -> Result<Option<T>, Failure> {
+    match read {
+        Err(error) if error.kind() == io::ErrorKind::UnexpectedEof => Ok(None),
+        read => read.map(Some).map_err(of_file(path)),
     }
+}
+
+/// All words of a pipe. Of one that is longer than any image no more is read than shows that.
+fn piped(pipe: &mut impl Read, path: &Path) -> Result<Image, Failure> {
+    let (words, odd) = chunks::read_to_end(pipe, MOST as usize / 2).map_err(of_file(path))?;
+    let length = 2 * words.len() as u64 + u64::from(odd);
+    match length {
+        _ if length > MOST => Err(Refusal::length(length).with("or more").into()),
+        _ if odd => Err(Refusal::length(length).into()),
+        _ => Ok(words.into()),
+    }
+}
+
+/// A folder is no image; a device or a pipe is none that can be replaced.
+fn no_file(path: &Path) -> Failure {
+    Failure::Host(format!("{}: not a file", path.display()))
 }
 
 /// Bytes as words, the high byte first.
 pub fn words(bytes: &[u8]) -> Vec<u16> {
-    bytes.chunks_exact(2).map(|pair| u16::from_be_bytes([pair[0], pair[1]])).collect()
+    let mut words = vec![0; bytes.len() / 2];
+    chunks::to_words(bytes, &mut words);
+    words
 }
 
 /// Words as bytes, the high byte first.
 pub fn bytes(words: &[u16]) -> Vec<u8> {
     let mut bytes = vec![0; 2 * words.len()];
-    for (pair, word) in bytes.chunks_exact_mut(2).zip(words) {
-        pair.copy_from_slice(&word.to_be_bytes());
-    }
+    chunks::to_bytes(words, &mut bytes);
     bytes
 }

@@ -12,7 +12,8 @@ const NOTE: &str =
     "`e2fsck -fn` is a whole process on an ext2 image of 2,048-byte blocks (a page is 2,048 bytes, so both have the same data \
     blocks), with the same number of files and bytes. Beside it, in the same rounds: the check in memory; a process that reads the whole \
     image file, swaps its bytes to this machine's order and checks it; and a process that maps an image file in this machine's order and \
-    checks it. All files are in the page cache.";
+    checks it; and the command `nord check` on an image file, which reads it whole and swaps its bytes in one pass, by all cores. \
+    All files are in the page cache.";
 
 pub fn measure(run: &mut Run, volumes: &[Volume]) -> io::Result<()> {
     if version().is_none() {
@@ -43,6 +44,8 @@ pub fn table(title: &'static str) -> Table {
         "/ e2fsck",
         "process that maps",
         "/ e2fsck",
+        "nord check",
+        "/ e2fsck",
     ];
     Table::new(title, NOTE, &head)
 }
@@ -62,11 +65,22 @@ pub fn of_volume(run: &mut Run, table: &mut Table, volume: &Volume) -> io::Resul
         run.goals
             .at_most("check, time over e2fsck's", &on, ratio.median, 0.5, ratio.to_string());
     }
+    if let Some((_, ratio)) = beside.nord {
+        run.goals.at_most(
+            "nord check as a process, time over e2fsck's",
+            &volume.name,
+            ratio.median,
+            1.0,
+            ratio.to_string(),
+        );
+    }
     Ok(())
 }
 
 fn row(volume: &Volume, beside: &Beside) -> Vec<String> {
-    vec![
+    let absent = || ["not built".to_string(), String::new()];
+    let nord = beside.nord.map_or_else(absent, |(time, ratio)| [show(time), ratio.to_string()]);
+    let row = vec![
         volume.name.clone(),
         beside.content.clone(),
         show(beside.e2fsck),
@@ -76,5 +90,6 @@ fn row(volume: &Volume, beside: &Beside) -> Vec<String> {
         beside.reading_ratio.to_string(),
         show(beside.mapping),
         beside.mapping_ratio.to_string(),
-    ]
+    ];
+    [row, nord.to_vec()].concat()
 }

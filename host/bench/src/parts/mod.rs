@@ -127,6 +127,15 @@ pub fn run_salvage(plan: Plan) -> io::Result<Report> {
     Ok(run.ended())
 }
 
+/// Does the part on e2fsck alone; gives the report.
+pub fn run_beside(plan: Plan) -> io::Result<Report> {
+    let mut run = Run::new(plan)?;
+    let volumes = volumes(run.plan.large);
+    run.report.add(contents(volumes.iter()));
+    beside::measure(&mut run, &volumes)?;
+    Ok(run.ended())
+}
+
 /// Does the part on packs alone; gives the report.
 pub fn run_packs(plan: Plan) -> io::Result<Report> {
     let mut run = Run::new(plan)?;

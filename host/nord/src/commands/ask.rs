@@ -10,7 +10,7 @@ use crate::salvage::CanMend;
 use crate::typed::Number;
 use crate::volume::{Disk, Holder};
 use crate::volume_json::{self, Listed};
-use crate::{session, volume};
+use crate::{session, store, swapped, volume};
 use proved::{call, HolderReply, Reply};
 use serde::Serialize;
 
@@ -26,8 +26,10 @@ pub fn check(image: &[u16], at: &Ask) -> Result<Answer, Failure> {
     let reply = proved::check(image);
     let visits = done(reply, Call::Check, "").map_err(|refusal| match refusal.number {
         3 => {
-            let told = Broken::of(image, reply).tell(refusal, &at.image);
-            CanMend::of(image, reply).tell(told, &at.image)
+            let path = store::shown(&at.image);
+            let told = Broken::of(image, reply).tell(refusal, path);
+            let told = CanMend::of(image, reply).tell(told, path);
+            swapped::tell(told, image, path)
         }
         _ => refusal,
     })?;

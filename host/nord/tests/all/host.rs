@@ -198,24 +198,69 @@ fn a_link_to_an_image_stays_a_link() {
     assert_eq!(folder.names(), ["disk.img", "else"]);
 }
 
+/// What a command says on standard error though it is done.
+fn said(image: &Path, line: &str) -> String {
+    let run = run(image, line);
+    assert_eq!(run.status, 0, "{line}: {}", run.err);
+    run.err
+}
+
+#[test]
+fn other_names_of_a_replaced_image_are_told() {
+    let (folder, image) = sample();
+    let before = fs::read(&image).unwrap();
+    fs::hard_link(&image, folder.path("second.img")).unwrap();
+    let names = |words: &str| format!("nord: {}: {words} the old image\n", image.display());
+    let one = names("1 other name of the old file (hard link) keeps");
+    // Where nothing is replaced there is nothing to tell.
+    assert_eq!(said(&image, "salvage IMAGE"), "");
+    assert_eq!(said(&image, "user add IMAGE FLOCK"), one);
+    assert!(fs::read(folder.path("second.img")).unwrap() == before);
+    assert_eq!(said(&image, "user add IMAGE HERD"), "");
+    for name in ["third.img", "fourth.img"] {
+        fs::hard_link(&image, folder.path(name)).unwrap();
+    }
+    let two = names("2 other names of the old file (hard links) keep");
+    assert_eq!(said(&image, "user delete IMAGE HERD"), two);
+}
+
+#[test]
+fn a_link_to_no_file_yet_is_followed() {
+    let (folder, image) = sample();
+    fs::create_dir(folder.path("else")).unwrap();
+    let (link, first) = (folder.path("link.bin"), folder.path("first.bin"));
+    symlink("else/out.bin", &link).unwrap();
+    symlink("link.bin", &first).unwrap();
+    for path in [&first, &link] {
+        done(&image, &format!("read IMAGE DOCK/READS:DATA {}", path.display()));
+        assert!(fs::symlink_metadata(path).unwrap().is_symlink());
+        let out = folder.path("else/out.bin");
+        assert_eq!(fs::read(&out).unwrap(), run(&image, "read IMAGE DOCK/READS:DATA").out);
+        fs::remove_file(out).unwrap();
+    }
+    fs::remove_dir(folder.path("else")).unwrap();
+    let read = format!("read IMAGE DOCK/READS:DATA {}", first.display());
+    let missing = format!("first.bin: the folder {}: No such file", folder.path("else").display());
+    assert!(fails(&image, &read, 74).contains(&missing));
+    fs::remove_file(&link).unwrap();
+    symlink("first.bin", &link).unwrap();
+    assert!(fails(&image, &read, 74).contains("links in a row"));
+    assert_eq!(folder.names(), ["disk.img", "first.bin", "link.bin"]);
+}
+
 #[test]
 fn what_is_no_image_file() {
     let (folder, image) = sample();
-    for (path, words) in [
-        (folder.0.clone(), "not a file"),
-        (folder.path("absent.img"), "No such file"),
-        ("/dev/null".into(), "not a file"),
+    for (path, words, asked) in [
+        (folder.0.clone(), "not a file", 74),
+        (folder.path("absent.img"), "No such file", 74),
+        // What asks reads a device to its end, which is no whole number of pages here.
+        ("/dev/null".into(), "not a file", 1),
     ] {
-        for line in ["check IMAGE", "user add IMAGE FLOCK"] {
-            let run = run(&path, line);
-            assert_eq!(
-                (run.status, run.err.contains(words)),
-                (74, true),
-                "{line} {}: {}",
-                path.display(),
-                run.err
-            );
-        }
+        let changing = run(&path, "user add IMAGE FLOCK");
+        assert_eq!((changing.status, changing.err.contains(words)), (74, true), "{}", changing.err);
+        let asking = run(&path, "check IMAGE");
+        assert_eq!((asking.status, asking.err.contains(words)), (asked, asked == 74), "{}", asking.err);
     }
     assert_eq!(run(&folder.path("absent/new.img"), "format IMAGE YARD --pages 10").status, 74);
     assert!(fails(&image, "format IMAGE YARD --pages 154", 74).contains("disk.img: is there already"));

@@ -158,11 +158,31 @@ mod paused {
         assert_eq!(folder.names(), ["disk.img"]);
     }
 
+    /// The words that were read, to see at the end that the file is still the same, and those that are changed; and some MB for the program.
+    #[test]
+    fn a_change_takes_two_times_the_image() {
+        let (_folder, image) = disk(16384, 100);
+        let paused = Paused::start(&image, "user add IMAGE FIRST", "placed");
+        let status = std::fs::read_to_string(format!("/proc/{}/status", paused.0.id())).unwrap();
+        let most = status.lines().find_map(|line| line.strip_prefix("VmHWM:")).unwrap();
+        let most: u64 = most.trim().trim_end_matches(" kB").parse().unwrap();
+        assert_eq!(paused.end(), (0, String::new()));
+        let image = std::fs::metadata(&image).unwrap().len() / 1024;
+        assert!(
+            most > 2 * image && most < 2 * image + 10_000,
+            "{most} kB for an image of {image} kB"
+        );
+    }
+
     #[test]
     fn an_image_that_changes_its_length_while_it_is_read() {
-        for length in [0, 100, 20 * 2048, 200 * 2048] {
-            for line in ["check IMAGE", "user add IMAGE FIRST"] {
-                let (_folder, image) = disk(154, 50);
+        // The larger one is checked without its data being read.
+        for (pages, length) in [154, 2000]
+            .into_iter()
+            .flat_map(|pages| [0, 100, 20 * 2048, 2200 * 2048].map(|length| (pages, length)))
+        {
+            for line in ["check IMAGE", "list IMAGE", "user add IMAGE FIRST"] {
+                let (_folder, image) = disk(pages, 50);
                 let paused = Paused::start(&image, line, "reading");
                 std::fs::File::options().write(true).open(&image).unwrap().set_len(length).unwrap();
                 let (status, said) = paused.end();
@@ -173,6 +193,25 @@ mod paused {
                 );
                 assert_eq!(std::fs::metadata(&image).unwrap().len(), length);
             }
+        }
+    }
+
+    #[test]
+    fn an_image_that_is_overwritten_while_it_is_read() {
+        for (pages, line) in [154, 2000]
+            .into_iter()
+            .flat_map(|pages| ["check IMAGE", "page IMAGE 0"].map(|line| (pages, line)))
+        {
+            let (_folder, image) = disk(pages, 50);
+            let paused = Paused::start(&image, line, "reading");
+            let file = std::fs::File::options().write(true).open(&image).unwrap();
+            std::os::unix::fs::FileExt::write_all_at(&file, &[1], 2048 * u64::from(pages) - 1).unwrap();
+            let (status, said) = paused.end();
+            assert_eq!(
+                (status, said.ends_with("has changed it while it was read\n")),
+                (75, true),
+                "{line}: {said}"
+            );
         }
     }
 
