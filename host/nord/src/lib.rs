@@ -18,8 +18,10 @@ pub mod palette;
 mod pause;
 pub mod progress;
 pub mod replace;
+pub mod rescue;
 pub mod salvage;
 pub mod store;
+pub mod unsound;
 pub mod volume;
 pub mod volume_json;
 

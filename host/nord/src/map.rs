@@ -4,9 +4,11 @@ mod cell;
 mod layout;
 mod legend;
 mod letters;
+mod page;
 mod svg;
 mod text;
 
 pub use legend::grouped;
-pub use svg::svg;
-pub use text::text;
+pub use page::{Drawing, Page};
+pub use svg::{draw, svg};
+pub use text::{text, write};

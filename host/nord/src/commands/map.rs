@@ -33,7 +33,7 @@ pub fn map(at: &Ask, svg: Option<&Path>, width: Option<u32>, colour: Colour) -> 
 }
 
 /// The width that is wanted, else the terminal's.
-fn columns(width: Option<u32>) -> usize {
+pub fn columns(width: Option<u32>) -> usize {
     match width {
         Some(width) => width as usize,
         None => Term::stdout().size_checked().map_or(WIDTH, |(_, columns)| columns.into()),
@@ -41,7 +41,7 @@ fn columns(width: Option<u32>) -> usize {
 }
 
 /// By default colours are for a terminal whose user has not set NO_COLOR.
-fn coloured(colour: Colour) -> bool {
+pub fn coloured(colour: Colour) -> bool {
     match colour {
         Colour::Always => true,
         Colour::Never => false,

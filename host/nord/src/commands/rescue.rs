@@ -1,0 +1,24 @@
+//! Files copied out of an image that may be unsound.
+
+use crate::answers::{done, Answer, Call};
+use crate::args::Ask;
+use crate::failure::Failure;
+use crate::rescue::{choose, place, Report};
+use crate::store;
+use crate::unsound::{Broken, Judge};
+use std::path::Path;
+
+/// The image needs a right length and no more; it is only read, and no lock is taken.
+pub fn rescue(at: &Ask, folder: &Path) -> Result<Answer, Failure> {
+    let image = store::read(&at.image)?;
+    let reply = proved::check(&image);
+    if reply.number != 3 {
+        done(reply, Call::Check, "")?;
+    }
+    let broken = (reply.number == 3).then(|| Broken::of(reply));
+    let judge = Judge::of(&image);
+    let choice = choose(&judge);
+    let placed = place(&image, &choice.chosen, folder)?;
+    let report = Report::of(&judge, broken, &choice, placed, folder);
+    Ok(super::unsound::answer(report.text(&at.image), &report))
+}

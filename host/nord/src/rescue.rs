@@ -1,0 +1,10 @@
+//! Files copied out of an image that may be unsound: every file whose own entry and pointers are right and whose pages nobody else holds. The
+//! others are told with the place of their first fault. The image is only read.
+
+mod chosen;
+mod placed;
+mod report;
+
+pub use chosen::{choose, Choice};
+pub use placed::{place, Placed};
+pub use report::Report;
