@@ -21,7 +21,7 @@ pub fn place(image: &[u16], files: &[Chosen], folder: &Path) -> Result<Placed, F
     let mut missing = Vec::new();
     for file in files {
         let target = folder.join(&file.path);
-        if !is_there(&target, &bytes_of(image, file))? {
+        if !is_there(&target, || bytes_of(image, file))? {
             missing.push((target, file));
         }
     }
@@ -46,11 +46,12 @@ fn bytes_of(image: &[u16], file: &Chosen) -> Vec<u8> {
 }
 
 /// Whether the file is there with these bytes; one with others is never written over.
-fn is_there(target: &Path, bytes: &[u8]) -> Result<bool, Failure> {
+fn is_there(target: &Path, bytes: impl FnOnce() -> Vec<u8>) -> Result<bool, Failure> {
     match fs::symlink_metadata(target) {
         Err(error) if error.kind() == ErrorKind::NotFound => return Ok(false),
         found => found.map_err(of_file(target))?,
     };
+    let bytes = bytes();
     let same_size = fs::metadata(target).is_ok_and(|found| found.is_file() && found.len() == bytes.len() as u64);
     match same_size && fs::read(target).map_err(of_file(target))? == bytes {
         true => Ok(true),

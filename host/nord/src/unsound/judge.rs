@@ -78,14 +78,12 @@ impl<'a> Judge<'a> {
     fn looked_at(&self, block: u32) -> Block {
         let pointers: Vec<u32> = (0..SLOTS).map(|slot| self.disk.slot(block, slot)).collect();
         let such = |such: &dyn Fn(u32) -> bool| Slots::such(|slot| such(pointers[slot as usize]));
-        let inside = such(&|page| self.disk.inside(page));
-        Block {
-            inside,
-            some: such(&|page| page != 0),
-            twice: such(&|page| self.twice.has(page)),
-            clear: such(&|page| self.clear.has(page)),
-            held: inside.count(),
-        }
+        Block::new(
+            such(&|page| self.disk.inside(page)),
+            such(&|page| page != 0),
+            such(&|page| self.twice.has(page)),
+            such(&|page| self.clear.has(page)),
+        )
     }
 
     /// "pointer 70000 is no page of 154".

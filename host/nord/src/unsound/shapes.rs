@@ -2,7 +2,7 @@
 
 use super::doubt::{Doubt, Tally};
 use super::judge::{Judge, Mark};
-use super::slots::{Block, Slots};
+use super::slots::{Block, Counted, Slots};
 use crate::volume::{Disk, Entry, Holder, Kind, Pointer, ENTRIES, ENTRIES_TO_A_PAGE, ENTRY_WORDS, SLOTS};
 
 /// The bytes of a page.
@@ -117,9 +117,8 @@ impl Judge<'_> {
     /// The wrong slots of a file's n-th index block.
     fn wrong_index(&self, file: &File, block: u32, n: u32, tally: &mut Tally) {
         let Some(slots) = self.block(block) else { return };
-        let wrong = slots.wrong(file.slots(n));
-        tally.add(wrong.count(), || {
-            let slot = wrong.first().unwrap_or(0);
+        tally.add(slots.count_wrong(file.slots(n)), || {
+            let slot = slots.wrong(file.slots(n)).first().unwrap_or(0);
             let (pointer, position) = (self.disk.slot(block, slot), SLOTS * n + slot);
             let (words, at) = match slot < file.slots(n) {
                 true => (format!("position {position}: {}", self.no_page(pointer)), Some(position)),
@@ -170,9 +169,9 @@ impl Judge<'_> {
     fn marked_index(&self, file: &File, block: u32, n: u32, mark: Mark, tally: &mut Tally) {
         let Some(slots) = self.block(block) else { return };
         self.marked_page(block, Holder::of_file(file.number, Kind::FileIndex, n), mark, tally);
-        let marked = such(slots, mark).before(file.slots(n));
-        tally.add(marked.count(), || {
-            let slot = marked.first().unwrap_or(0);
+        let marked = such(slots, mark);
+        tally.add(marked.count_before(file.slots(n)), || {
+            let slot = marked.before(file.slots(n)).first().unwrap_or(0);
             let own = Holder::of_file(file.number, Kind::FileData, SLOTS * n + slot);
             self.page_doubt(self.disk.slot(block, slot), &own, mark)
         });
@@ -248,9 +247,9 @@ impl Judge<'_> {
 }
 
 /// The slots of a block that are marked so.
-fn such(block: &Block, mark: Mark) -> Slots {
+fn such(block: &Block, mark: Mark) -> &Counted {
     match mark {
-        Mark::Twice => block.twice,
-        _ => block.clear,
+        Mark::Twice => &block.twice,
+        _ => &block.clear,
     }
 }

@@ -62,19 +62,64 @@ fn below(end: u32, n: u32) -> u64 {
 /// What the slots of a block are, and the pages that they lead to.
 pub struct Block {
     /// Those that lead to a page 1..P-1, and those that are not zero.
-    pub inside: Slots,
-    pub some: Slots,
+    inside: Slots,
+    some: Slots,
     /// Those whose page has two holders, and those whose page's bit is clear.
-    pub twice: Slots,
-    pub clear: Slots,
+    pub twice: Counted,
+    pub clear: Counted,
     /// How many lead to a page.
     pub held: u32,
 }
 
+/// Some slots of a block, and how many there are: most blocks of a file are asked for all of them.
+pub struct Counted {
+    slots: Slots,
+    count: u32,
+}
+
+impl Counted {
+    pub fn of(slots: Slots) -> Counted {
+        Counted {
+            slots,
+            count: slots.count(),
+        }
+    }
+
+    pub fn before(&self, end: u32) -> Slots {
+        self.slots.before(end)
+    }
+
+    /// How many there are before slot `end`.
+    pub fn count_before(&self, end: u32) -> u32 {
+        match end < SLOTS {
+            true => self.before(end).count(),
+            false => self.count,
+        }
+    }
+}
+
 impl Block {
+    pub fn new(inside: Slots, some: Slots, twice: Slots, clear: Slots) -> Block {
+        Block {
+            inside,
+            some,
+            twice: Counted::of(twice),
+            clear: Counted::of(clear),
+            held: inside.count(),
+        }
+    }
+
     /// The slots that are wrong where the first `end` must lead to a page and the others must be zero.
     pub fn wrong(&self, end: u32) -> Slots {
         self.inside.others().before(end).or(self.some.from(end))
+    }
+
+    /// How many these are.
+    pub fn count_wrong(&self, end: u32) -> u32 {
+        match end < SLOTS {
+            true => self.wrong(end).count(),
+            false => SLOTS - self.held,
+        }
     }
 
     /// The slots that are wrong where the first `end` may lead to a page and the others must be zero.

@@ -339,9 +339,15 @@ fn other_commands_say_the_rule_and_its_place() {
             "who IMAGE 0",
         ] {
             let (page, word) = place;
+            let look = match line.split(' ').next() {
+                Some("list" | "map" | "read" | "who") => {
+                    format!("  look      nord {} --unsound\n", line.replace("IMAGE", image.to_str().unwrap()))
+                }
+                _ => String::new(),
+            };
             let wanted = format!(
                 "nord: refused (3): the image is unsound: rule {rule} is broken at page {page}, word {word}\n  \
-                 rule {rule}: {} nord check tells more\n",
+                 rule {rule}: {} nord check tells more\n{look}",
                 nord::answers::rule(rule)
             );
             assert_eq!(fails(&image, line, 3), wanted, "{line}");
