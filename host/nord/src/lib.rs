@@ -6,6 +6,7 @@ pub mod args;
 pub mod broken;
 pub mod commands;
 pub mod convert;
+pub mod copies;
 pub mod failure;
 mod limits;
 pub mod lock;

@@ -2,9 +2,7 @@
 //! others are told with the place of their first fault. The image is only read.
 
 mod chosen;
-mod placed;
 mod report;
 
-pub use chosen::{choose, Choice};
-pub use placed::{place, Placed};
+pub use chosen::{choose, is_host_name, Choice};
 pub use report::Report;

@@ -14,6 +14,7 @@ use nord::map::{draw, write, Drawing};
 use nord::rescue::choose;
 use nord::unsound::{drawn, twins, Broken, Contents, Doubt, Judge, Listing, Who};
 use nord::volume;
+use std::path::Path;
 use std::time::Instant;
 
 /// All doubts of an image: the volume's, then each user's and his files'.
@@ -67,11 +68,11 @@ fn shown(image: &[u16], pages: &[u32]) -> usize {
     };
     let length = write(&drawing, 80, true).len() + draw(&drawing).len() + Listing::of(&judge, broken).text().len();
     let who: usize = pages.iter().map(|page| Who::of(&judge, broken, *page).text().len()).sum();
-    let choice = choose(&judge);
+    let choice = choose(&judge, Path::new("files"));
     let files = (0..256).map(|user| judge.files(user).len()).sum::<usize>();
     assert_eq!(choice.chosen.len() + choice.left.len(), files);
     for chosen in &choice.chosen {
-        assert_eq!(chosen.pages.len() as u32, chosen.file.entry.pages());
+        assert_eq!(chosen.copy.pages.len() as u32, chosen.file.entry.pages());
     }
     length + who
 }
@@ -166,7 +167,7 @@ fn files_that_share_a_tree_cost_little() {
         let start = Instant::now();
         let judge = Judge::of(&image);
         let broken = Broken::of(proved::check(&image));
-        assert_eq!(choose(&judge).left.len(), 65_536);
+        assert_eq!(choose(&judge, Path::new("files")).left.len(), 65_536);
         assert!(Listing::of(&judge, broken).doubtful() > 65_536);
         let contents = Contents::of(&judge, broken, &"@255/@255".parse().unwrap()).ok();
         let readable = (of_a_file < pages as u32).then_some(of_a_file as usize * 2048);

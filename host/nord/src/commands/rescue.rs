@@ -2,8 +2,9 @@
 
 use crate::answers::{done, Answer, Call};
 use crate::args::Ask;
+use crate::copies::{self, Sort};
 use crate::failure::Failure;
-use crate::rescue::{choose, place, Report};
+use crate::rescue::{choose, is_host_name, Report};
 use crate::store;
 use crate::unsound::{Broken, Judge};
 use std::path::Path;
@@ -17,8 +18,12 @@ pub fn rescue(at: &Ask, folder: &Path) -> Result<Answer, Failure> {
     }
     let broken = (reply.number == 3).then(|| Broken::of(reply));
     let judge = Judge::of(&image);
-    let choice = choose(&judge);
-    let placed = place(&image, &choice.chosen, folder)?;
-    let report = Report::of(&judge, broken, &choice, placed, folder);
+    let choice = choose(&judge, folder);
+    let sort = Sort {
+        nothing: "no file is copied out",
+        is_name: is_host_name,
+    };
+    let copied = copies::copy_out(&image, &choice.copies(), &sort)?;
+    let report = Report::of(&judge, broken, &choice, copied, folder);
     Ok(super::unsound::answer(report.text(&at.image), &report))
 }

@@ -1,14 +1,14 @@
 //! Which files are copied out, and which are left.
 
+use crate::copies::Wanted;
 use crate::unsound::{page_at, twins, Doubt, File, Judge};
 use crate::volume::ENTRIES;
-use std::path::PathBuf;
+use std::path::{Path, PathBuf};
 
-/// A file that is right, where it goes within the folder, and its pages.
+/// A file that is right, and its copy.
 pub struct Chosen<'a> {
     pub file: File<'a>,
-    pub path: PathBuf,
-    pub pages: Vec<u32>,
+    pub copy: Wanted,
 }
 
 /// A file that is left, with all its faults; the first is the one that is told.
@@ -24,19 +24,28 @@ pub struct Choice<'a> {
     pub left: Vec<Left<'a>>,
 }
 
-/// Parts the files by rules 6, 7 and 8. Bits and counts do not matter here.
-pub fn choose<'a>(judge: &Judge<'a>) -> Choice<'a> {
+impl Choice<'_> {
+    /// The copies of all files that are right.
+    pub fn copies(&self) -> Vec<&Wanted> {
+        self.chosen.iter().map(|chosen| &chosen.copy).collect()
+    }
+}
+
+/// Parts the files by rules 6, 7 and 8, and says where in the folder each copy goes. Bits and counts do not matter here.
+pub fn choose<'a>(judge: &Judge<'a>, folder: &Path) -> Choice<'a> {
     let mut choice = Choice::default();
     for user in 0..ENTRIES {
         let twins = twins(&judge.disk, user);
-        let folder = folder(judge, user);
+        let folder = folder.join(user_folder(judge, user));
         for file in judge.files(user) {
             let mut faults = judge.own_doubts(&file, &twins);
             faults.extend(judge.held_twice(&file));
             match faults.is_empty() {
                 true => choice.chosen.push(Chosen {
-                    path: folder.join(host_name(&file)),
-                    pages: pages(judge, &file),
+                    copy: Wanted {
+                        target: folder.join(host_name(&file)),
+                        pages: pages(judge, &file),
+                    },
                     file,
                 }),
                 false => choice.left.push(Left { file, faults }),
@@ -47,7 +56,7 @@ pub fn choose<'a>(judge: &Judge<'a>) -> Choice<'a> {
 }
 
 /// A user's folder: his name, or his index as `@7` where his name is not legal or a lower user has it.
-fn folder(judge: &Judge, user: u32) -> PathBuf {
+fn user_folder(judge: &Judge, user: u32) -> PathBuf {
     let entry = judge.disk.user(user).filter(|entry| entry.stored_name().is_legal(1));
     match entry {
         Some(entry) if judge.same_name(user, &entry).is_none() => entry.name().into(),
@@ -62,6 +71,12 @@ fn host_name(file: &File) -> String {
         true => name,
         false => format!("{name}.{kind}"),
     }
+}
+
+/// Whether a file of some image goes to a host's file of that name.
+pub fn is_host_name(name: &str) -> bool {
+    let allowed = |byte: u8| byte.is_ascii_uppercase() || byte.is_ascii_digit() || byte == b'-' || byte == b'.';
+    name.bytes().all(allowed)
 }
 
 /// The pages of a file whose shape is right.

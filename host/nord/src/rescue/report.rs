@@ -1,7 +1,7 @@
 //! What a rescue has copied out and what it has left, in words and for programs.
 
 use super::chosen::{Choice, Chosen, Left};
-use super::placed::Placed;
+use crate::copies::Copied;
 use crate::unsound::{words, Broken, Doubt, File, Judge};
 use serde::Serialize;
 use std::path::Path;
@@ -66,13 +66,13 @@ struct Fault {
 }
 
 impl Report {
-    pub fn of(judge: &Judge, broken: Option<Broken>, choice: &Choice, placed: Placed, folder: &Path) -> Report {
+    pub fn of(judge: &Judge, broken: Option<Broken>, choice: &Choice, copied: Copied, folder: &Path) -> Report {
         Report {
             state: broken.map_or(State::Sound { sound: true }, State::Unsound),
             folder: folder.to_string_lossy().into_owned(),
-            written: placed.written,
-            there: placed.there,
-            copied: choice.chosen.iter().map(|chosen| CopiedOut::of(judge, chosen, folder)).collect(),
+            written: copied.written,
+            there: copied.there,
+            copied: choice.chosen.iter().map(|chosen| CopiedOut::of(judge, chosen)).collect(),
             left: choice.left.iter().map(|left| LeftThere::of(judge, left)).collect(),
             hidden: judge.hidden().iter().map(Fault::of).collect(),
         }
@@ -148,10 +148,10 @@ impl Named {
 }
 
 impl CopiedOut {
-    fn of(judge: &Judge, chosen: &Chosen, folder: &Path) -> CopiedOut {
+    fn of(judge: &Judge, chosen: &Chosen) -> CopiedOut {
         CopiedOut {
             named: Named::of(judge, &chosen.file),
-            path: folder.join(&chosen.path).to_string_lossy().into_owned(),
+            path: chosen.copy.target.to_string_lossy().into_owned(),
         }
     }
 }

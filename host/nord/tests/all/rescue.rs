@@ -223,9 +223,12 @@ fn what_a_killed_run_has_left_goes_away() {
     let (folder, image) = five_files();
     let files = folder.path("files");
     std::fs::create_dir_all(files.join("DOCK")).unwrap();
-    std::fs::write(files.join("DOCK/.NOTE.nord-1234567"), b"half").unwrap();
+    for name in [".NOTE.nord-1234567", ".READS.DATA.nord-1", ".mine.nord-1"] {
+        std::fs::write(files.join("DOCK").join(name), b"half").unwrap();
+    }
     rescue(&folder, &image);
-    assert_eq!(tree(&files), ALL);
+    let names = tree(&files);
+    assert_eq!((&names[0][..], &names[1..]), ("DOCK/.mine.nord-1", &ALL.map(str::to_string)[..]));
 }
 
 #[test]
