@@ -278,6 +278,9 @@ const CASES: [Case; 26] = [
     },
 ];
 
+/// Words of an image: page, word and value.
+pub type Words = &'static [(usize, usize, u16)];
+
 /// The image with these words, beside it.
 pub fn with(folder: &Folder, image: &Path, words: &[(usize, usize, u16)]) -> PathBuf {
     let mut bytes = std::fs::read(image).unwrap();

@@ -1,6 +1,6 @@
 //! `nord rescue`: every file that is right is copied out, the others are told with the place of their fault, and nothing is written over.
 
-use crate::broken::with;
+use crate::broken::{with, Words};
 use crate::common::{done, fails, noise, run, sample, Folder};
 use serde_json::{json, Value};
 use std::path::{Path, PathBuf};
@@ -84,7 +84,7 @@ fn wrong_bits_and_counts_do_not_matter() {
 }
 
 /// Words of the sample disk, and what is said of the files that are left; the first has the place that check tells.
-const LEFT: [(&[(usize, usize, u16)], &[&str]); 9] = [
+const LEFT: [(Words, &[&str]); 9] = [
     (
         &[(6, 2, 1), (6, 3, 4464)],
         &["DOCK/READS:DATA (user 0 file 0): rule 7 at page 6, word 2: position 1: pointer 70000 is no page of 154"],
