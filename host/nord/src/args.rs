@@ -49,6 +49,14 @@ pub struct Change {
     pub wait: u64,
 }
 
+/// Whether an unsound image is looked at too.
+#[derive(Args, Debug)]
+pub struct Look {
+    /// Look at an unsound image too: what can be read, each doubtful part marked; the image is only read
+    #[arg(long)]
+    pub unsound: bool,
+}
+
 /// A salvage, and what becomes of pages that nobody holds.
 #[derive(Args, Debug)]
 pub struct Salvage {
@@ -113,8 +121,15 @@ pub enum Command {
     #[command(after_help = "Example:\n  nord check disk.img\n  nord check disk.img --json")]
     Check(Ask),
     /// List the volume, its users and their files
-    #[command(after_help = "Example:\n  nord list disk.img\n  nord list disk.img --json")]
-    List(Ask),
+    #[command(
+        after_help = "Example:\n  nord list disk.img\n  nord list disk.img --json\n  nord list disk.img --unsound\n\nWith --unsound an unsound image is listed as far as its words can be read. The first line has the lowest broken rule and its\nplace; a line with something wrong in it begins with ? and ends in what is doubtful."
+    )]
+    List {
+        #[command(flatten)]
+        at: Ask,
+        #[command(flatten)]
+        look: Look,
+    },
     /// Format an image, or make a new one of so many pages
     #[command(
         after_help = "Example:\n  nord format disk.img YARD --pages 154\n  nord format pack.img PACK --pages 37035\n\nWithout --pages the image file is there, keeps its size, and loses its users and files. Where it is a sound volume that has files,\n--force has to be given; without it the command says how many there are and changes nothing (64)."
@@ -148,6 +163,16 @@ pub enum Command {
         after_help = "Example:\n  nord salvage disk.img --dry-run\n  nord salvage disk.img --orphans reads\n\nThe bits of all pages, the users' used counts and unreserved are written anew from what the pointers hold; nothing else is\nchanged. Pages that are reserved and that nobody holds become free: they keep their words until a file takes them, and --orphans\ncopies them out before. An image whose pointers, names or files' entries break a rule is refused (3), and one where a user holds\nmore than he was given, or where more is given than there is, too (13)."
     )]
     Salvage(Salvage),
+    /// Copy out every file whose entry and pointers are right, also of an unsound image, and list the others with the place of their fault
+    #[command(
+        after_help = "Example:\n  nord rescue disk.img files\n\nThe image needs a right length and no more, and is only read. A file is copied out where rules 6 and 7 hold for it and nobody else\nholds one of its pages; bits and counts do not matter. It goes to FOLDER/USER/NAME.TYPE, or NAME alone where the type is empty; the\nfolder of a user whose name is not legal, or that of a lower user, is his index as @7. Nothing that is there is written over: a file\nwith the same content is left as it is, and where one has other content nothing is copied out. The others are listed. The exit\nstatus is 0 where the work is done, also if some are left."
+    )]
+    Rescue {
+        #[command(flatten)]
+        at: Ask,
+        /// Where the files go; made where it is not there
+        folder: PathBuf,
+    },
     /// Add and delete users, give and take pages
     #[command(
         subcommand,
@@ -162,7 +187,7 @@ pub enum Command {
     File(File),
     /// Copy a whole file out of an image
     #[command(
-        after_help = "Example:\n  nord read disk.img DOCK/READS:DATA reads.bin\n\nThe output is 2,048 bytes for each page: a NORD file has no length in bytes of its own."
+        after_help = "Example:\n  nord read disk.img DOCK/READS:DATA reads.bin\n  nord read disk.img @0/@3 reads.bin --unsound\n\nThe output is 2,048 bytes for each page: a NORD file has no length in bytes of its own. With --unsound the pages are found by the\nfile's pointers; one that is not to be found is written as zeros, and every doubtful position is told on standard error."
     )]
     Read {
         #[command(flatten)]
@@ -171,6 +196,8 @@ pub enum Command {
         file: FileName,
         /// The host's file, replaced whole; standard output by default and for -
         output: Option<PathBuf>,
+        #[command(flatten)]
+        look: Look,
     },
     /// Copy a host's file into an image, whole or not at all
     #[command(
@@ -218,16 +245,20 @@ pub enum Command {
         position: Number,
     },
     /// Say who holds a page of the image
-    #[command(after_help = "Example:\n  nord who disk.img 5")]
+    #[command(
+        after_help = "Example:\n  nord who disk.img 5\n  nord who disk.img 5 --unsound\n\nWith --unsound the pointers say who holds a page: the first two, whether there are more, and the page's bit; what is doubtful is\nmarked with ?."
+    )]
     Who {
         #[command(flatten)]
         at: Ask,
         /// The page's number
         page: Number,
+        #[command(flatten)]
+        look: Look,
     },
     /// Show a page's words: octal as in the manual, decimal, and what each is
     #[command(
-        after_help = "Example:\n  nord page disk.img 2\n  nord page disk.img 2 16\n\nThe image may be unsound: the word at which the lowest broken rule is broken is marked. Lines that repeat are folded as *."
+        after_help = "Example:\n  nord page disk.img 2\n  nord page disk.img 2 16\n  nord page disk.img 2 --unsound\n\nThe image may be unsound, with --unsound and without: the word at which the lowest broken rule is broken is marked. Lines that repeat are folded as *."
     )]
     Page {
         #[command(flatten)]
@@ -236,9 +267,13 @@ pub enum Command {
         page: Number,
         /// Only this word, 0 to 1,023, with its characters and bits
         word: Option<Number>,
+        #[command(flatten)]
+        look: Look,
     },
     /// Draw the image: a cell for each page, or for several of a large pack, coloured by its holder
-    #[command(after_help = "Example:\n  nord map disk.img\n  nord map disk.img --svg disk.svg")]
+    #[command(
+        after_help = "Example:\n  nord map disk.img\n  nord map disk.img --svg disk.svg\n  nord map disk.img --unsound\n\nWith --unsound a page that two hold is 2, one that is held and whose bit is clear is !, and one whose bit is set and that nobody\nholds is ?; the legend counts them. All others are as their first holder."
+    )]
     Map {
         #[command(flatten)]
         at: Ask,
@@ -251,6 +286,8 @@ pub enum Command {
         /// Colours in the text
         #[arg(long, value_enum, default_value_t = Colour::Auto)]
         colour: Colour,
+        #[command(flatten)]
+        look: Look,
     },
     /// Make a sample disk: volume YARD of 154 pages with user DOCK and two files
     #[command(after_help = "Example:\n  nord sample sample.img")]
@@ -443,7 +480,8 @@ impl Command {
     /// Whether the answer is wanted as JSON.
     pub fn json(&self) -> bool {
         match self {
-            Command::Check(at) | Command::List(at) | Command::Sample(at) => at.json,
+            Command::Check(at) | Command::Sample(at) => at.json,
+            Command::List { at, .. } | Command::Rescue { at, .. } => at.json,
             Command::Read { at, .. } | Command::Find { at, .. } | Command::Address { at, .. } => at.json,
             Command::Who { at, .. } | Command::Page { at, .. } | Command::Map { at, .. } => at.json,
             Command::Format { at, .. } | Command::Convert { at, .. } | Command::Write { at, .. } => at.json,

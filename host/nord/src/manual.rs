@@ -233,6 +233,57 @@ shows any page of any image. A line has the word's number, decimal and octal, it
 it is to whoever holds the page; of words that are one thing the first says it. Who holds a page is found by following all pointers that lead to
 pages 1 to P\-1; where several hold it, the first two are told. Runs of equal words that say nothing are folded as *. The word where the image is
 broken begins with > and is followed by what was expected.
+.PP
+All other commands refuse an unsound image. With
+.B \-\-unsound
+.BR "nord list" ", " "nord map" ", " "nord read" " and " "nord who"
+show what can be read of one, and each doubtful part is marked; they only read the image, and take no lock. On a sound image the answer is the same
+with it and without. What is doubtful is judged for each entry and each page by itself, also where lower rules are broken: an image has a doubt
+exactly when it is unsound. Of several doubts of one sort about one thing the first is told, and how many more there are.
+.TP
+.B nord list
+begins with the lowest broken rule and its place. A line with something wrong in it begins with ? and ends in what that is: of a user by rules 4 and
+10, of a file by rules 6, 7, 8 and 9, of the volume by all others, and of pages that nobody holds. Files whose owner is not used are listed under his
+index. A kind that a pointer does not say is UNKNOWN.
+.TP
+.B nord map
+shows each page by its first holder, but as 2 one that two hold, as ! one that is held and whose bit is clear, and as ? one whose bit is set and that
+nobody holds; they have colours of their own, and the legend counts them.
+.TP
+.B nord who
+tells the first two holders, whether there are more, and the page's bit. A holder is doubtful where he is not the only one, and where his entry or
+his pointers are wrong.
+.TP
+.B nord read
+takes the first used entry with that name, as the listing shows it, or the one with that index, and follows its pointers. A page that is not to be
+found is written as zeros. What is doubtful is told on standard error, by positions in the file. A file with two shapes at once, with pages and no
+pointer, or with as many pages as the image or more is refused with 3.
+.PP
+With
+.B \-\-json
+these answers have "sound", which is false, "rule", "page" and "word", the broken place, and "doubts" with each part: the volume, each of "users" and of
+their "files"; in the map each of "holders"; for
+.B nord who
+"asked", the page, "holders", "more_holders" and "reserved" (null where the bit is not to be found); for
+.B nord read
+"positions", those with doubts ("from", "to").
+.PP
+.B nord rescue
+copies out every file whose owner is used, whose entry and pointers are right (rules 6 and 7) and of whose pages nobody holds one too (rule 8); bits and
+counts do not matter. A file goes to
+.IR FOLDER/USER/NAME.TYPE ,
+or
+.I NAME
+alone where the type is empty; of two files of a user with one name and type the lower one has it, and the other is left. The folder of a user whose name
+is not legal, or that of a lower user, is his index as
+.IR @7 .
+Each file is written beside its place, synced and placed. One that is there with the same content is left as it is; where one has other content, nothing is
+copied out. The files that are left are listed with the rule and the place of their first fault, and so are the places of rules 2, 3 and 5 that may hide
+users or files. The exit status is 0 where that is done, also if some are left. With
+.B \-\-json
+the answer has "sound" (and of an unsound image "rule", "page" and "word"), "folder", "written" and "there" (how many files were written, and how many were
+there already), "copied" and "left", both with "user", "file", "user_name" (or null), "name", "type" and "pages"; "copied" has also "path", and "left" has
+"rule", "page", "word" and "fault", and all "doubts"; then "hidden", the places that may hide users or files.
 "#;
 
 const SALVAGE: &str = r#".SH SALVAGE

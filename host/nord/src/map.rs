@@ -5,10 +5,12 @@ mod fold;
 mod layout;
 mod legend;
 mod letters;
+mod page;
 mod svg;
 mod text;
 
 pub use layout::NARROWEST;
 pub use legend::grouped;
-pub use svg::svg;
-pub use text::text;
+pub use page::{Drawing, Page};
+pub use svg::{draw, svg};
+pub use text::{text, write};

@@ -26,6 +26,11 @@ pub const BIT_FILE: Colour = rgb(0x4d5563);
 pub const USER_FILE: Colour = rgb(0x8791a3);
 pub const OBJECT_FILE: Colour = rgb(0xab9068);
 
+/// Doubtful pages of an unsound image: held twice, held and not reserved, reserved and not held.
+pub const TWICE: Colour = rgb(0xff0000);
+pub const CLEAR: Colour = rgb(0xff00ff);
+pub const NOBODY: Colour = rgb(0xffff00);
+
 /// The first users' colours: neighbours differ in hue and in lightness.
 const USERS: [Colour; 12] = [
     rgb(0x2f7fd0),
@@ -155,7 +160,7 @@ mod tests {
 
     #[test]
     fn the_first_users_and_the_system_differ_on_a_terminal_too() {
-        let system = [FREE, MASTER, BIT_FILE, USER_FILE, OBJECT_FILE];
+        let system = [FREE, MASTER, BIT_FILE, USER_FILE, OBJECT_FILE, TWICE, CLEAR, NOBODY];
         let all: Vec<Colour> = system.into_iter().chain((0..12).map(user)).collect();
         let numbers: HashSet<u8> = all.iter().map(|colour| colour.terminal()).collect();
         assert_eq!(numbers.len(), all.len());

@@ -14,7 +14,7 @@ mod words;
 
 pub use disk::{Disk, Entry, Pointer, BIT_POINTER, ENTRIES, ENTRIES_TO_A_PAGE, ENTRY_WORDS, OBJECT_BLOCKS, OBJECT_POINTER, SLOTS};
 pub use disk::{UNRESERVED, USER_PAGES, USER_POINTER, VOLUME_NAME};
-pub use fields::number;
+pub use fields::{number, pointer_says};
 pub use holder::{Holder, Kind};
 pub use meaning::{meaning, Meaning};
 pub use shorts::{Short, Whose};
@@ -107,13 +107,17 @@ impl File {
 
 /// What an image that `proved::check` passes holds.
 pub fn read(image: &[u16]) -> Volume {
-    let disk = Disk::new(image);
+    of(&Disk::new(image))
+}
+
+/// The same of any image, as far as its words can be read.
+pub fn of(disk: &Disk) -> Volume {
     Volume {
         name: disk.volume_name(),
         pages: disk.pages(),
         reserved: disk.reserved(),
         unreserved: disk.unreserved(),
-        users: disk.users().map(|(index, entry)| read_user(&disk, index, entry)).collect(),
+        users: disk.users().map(|(index, entry)| read_user(disk, index, entry)).collect(),
     }
 }
 

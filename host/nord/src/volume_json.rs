@@ -74,7 +74,7 @@ impl From<&volume::File> for File {
 }
 
 /// A holder with all its numbers; names only where they are wanted, and only of a file.
-#[derive(Serialize)]
+#[derive(Clone, Debug, Serialize)]
 pub struct Holder {
     holder: &'static str,
     kind: u32,
@@ -86,7 +86,7 @@ pub struct Holder {
 }
 
 /// The names of a holder's user and file, where they can be read.
-#[derive(Serialize)]
+#[derive(Clone, Debug, Serialize)]
 struct Names {
     user_name: Option<String>,
     file_name: Option<String>,

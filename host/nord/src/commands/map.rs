@@ -34,7 +34,7 @@ pub fn map(image: &[u16], at: &Ask, svg: Option<&Path>, width: Option<u32>, colo
 }
 
 /// The width that is wanted, else the terminal's.
-fn columns(width: Option<u32>) -> usize {
+pub fn columns(width: Option<u32>) -> usize {
     match width {
         Some(width) => width as usize,
         None => Term::stdout().size_checked().map_or(WIDTH, |(_, columns)| columns.into()),
@@ -42,7 +42,7 @@ fn columns(width: Option<u32>) -> usize {
 }
 
 /// By default colours are for a terminal whose user has not set NO_COLOR.
-fn coloured(colour: Colour) -> bool {
+pub fn coloured(colour: Colour) -> bool {
     match colour {
         Colour::Always => true,
         Colour::Never => false,

@@ -8,9 +8,11 @@ mod format;
 mod import;
 mod map;
 mod page;
+mod rescue;
 mod run;
 mod salvage;
 mod transfer;
+mod unsound;
 mod users;
 
 use crate::answers::Answer;
@@ -137,14 +139,26 @@ fn salvaging(with: crate::args::Salvage) -> Kind {
 /// The commands that ask.
 fn asks(command: Command) -> Kind {
     match command {
-        Command::List(at) => ask(at.image, |image| ask::list(image)),
+        Command::List { at, look } => ask(at.image.clone(), move |image| unsound::list(image, &at, look.unsound)),
         Command::Find { at, name } => ask(at.image.clone(), move |image| ask::find(image, &at, &name)),
         Command::Address { at, file, position } => ask(at.image.clone(), move |image| ask::address(image, &at, &file, &position)),
-        Command::Who { at, page } => ask(at.image, move |image| ask::who(image, &page)),
-        Command::Read { at, file, output } => ask(at.image.clone(), move |image| transfer::read(image, &at, &file, output.as_deref())),
+        Command::Who { at, page, look } => ask(at.image.clone(), move |image| unsound::who(image, &at, &page, look.unsound)),
+        Command::Read { at, file, output, look } => ask(at.image.clone(), move |image| {
+            unsound::read(image, &at, &file, output.as_deref(), look.unsound)
+        }),
         Command::Export(with) => ask(with.at.image.clone(), move |image| export::export(image, &with)),
-        Command::Page { at, page, word } => ask(at.image, move |image| page::page(image, &page, word.as_ref())),
-        Command::Map { at, svg, width, colour } => ask(at.image.clone(), move |image| map::map(image, &at, svg.as_deref(), width, colour)),
+        Command::Rescue { at, folder } => ask(at.image.clone(), move |image| rescue::rescue(image, &at, &folder)),
+        Command::Page { at, page, word, .. } => ask(at.image, move |image| page::page(image, &page, word.as_ref())),
+        Command::Map {
+            at,
+            svg,
+            width,
+            colour,
+            look,
+        } => ask(at.image.clone(), move |image| {
+            let svg = svg.as_deref();
+            unsound::map(image, &at, unsound::Look { svg, width, colour }, look.unsound)
+        }),
         Command::Check(at) => ask(at.image.clone(), move |image| ask::check(image, &at)),
         _ => whole(|| Err(Failure::Usage("this command asks no image".to_string()))),
     }

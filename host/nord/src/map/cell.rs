@@ -1,8 +1,10 @@
 //! The cells of a large pack's map: each is several pages that follow each other.
 
 use super::legend::Group;
+use super::page::Page;
 use crate::palette::{self, Colour};
-use crate::volume::{Holder, Volume};
+use crate::unsound::Mark;
+use crate::volume::Volume;
 use std::cmp::Reverse;
 use std::collections::BTreeMap;
 use std::ops::Range;
@@ -14,25 +16,27 @@ pub struct Cell {
 }
 
 /// The pages in cells of so many; the last one has what is left.
-pub fn cells(holders: &[Holder], each: usize) -> Vec<Cell> {
+pub fn cells(pages: &[Page], each: usize) -> Vec<Cell> {
     let starts = (0..).step_by(each);
-    let cell = |(first, holders): (usize, &[Holder])| {
+    let cell = |(first, pages): (usize, &[Page])| {
         let mut counts = BTreeMap::new();
-        for holder in holders {
-            *counts.entry(Group::of(holder)).or_default() += 1;
+        for page in pages {
+            *counts.entry(Group::of(page)).or_default() += 1;
         }
-        let pages = first..first + holders.len();
+        let pages = first..first + pages.len();
         Cell { pages, counts }
     };
-    starts.zip(holders.chunks(each)).map(cell).collect()
+    starts.zip(pages.chunks(each)).map(cell).collect()
 }
 
 impl Cell {
-    /// Whoever holds most of the pages, the first of several; free if nobody holds any. The master block and the bit file are few pages that one
-    /// looks for: they come before all others.
+    /// Whoever holds most of the pages, the first of several; free if nobody holds any. Doubtful pages, the master block and the bit file are few
+    /// pages that one looks for: they come before all others.
     pub fn group(&self) -> Group {
-        let sought = [Group::Master, Group::BitFile]
+        let doubtful = [Mark::Twice, Mark::Clear, Mark::Nobody].map(Group::Doubtful);
+        let sought = doubtful
             .into_iter()
+            .chain([Group::Master, Group::BitFile])
             .find(|group| self.counts.contains_key(group));
         let held = self.counts.iter().filter(|(group, _)| **group != Group::Free);
         let most = held.min_by_key(|(_, count)| Reverse(**count)).map(|(group, _)| *group);

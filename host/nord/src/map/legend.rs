@@ -1,7 +1,9 @@
 //! What the cells of a map are told apart by, and how many there are of each.
 
+use super::page::Page;
 use crate::palette::{self, Colour};
-use crate::volume::{Holder, Kind, Volume};
+use crate::unsound::Mark;
+use crate::volume::{Kind, Volume};
 use std::collections::BTreeMap;
 
 /// Pages of one colour.
@@ -14,6 +16,8 @@ pub enum Group {
     ObjectFile,
     /// A user's files.
     User(u32),
+    /// Pages of an unsound image that are doubtful.
+    Doubtful(Mark),
 }
 
 /// What a page is within its group.
@@ -27,14 +31,17 @@ pub enum Part {
 impl Group {
     pub const SYSTEM: [Group; 5] = [Group::Free, Group::Master, Group::BitFile, Group::UserFile, Group::ObjectFile];
 
-    pub fn of(holder: &Holder) -> Group {
-        match holder.kind {
+    pub fn of(page: &Page) -> Group {
+        if let Some(mark) = page.mark {
+            return Group::Doubtful(mark);
+        }
+        match page.holder.kind {
             Kind::Free => Group::Free,
             Kind::Master => Group::Master,
             Kind::BitFile => Group::BitFile,
             Kind::UserIndex | Kind::UserPage => Group::UserFile,
             Kind::ObjectSubindex | Kind::ObjectIndex | Kind::ObjectPage => Group::ObjectFile,
-            Kind::FileSubindex | Kind::FileIndex | Kind::FileData => Group::User(holder.user),
+            Kind::FileSubindex | Kind::FileIndex | Kind::FileData => Group::User(page.holder.user),
         }
     }
 
@@ -46,6 +53,9 @@ impl Group {
             Group::UserFile => palette::USER_FILE,
             Group::ObjectFile => palette::OBJECT_FILE,
             Group::User(index) => palette::user(index),
+            Group::Doubtful(Mark::Twice) => palette::TWICE,
+            Group::Doubtful(Mark::Clear) => palette::CLEAR,
+            Group::Doubtful(Mark::Nobody) => palette::NOBODY,
         }
     }
 
@@ -57,13 +67,16 @@ impl Group {
             Group::UserFile => "user file".to_string(),
             Group::ObjectFile => "object file".to_string(),
             Group::User(index) => volume.user(index).map_or_else(|| format!("user {index}"), |user| user.name.clone()),
+            Group::Doubtful(mark) => mark.words().to_string(),
         }
     }
 }
 
 impl Part {
-    pub fn of(kind: Kind) -> Part {
-        match kind {
+    /// A page that is doubtful is shown as that, whatever it is.
+    pub fn of(page: &Page) -> Part {
+        match page.holder.kind {
+            _ if page.mark.is_some() => Part::Page,
             Kind::UserIndex | Kind::ObjectIndex | Kind::FileIndex => Part::Index,
             Kind::ObjectSubindex | Kind::FileSubindex => Part::Subindex,
             _ => Part::Page,
@@ -72,9 +85,9 @@ impl Part {
 }
 
 /// The colour of a page.
-pub fn colour(holder: &Holder) -> Colour {
-    let colour = Group::of(holder).colour();
-    match Part::of(holder.kind) {
+pub fn colour(page: &Page) -> Colour {
+    let colour = Group::of(page).colour();
+    match Part::of(page) {
         Part::Page => colour,
         Part::Index | Part::Subindex => colour.darker(),
     }
@@ -101,15 +114,15 @@ pub struct Legend {
 }
 
 impl Legend {
-    pub fn of(volume: &Volume, holders: &[Holder]) -> Legend {
+    pub fn of(volume: &Volume, pages: &[Page]) -> Legend {
         let users = volume.users.iter().map(|user| Group::User(user.index));
         let mut counts: BTreeMap<Group, u32> = Group::SYSTEM.into_iter().chain(users).map(|group| (group, 0)).collect();
-        for holder in holders {
-            *counts.entry(Group::of(holder)).or_default() += 1;
+        for page in pages {
+            *counts.entry(Group::of(page)).or_default() += 1;
         }
         let all = counts.into_iter().map(|(group, pages)| row(volume, group, pages));
         let (rows, others): (Vec<Row>, Vec<Row>) = all.partition(|row| row.pages > 0 || row.given != Some(0));
-        let has = |part: Part| holders.iter().any(|holder| Part::of(holder.kind) == part);
+        let has = |part: Part| pages.iter().any(|page| Part::of(page) == part);
         Legend {
             rows,
             others: others.len(),
@@ -142,9 +155,9 @@ fn row(volume: &Volume, group: Group, pages: u32) -> Row {
 }
 
 /// The numbers above a map: "154 pages, 92 free, 62 reserved, 23 unreserved".
-pub fn numbers(volume: &Volume, holders: &[Holder]) -> String {
-    let free = holders.iter().filter(|holder| holder.kind == Kind::Free).count();
-    let [pages, free] = [holders.len(), free].map(grouped);
+pub fn numbers(volume: &Volume, pages: &[Page]) -> String {
+    let free = pages.iter().filter(|page| Group::of(page) == Group::Free).count();
+    let [pages, free] = [pages.len(), free].map(grouped);
     let [reserved, unreserved] = [volume.reserved, volume.unreserved].map(|number| grouped(number as usize));
     format!("{pages} pages, {free} free, {reserved} reserved, {unreserved} unreserved")
 }

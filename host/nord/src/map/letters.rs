@@ -1,6 +1,7 @@
 //! The letters of a map.
 
 use super::legend::{Group, Part, Row};
+use crate::unsound::Mark;
 use std::collections::BTreeMap;
 
 /// Users' letters: those of the system are left out.
@@ -42,6 +43,9 @@ impl Letters {
             Group::UserFile => 'u',
             Group::ObjectFile => 'o',
             Group::User(index) => self.users.get(&index).copied().unwrap_or('?'),
+            Group::Doubtful(Mark::Twice) => '2',
+            Group::Doubtful(Mark::Clear) => '!',
+            Group::Doubtful(Mark::Nobody) => '?',
         };
         match part {
             Part::Page => small,

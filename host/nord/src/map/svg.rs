@@ -7,6 +7,7 @@ mod mark;
 use super::layout::{cell, pages_to_a_cell, side};
 use super::legend::{numbers, Group, Legend, Row};
 use super::letters::Letters;
+use super::page::Drawing;
 use crate::volume::{Holder, Volume};
 use mark::{escaped, group, label, rect, Text};
 
@@ -67,21 +68,28 @@ impl Plan {
     }
 }
 
-/// A picture of the volume: its cells, their numbers along the edges, and a legend beside them.
+/// A picture of a sound volume.
 pub fn svg(volume: &Volume, holders: &[Holder]) -> String {
-    let plan = Plan::of(holders.len());
-    let legend = Legend::of(volume, holders);
+    draw(&Drawing::sound(volume, holders))
+}
+
+/// A picture of the volume: its cells, their numbers along the edges, and a legend beside them.
+pub fn draw(drawing: &Drawing) -> String {
+    let Drawing { volume, pages, unsound } = drawing;
+    let plan = Plan::of(pages.len());
+    let legend = Legend::of(volume, pages);
     let letters = Letters::of(&legend.rows);
     let key = key::Key::of(&plan, &legend, &letters);
-    let numbers = numbers(volume, holders);
+    let mut numbers = numbers(volume, pages);
+    numbers.extend(unsound.iter().map(|words| format!("; {words}")));
     let (width, height) = (key.right() + MARGIN, plan.bottom().max(key.bottom()) + MARGIN);
     let mut picture = opened(width, height, &format!("{}: {numbers}", volume.name));
     picture.push_str(&head(&volume.name, &numbers));
-    picture.push_str(&shares(&legend.rows, holders.len(), key.right() - MARGIN));
-    picture.push_str(&group("numbers", &cells::numbers(&plan, holders.len())));
+    picture.push_str(&shares(&legend.rows, pages.len(), key.right() - MARGIN));
+    picture.push_str(&group("numbers", &cells::numbers(&plan, pages.len())));
     let cells = match plan.each {
-        1 => cells::cells(&plan, volume, holders, &letters),
-        _ => cells::of_several(&plan, volume, holders),
+        1 => cells::cells(&plan, volume, pages, &letters),
+        _ => cells::of_several(&plan, volume, pages),
     };
     picture.push_str(&group("cells", &cells));
     picture.push_str(&group("legend", &key.drawn()));

@@ -5,21 +5,32 @@ use super::fold::folded;
 use super::layout::{columns, pages_to_a_character, NARROWEST};
 use super::legend::{colour, grouped, numbers, Group, Legend, Part, Row};
 use super::letters::Letters;
+use super::page::{Drawing, Page};
 use crate::palette::Colour;
 use crate::volume::{Holder, Volume};
 
-/// The map in lines of at most `width` characters (or 20, where that is less), with a terminal's colours behind the characters if `colour`.
+/// The map of a sound volume, as `write` has it.
 pub fn text(volume: &Volume, holders: &[Holder], width: usize, colour: bool) -> String {
+    write(&Drawing::sound(volume, holders), width, colour)
+}
+
+/// The map in lines of at most `width` characters (or 20, where that is less), with a terminal's colours behind the characters if `colour`.
+pub fn write(drawing: &Drawing, width: usize, colour: bool) -> String {
+    let Drawing { volume, pages, unsound } = drawing;
     let width = width.max(NARROWEST);
-    let legend = Legend::of(volume, holders);
+    let legend = Legend::of(volume, pages);
     let letters = Letters::of(&legend.rows);
-    let edge = holders.len().saturating_sub(1).to_string().len() + 2;
-    let columns = columns(holders.len(), width.saturating_sub(edge));
-    let each = pages_to_a_character(holders.len(), columns);
-    let head = format!("{}: {}", volume.name, numbers(volume, holders));
-    let mut lines = folded(head.split_inclusive(", ").map(str::trim_end), width);
+    let edge = pages.len().saturating_sub(1).to_string().len() + 2;
+    let columns = columns(pages.len(), width.saturating_sub(edge));
+    let each = pages_to_a_character(pages.len(), columns);
+    let mut lines: Vec<String> = unsound
+        .iter()
+        .flat_map(|words| folded(words.split_inclusive(' ').map(str::trim_end), width))
+        .collect();
+    let head = format!("{}: {}", volume.name, numbers(volume, pages));
+    lines.extend(folded(head.split_inclusive(", ").map(str::trim_end), width));
     lines.push(ruler(edge, columns, each));
-    for (row, signs) in signs(&letters, holders, each).chunks(columns).enumerate() {
+    for (row, signs) in signs(&letters, pages, each).chunks(columns).enumerate() {
         let number = row * columns * each;
         lines.push(format!("{number:>0$}  {1}", edge - 2, characters(signs, colour)));
     }
@@ -64,18 +75,18 @@ struct Sign {
 }
 
 /// The characters of all pages, so many to each.
-fn signs(letters: &Letters, holders: &[Holder], each: usize) -> Vec<Sign> {
+fn signs(letters: &Letters, pages: &[Page], each: usize) -> Vec<Sign> {
     match each {
-        1 => holders.iter().map(|holder| of_page(letters, holder)).collect(),
-        _ => cell::cells(holders, each).iter().map(|cell| of_several(letters, cell)).collect(),
+        1 => pages.iter().map(|page| of_page(letters, page)).collect(),
+        _ => cell::cells(pages, each).iter().map(|cell| of_several(letters, cell)).collect(),
     }
 }
 
-fn of_page(letters: &Letters, holder: &Holder) -> Sign {
-    let group = Group::of(holder);
+fn of_page(letters: &Letters, page: &Page) -> Sign {
+    let group = Group::of(page);
     Sign {
-        letter: letters.letter(group, Part::of(holder.kind)),
-        colour: (group != Group::Free).then(|| colour(holder)),
+        letter: letters.letter(group, Part::of(page)),
+        colour: (group != Group::Free).then(|| colour(page)),
     }
 }
 

@@ -278,6 +278,9 @@ const CASES: [Case; 26] = [
     },
 ];
 
+/// Words of an image: page, word and value.
+pub type Words = &'static [(usize, usize, u16)];
+
 /// The image with these words, beside it.
 pub fn with(folder: &Folder, image: &Path, words: &[(usize, usize, u16)]) -> PathBuf {
     let mut bytes = std::fs::read(image).unwrap();
@@ -339,9 +342,15 @@ fn other_commands_say_the_rule_and_its_place() {
             "who IMAGE 0",
         ] {
             let (page, word) = place;
+            let look = match line.split(' ').next() {
+                Some("list" | "map" | "read" | "who") => {
+                    format!("  look      nord {} --unsound\n", line.replace("IMAGE", image.to_str().unwrap()))
+                }
+                _ => String::new(),
+            };
             let wanted = format!(
                 "nord: refused (3): the image is unsound: rule {rule} is broken at page {page}, word {word}\n  \
-                 rule {rule}: {} nord check tells more\n",
+                 rule {rule}: {} nord check tells more\n{look}",
                 nord::answers::rule(rule)
             );
             assert_eq!(fails(&image, line, 3), wanted, "{line}");

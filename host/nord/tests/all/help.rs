@@ -29,7 +29,7 @@ fn nord(line: &str) -> Run {
 #[test]
 fn all_the_commands_are_there() {
     let wanted =
-        "check list format convert salvage user add user delete user give user take file create file grow file shrink file delete file open \
+        "check list format convert salvage rescue user add user delete user give user take file create file grow file shrink file delete file open \
                   read write import export run find address who page map sample manual completions";
     assert_eq!(commands().join(" "), wanted);
 }

@@ -1,6 +1,8 @@
 //! The command as its users meet it: the real program, run on image files.
 
 mod broken;
+#[path = "../made/cases.rs"]
+mod cases;
 mod commands;
 mod common;
 mod completions;
@@ -9,6 +11,8 @@ mod format;
 mod full;
 mod help;
 mod host;
+#[path = "../made/hostile.rs"]
+mod hostile;
 mod import;
 mod json;
 mod killed;
@@ -19,6 +23,7 @@ mod page;
 mod pipes;
 mod readme;
 mod refusals;
+mod rescue;
 mod salvage;
 mod screen;
 mod script;
@@ -27,4 +32,5 @@ mod swapped;
 mod terminal;
 mod traced;
 mod transfer;
+mod unsound;
 mod writers;

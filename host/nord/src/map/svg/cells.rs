@@ -5,30 +5,36 @@ use super::Plan;
 use crate::map::cell;
 use crate::map::legend::{colour, Group, Part};
 use crate::map::letters::Letters;
-use crate::volume::{Holder, Volume};
+use crate::map::page::Page;
+use crate::volume::Volume;
 
 /// A cell for each page. Pages of one file that follow one another lie close together, others apart; the first of them has the letter.
-pub fn cells(plan: &Plan, volume: &Volume, holders: &[Holder], letters: &Letters) -> String {
+pub fn cells(plan: &Plan, volume: &Volume, pages: &[Page], letters: &Letters) -> String {
     let mut cells = String::new();
     let mut lettered = false;
-    for (page, holder) in holders.iter().enumerate() {
-        let next = holders.get(page + 1).filter(|_| (page + 1) % plan.side != 0);
-        let close = next.is_some_and(|next| together(holder, next));
-        let tip = format!("page {page}: {}", volume.words(holder));
-        cells.push_str(&rect("page", place(plan, page, close), &colour(holder).hex(), &tip));
-        match Part::of(holder.kind) {
+    for (n, page) in pages.iter().enumerate() {
+        let next = pages.get(n + 1).filter(|_| (n + 1) % plan.side != 0);
+        let close = next.is_some_and(|next| together(page, next));
+        cells.push_str(&rect("page", place(plan, n, close), &colour(page).hex(), &tip(volume, n, page)));
+        match Part::of(page) {
             Part::Page if lettered => {}
-            Part::Page => cells.push_str(&letter(plan, page, Group::of(holder), letters)),
-            part => cells.push_str(&mark(plan, page, part)),
+            Part::Page => cells.push_str(&letter(plan, n, Group::of(page), letters)),
+            part => cells.push_str(&mark(plan, n, part)),
         }
-        lettered = close && (lettered || Part::of(holder.kind) == Part::Page);
+        lettered = close && (lettered || Part::of(page) == Part::Page);
     }
     cells
 }
 
+/// What is shown of a page: its holder, and what is doubtful about it.
+fn tip(volume: &Volume, n: usize, page: &Page) -> String {
+    let doubt = page.mark.map_or(String::new(), |mark| format!(" ({})", mark.words()));
+    format!("page {n}: {}{doubt}", volume.words(&page.holder))
+}
+
 /// A cell for each several pages. Those that most pages of one group are in lie close together.
-pub fn of_several(plan: &Plan, volume: &Volume, holders: &[Holder]) -> String {
-    let cells = cell::cells(holders, plan.each);
+pub fn of_several(plan: &Plan, volume: &Volume, pages: &[Page]) -> String {
+    let cells = cell::cells(pages, plan.each);
     let drawn = |(n, cell): (usize, &cell::Cell)| {
         let next = cells.get(n + 1).filter(|_| (n + 1) % plan.side != 0);
         let close = next.is_some_and(|next| next.group() == cell.group());
@@ -38,8 +44,8 @@ pub fn of_several(plan: &Plan, volume: &Volume, holders: &[Holder]) -> String {
 }
 
 /// Whether two pages are of one file, or both free.
-fn together(one: &Holder, two: &Holder) -> bool {
-    Group::of(one) == Group::of(two) && one.file == two.file
+fn together(one: &Page, two: &Page) -> bool {
+    Group::of(one) == Group::of(two) && one.holder.file == two.holder.file
 }
 
 /// Where the n-th cell lies: x, y, width, height. The gap is on its right and below it.

@@ -44,7 +44,8 @@ fn several(each: usize) -> [String; 4] {
 }
 
 fn lines(legend: &Legend, each: usize) -> Vec<Line<'_>> {
-    let (users, system): (Vec<&Row>, Vec<&Row>) = legend.rows.iter().partition(|row| matches!(row.group, Group::User(_)));
+    let (users, others): (Vec<&Row>, Vec<&Row>) = legend.rows.iter().partition(|row| matches!(row.group, Group::User(_)));
+    let (doubtful, system): (Vec<&Row>, Vec<&Row>) = others.into_iter().partition(|row| matches!(row.group, Group::Doubtful(_)));
     let mut lines = vec![Line::Heading("System")];
     lines.extend(system.into_iter().map(Line::Row));
     if !users.is_empty() {
@@ -52,6 +53,10 @@ fn lines(legend: &Legend, each: usize) -> Vec<Line<'_>> {
     }
     lines.extend(users.into_iter().map(Line::Row));
     lines.extend(legend.others_in_words().map(Line::Note));
+    if !doubtful.is_empty() {
+        lines.extend([Line::Gap, Line::Heading("Doubtful pages")]);
+    }
+    lines.extend(doubtful.into_iter().map(Line::Row));
     if each > 1 {
         lines.push(Line::Gap);
         lines.extend(several(each).map(Line::Note));
