@@ -25,12 +25,12 @@ module _ (img b : List ℕ) (n : ℕ) (R : Row b n) (s : ℕ) (start : s ≡ poi
   -- the pages of a row are that of pointer 0 and a run
   pub row-weigh : (x : ℕ) → x ≡ pointerIn b 0 → (g : ℕ → ℕ) → weigh (vol img) 0 x g + rowOf (runOf s) (n - 1) g ≡ rowOf (slotsOf img 0 b) n g
   row-weigh x e g =
-      let f : ℕ → ℕ = λ k. weigh (vol img) 0 (pointerIn b k) g in let c : 1 + (n - 1) ≡ n = omega (arith, R .some) in
+      let f : ℕ → ℕ = λ k. weigh (vol img) 0 (pointerIn b k) g in let c : 1 + (n - 1) ≡ n = omega (arith, R .long) in
       ap₂ (λ (y z : ℕ). y + z) (ap (λ (y : ℕ). weigh (vol img) 0 y g) e ∙ sym (sum-1 f)) (sum-ext (n - 1) (λ i. g (s + i)) (λ i. f (1 + i)) (row-page g))
       ∙ sym (sum-cat (n - 1) 1 f) ∙ ap (λ (k : ℕ). sum k f) c
 
   pub row-fits : PointersBelow img b 0 → n ≤ 512 → s + (n - 1) ≤ pages img
   row-fits w h =
-      let f : pointerIn b (n - 2 + 1) ≡ pointerIn b 1 + (n - 2) = R .follows (n - 2) (omega (arith, R .some)) in
-      let l : pointerIn b (n - 2 + 1) < pages img = below-top (vol img) (pages img) 0 (pointerIn b (n - 2 + 1)) (w .below (n - 2 + 1) (omega (arith, R .some))) in
-      omega (arith, f, l, start, R .some)
+      let f : pointerIn b (n - 2 + 1) ≡ pointerIn b 1 + (n - 2) = R .follows (n - 2) (omega (arith, R .long)) in
+      let l : pointerIn b (n - 2 + 1) < pages img = below-top (vol img) (pages img) 0 (pointerIn b (n - 2 + 1)) (w .below (n - 2 + 1) (omega (arith, R .long))) in
+      omega (arith, f, l, start, R .long)

@@ -44,7 +44,7 @@ pub record Pointers (img block : List ℕ) (l n : ℕ) : Type 0 where
 abbrev pub Follows : List ℕ → ℕ → ℕ → Type 0
 Follows block n s = (k : ℕ) → k < n → pointerIn block (k + 1) ≡ s + k
 
--- so do all of the first n but pointer 0
+-- so do all of the first n but pointer 0, and they are many
 pub record Row (block : List ℕ) (n : ℕ) : Type 0 where
-  pub some : 1 < n
+  pub long : 32 < n
   pub follows : Follows block (n - 1) (pointerIn block 1)

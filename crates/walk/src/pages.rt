@@ -99,7 +99,7 @@ fn is_row(block: &[u16], n: usize) -> bool
     requires { ⌜ (length (now block) ≡ 1024) × (n ≤ 512) × (pointerIn (now block) 1 < 2147483648) ⌝ }
     ensures { λ r. ⌜ (r ≡ true → Row (now (block .entry)) n) ⌝ }
 {
-    if n < 32 {
+    if n < 33 {
         return false;
     }
     let start = page_in(block, 1);

@@ -1,6 +1,7 @@
 // The pages of any root, by the flags of its pointer.
 use crate::Walk;
 use crate::pages::mark_pointer;
+use crate::run::mark_each;
 use crate::run::mark_run;
 ghost use Prim.Native.Nat.{_+_, _≤_};
 ghost use Rattle.sums.specs.Sum.{sum};
@@ -44,8 +45,11 @@ pub fn mark_root(
     requires { ⌜ Walking (now img) (now marks) visited × BelowR (vol (now img)) (pages (now img)) (rootBy flags top count) × ShortR (vol (now img)) (rootBy flags top count) count ⌝ }
     ensures { λ r. ⌜ Walked (pages (now (img .entry))) (now (marks .entry)) visited (weighR (vol (now (img .entry))) (rootBy flags top count)) (now (marks .exit)) r ⌝ }
 {
-    if flags == 0 {
-        return mark_run(img, marks, top, count, visited);
+    if flags != 0 {
+        return mark_tree(img, marks, flags, top, count, visited);
     }
-    mark_tree(img, marks, flags, top, count, visited)
+    if count < 32 {
+        return mark_each(img, marks, top, count, visited);
+    }
+    mark_run(img, marks, top, count, visited)
 }

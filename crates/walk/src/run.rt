@@ -27,7 +27,7 @@ pub fn mark_page(img: &[u16], marks: &mut [u16], page: usize, visited: u32) -> W
 }
 
 // Marks the pages of a run, one by one.
-fn mark_each(img: &[u16], marks: &mut [u16], start: usize, count: usize, visited: u32) -> Walk
+pub fn mark_each(img: &[u16], marks: &mut [u16], start: usize, count: usize, visited: u32) -> Walk
     requires { ⌜ Walking (now img) (now marks) visited × (start + count ≤ pages (now img)) ⌝ }
     ensures { λ r. ⌜ Walked (pages (now (img .entry))) (now (marks .entry)) visited (λ g. sum count (λ i. g (start + i))) (now (marks .exit)) r ⌝ }
 {
@@ -105,14 +105,11 @@ fn mark_from(img: &[u16], marks: &mut [u16], w: usize, until: usize, visited: u3
     }
 }
 
-// Marks the pages of a run: up to the first whole word, and from there on.
+// Marks the pages of a long run: up to the first whole word, and from there on.
 pub fn mark_run(img: &[u16], marks: &mut [u16], start: usize, count: usize, visited: u32) -> Walk
-    requires { ⌜ Walking (now img) (now marks) visited × (start + count ≤ pages (now img)) ⌝ }
+    requires { ⌜ Walking (now img) (now marks) visited × (start + count ≤ pages (now img)) × (32 ≤ count) ⌝ }
     ensures { λ r. ⌜ Walked (pages (now (img .entry))) (now (marks .entry)) visited (λ g. sum count (λ i. g (start + i))) (now (marks .exit)) r ⌝ }
 {
-    if count < 32 {
-        return mark_each(img, marks, start, count, visited);
-    }
     let w = (start + 15) / 16;
     match mark_each(img, marks, start, 16 * w - start, visited) {
         Walk::On { visited: n } => mark_from(img, marks, w, start + count, n),

@@ -2,7 +2,7 @@
 use crate::Walk;
 use crate::files::mark_files;
 use crate::roots::mark_tree;
-use crate::run::mark_run;
+use crate::run::mark_each;
 use bits::bit_pages;
 use bits::marks::mark;
 use page::BITS;
@@ -30,7 +30,7 @@ fn mark_bits(img: &[u16], marks: &mut [u16], pages: usize, visited: u32) -> Walk
     ensures { λ r. ⌜ Walked (pagesOf (now (img .entry))) (now (marks .entry)) visited (weighR (vol (now (img .entry))) (bitFile (pagesOf (now (img .entry))) (vol (now (img .entry))))) (now (marks .exit)) r ⌝ }
 {
     let start = page_at(img, 0, BITS) as usize;
-    mark_run(img, marks, start, bit_pages(pages), visited)
+    mark_each(img, marks, start, bit_pages(pages), visited)
 }
 
 // The pages of the user file.

@@ -42,7 +42,7 @@ follows-requires c κs = search needs
 
 returns-3 : tie.Need-returns-3
 returns-3 c = λ e. record {
-  some = omega arith;
+  long = omega arith;
   follows = λ k h. c .follows .ensures e k h ∙ ap (λ (x : ℕ). x + k) (c .before .before .before .page-in .ensures);
 }
 

@@ -43,6 +43,7 @@ mark-run-requires c κs =
           (tree-counts (vol img) (pages img) 0 (p .result) (slot-below img bk 0 (s .pre .1) 0 (omega arith) (p .result) (p .ensures)))
           (marked-on (pages img) m (a .visited) (weigh (vol img) 0 (p .result)) (k .mark-page .last .1 .0) (k .mark-page .result) (k .mark-page .ensures) _ (c .before .before .x .given .1)),
       row-fits img bk (a .n) (s .pre .3) (q .result) (q .ensures) (s .pre .1) (s .pre .2),
+      omega (arith, s .pre .3 .long),
     )
 
 enum-told : tie.Need-enum-told

@@ -16,8 +16,8 @@ cast-start c = search needs
 bit-pages-requires : tie.Need-bit-pages-requires
 bit-pages-requires c κs = search needs
 
-mark-run-requires : tie.Need-mark-run-requires
-mark-run-requires c κs =
+mark-each-requires : tie.Need-mark-each-requires
+mark-each-requires c κs =
     let s = c .before .before .before .before .before in let a = s .args in let v = vol (a .img .now) in let P = pages (a .img .now) in let m = a .marks .now in
     (s .pre .0, bits-below P v (c .before .before .page-at .result) (c .bit-pages .result) (c .before .before .page-at .ensures .0) (c .bit-pages .ensures ∙ ap bitPages (s .pre .2)) (s .pre .1 .within .bits))
 
@@ -25,7 +25,7 @@ returns : tie.Need-returns
 returns c =
     let s = c .before .before .before .before .before .before .before .before in let a = s .args in let v = vol (a .img .now) in let P = pages (a .img .now) in let m = a .marks .now in
     walked-bits P v (c .before .before .before .before .before .page-at .result) (c .before .before .before .bit-pages .result) (c .before .before .before .before .before .page-at .ensures .0) (c .before .before .before .bit-pages .ensures ∙ ap bitPages (s .pre .2))
-    m (a .visited) (c .before .before .mark-run .last .1 .0) (c .before .before .mark-run .result) (c .before .before .mark-run .ensures)
+    m (a .visited) (c .before .before .mark-each .last .1 .0) (c .before .before .mark-each .result) (c .before .before .mark-each .ensures)
 
 same-length : tie.Need-same-length
 same-length c = search needs
@@ -37,6 +37,6 @@ mark-bits-spec =
     page-at-requires
     cast-start
     bit-pages-requires
-    mark-run-requires
+    mark-each-requires
     same-length
     returns)
