@@ -711,10 +711,10 @@ static void singly(uint16_t *img, size_t words, const uint16_t *data)
     nord_note_open(img, words, 0, 0);
 }
 
-/* A run of some steps over the script's text, without page data. */
+/* A run of some steps over the script's text, without page data and without a list. */
 static size_t run(uint16_t *img, size_t words, const nord_step *steps, size_t step_numbers, nord_reply *replies, size_t reply_numbers)
 {
-    return nord_run(img, words, steps, step_numbers, script_text, sizeof script_text - 1, NULL, 0, replies, reply_numbers);
+    return nord_run(img, words, steps, step_numbers, script_text, sizeof script_text - 1, NULL, 0, NULL, 0, replies, reply_numbers);
 }
 
 /* The whole script, and what it leaves. */
@@ -726,7 +726,7 @@ static void by_one_run(uint16_t *img, uint16_t *single, size_t words)
     for (n = 0; n < PAGE; n++)
         data[n] = (uint16_t)(5 * n + 3);
     memset(replies, 0x55, sizeof replies);
-    made = nord_run(img, words, script, NORD_STEPS(STEPS), script_text, sizeof script_text - 1, data, PAGE, replies, NORD_REPLIES(STEPS));
+    made = nord_run(img, words, script, NORD_STEPS(STEPS), script_text, sizeof script_text - 1, data, PAGE, NULL, 0, replies, NORD_REPLIES(STEPS));
     told("a run stops after its first refusal", made == STEPS - 1);
     for (n = 0; n < STEPS - 2; n++)
         done("a step of the run", replies[n], values[n]);
@@ -746,7 +746,7 @@ static void short_runs(uint16_t *img, size_t words)
     told("no other reply is written", replies[2].number == 0x55555555);
     told("no steps: 0", run(img, words, NULL, 0, replies, NORD_REPLIES(STEPS)) == 0);
     told("no room: 0", run(img, words, script, NORD_STEPS(STEPS), NULL, 0) == 0);
-    told("nothing at all: 0", nord_run(NULL, 0, NULL, 0, NULL, 0, NULL, 0, NULL, 0) == 0);
+    told("nothing at all: 0", nord_run(NULL, 0, NULL, 0, NULL, 0, NULL, 0, NULL, 0, NULL, 0) == 0);
 }
 
 /* A run of one step, which is refused. */
@@ -760,10 +760,12 @@ static nord_reply refused_step(uint16_t *img, size_t words, nord_step step)
 /* Steps that are no calls, or that use a part outside what is lent. */
 static void wrong_steps(uint16_t *img, size_t words)
 {
-    nord_step no_call = {.call = 6}, no_name = {.call = NORD_CALL_FIND_USER, .name_at = sizeof script_text - 4, .name_bytes = 4};
+    nord_step no_call = {.call = 23}, no_name = {.call = NORD_CALL_FIND_USER, .name_at = sizeof script_text - 4, .name_bytes = 4};
     nord_step no_type = {.call = NORD_CALL_FIND_FILE, .name_at = 17, .name_bytes = 3, .type_at = UINT32_MAX, .type_bytes = 4};
     nord_step no_data = {.call = NORD_CALL_WRITE_PAGE, .file = 1};
-    refused("who holds is no step: 2", refused_step(img, words, no_call), NORD_ARGUMENT);
+    refused("there is no step 23: 2", refused_step(img, words, no_call), NORD_ARGUMENT);
+    no_call.call = 0;
+    refused("nor a step 0: 2", refused_step(img, words, no_call), NORD_ARGUMENT);
     refused("on 7 pages: 1", refused_step(img, 7 * PAGE, no_call), NORD_SIZE);
     refused("a name that ends after the text: 2", refused_step(img, words, no_name), NORD_ARGUMENT);
     refused("a type that begins after the text: 2", refused_step(img, words, no_type), NORD_ARGUMENT);
@@ -797,11 +799,90 @@ static void converting_steps(void)
     free(img);
 }
 
+/* A step that asked who holds a page: the holder is the reply's first. */
+static void holds_first(const char *what, nord_reply got, uint32_t kind, uint32_t user, uint32_t file, uint32_t position)
+{
+    nord_reply right = {.number = NORD_DONE, .first = {kind, user, file, position}};
+    is(what, got, right);
+}
+
+/* Who holds a page and reading a page as steps, each refused too. */
+static void asking_steps(void)
+{
+    static const nord_step steps[] = {
+        {.call = NORD_CALL_WHO_HOLDS, .count = 5},
+        {.call = NORD_CALL_WHO_HOLDS, .count = 8},
+        {.call = NORD_CALL_WHO_HOLDS, .count = 15},
+        {.call = NORD_CALL_READ_PAGE, .user = 0, .file = 0, .count = 0},
+        {.call = NORD_CALL_READ_PAGE, .user = 0, .file = 0, .count = 1},
+        {.call = NORD_CALL_WHO_HOLDS, .count = 0},
+    };
+    nord_step past = {.call = NORD_CALL_WHO_HOLDS, .count = 16};
+    nord_holder index = {NORD_FILE_INDEX, 0, 0, 0}, data = {NORD_FILE_DATA, 0, 0, 0};
+    size_t words = 16 * PAGE;
+    uint16_t *img = yard16(), *before = yard16();
+    nord_reply replies[6];
+    told("four answers, then refused", run(img, words, steps, NORD_STEPS(6), replies, NORD_REPLIES(6)) == 5);
+    holds_first("step 6: page 5 is data", replies[0], NORD_FILE_DATA, 0, 0, 0);
+    holds_first("page 8: bit file", replies[1], NORD_BIT_FILE, 0, 0, 0);
+    holds_first("page 15 is free", replies[2], NORD_FREE, 0, 0, 0);
+    done("step 16: the words of page 5", replies[3], 5 * PAGE);
+    refused("position 1: 4", replies[4], NORD_MISSING);
+    refused("page 16: 2", refused_step(img, words, past), NORD_ARGUMENT);
+    told("asking changes nothing", memcmp(img, before, words * sizeof *img) == 0);
+    refused("step 16 on 7 pages: 1", refused_step(img, 7 * PAGE, steps[3]), NORD_SIZE);
+    img[6 * PAGE + 1] = 6;
+    twice("page 6 is its own data page: 3", refused_step(img, words, steps[0]), 6, index, data);
+    free(before);
+    free(img);
+}
+
+/* A run of some steps with a list. */
+static size_t run_list(uint16_t *img, size_t words, const nord_step *steps, size_t n, nord_change *list, size_t change_numbers, nord_reply *replies)
+{
+    return nord_run(img, words, steps, NORD_STEPS(n), script_text, sizeof script_text - 1, NULL, 0, list, change_numbers, replies, NORD_REPLIES(n));
+}
+
+/* Salvage as a step: a list that is too short, then one that has room; the steps after it have a sound image. */
+static void salvaging_steps(void)
+{
+    static const nord_step steps[] = {
+        {.call = NORD_CALL_SALVAGE},
+        {.call = NORD_CALL_CHECK},
+        {.call = NORD_CALL_GROW},
+        {.call = NORD_CALL_SALVAGE},
+    };
+    size_t words = 16 * PAGE;
+    uint16_t *img = stale16(), *single = stale16();
+    nord_change list[4], singly[4], fresh[4];
+    nord_reply replies[4];
+    unwritten(list, 4), unwritten(singly, 4), unwritten(fresh, 4);
+    told("a list of two changes and a part of one", run_list(img, words, steps, 4, list, NORD_CHANGE_NUMBERS(3) - 1, replies) == 1);
+    refused("three words: 14", replies[0], NORD_LIST);
+    refused("no list: 14", refused_step(img, words, steps[0]), NORD_LIST);
+    told("list and image stay", memcmp(list, fresh, sizeof list) == 0 && memcmp(img, single, words * sizeof *img) == 0);
+    told("salvaged, and three steps after it", run_list(img, words, steps, 4, list, NORD_CHANGE_NUMBERS(4), replies) == 4);
+    done("step 22: three words", replies[0], 3);
+    done("check visits 8", replies[1], 8);
+    done("grow gives page 7", replies[2], 7);
+    done("a salvage after it changes nothing", replies[3], 0);
+    done("the same by single calls", nord_salvage(single, words, singly, 4), 3);
+    done("which grow too", nord_grow(single, words, 0, 0), 7);
+    told("the list is the single call's", memcmp(list, singly, sizeof list) == 0 && is_change(list[2], 8, 0, 0x115F, 0x17F));
+    told("and so is the image", memcmp(img, single, words * sizeof *img) == 0);
+    img[2 * PAGE + 15] = 1;
+    refused("more used than given: 13", refused_step(img, words, steps[0]), NORD_OVERDRAWN);
+    refused("step 22 on 7 pages: 1", refused_step(img, 7 * PAGE, steps[0]), NORD_SIZE);
+    free(single);
+    free(img);
+}
+
 static void runs(void)
 {
     size_t words = 154 * PAGE;
     uint16_t *img = blank(154), *single = blank(154);
     told("a step's numbers", sizeof(nord_step) == NORD_STEPS(1) * sizeof(uint32_t));
+    told("a change's numbers", sizeof(nord_change) == NORD_CHANGE_NUMBERS(1) * sizeof(uint32_t));
     told("a reply's numbers", sizeof(nord_reply) == NORD_REPLIES(1) * sizeof(uint32_t));
     by_one_run(img, single, words);
     wrong_steps(img, words);
@@ -857,6 +938,8 @@ int main(void)
     salvages_not();
     runs();
     converting_steps();
+    asking_steps();
+    salvaging_steps();
     nulls();
     free(img);
     printf("yard: %d cases, %d wrong\n", cases, wrong);

@@ -145,8 +145,10 @@ typedef struct {
 } nord_holder;
 
 /* number: above. rule, place: with NORD_UNSOUND the lowest broken rule and its first place, else zeros. value: with NORD_DONE, of check the
- * pages visited, of find and create the index, of address and grow the data page's number, of salvage the number of changed words; else 0. first, second: with NORD_RULE_HOLDERS the
- * two lowest holders of the page, in the order kind, user, file, position (a third is not told); else free. */
+ * pages visited, of find and create the index, of address and grow the data page's number, of salvage the number of changed words, of reading a
+ * page by a step the offset of its 1,024 words in the image; else 0. first, second: with NORD_RULE_HOLDERS the two lowest holders of the page, in
+ * the order kind, user, file, position (a third is not told); of a step that asks who holds a page, with NORD_DONE, first is the page's holder and
+ * second free; else free. */
 typedef struct {
     uint32_t number;
     uint32_t rule;
@@ -228,14 +230,15 @@ typedef struct {
  * changes (none is written then, and `value` is 0); or 0. A refusal changes neither the image nor the list. */
 nord_reply nord_salvage(uint16_t *img, size_t words, nord_change *list, size_t changes);
 
-/* The calls of a step, with what each uses of it. Who holds a page (6), reading a page (16) and salvage answer more than a reply has: they are
- * no steps. */
+/* The calls of a step, with what each uses of it. Who holds a page and reading a page have their answers in a reply: the holder as `first`, and where
+ * the page's words lie as the value. */
 enum {
     NORD_CALL_FORMAT = 1,                 /* name, count: the first bit page */
     NORD_CALL_CHECK = 2,                  /* nothing */
     NORD_CALL_FIND_USER = 3,              /* name */
     NORD_CALL_FIND_FILE = 4,              /* user, name, type */
     NORD_CALL_ADDRESS = 5,                /* user, file, count: the position */
+    NORD_CALL_WHO_HOLDS = 6,              /* count: the page */
     NORD_CALL_CREATE_USER = 7,            /* name */
     NORD_CALL_DELETE_USER = 8,            /* user */
     NORD_CALL_GIVE = 9,                   /* user, count */
@@ -245,11 +248,13 @@ enum {
     NORD_CALL_GROW = 13,                  /* user, file */
     NORD_CALL_SHRINK = 14,                /* user, file */
     NORD_CALL_DELETE_FILE = 15,           /* user, file */
+    NORD_CALL_READ_PAGE = 16,             /* user, file, count: the position */
     NORD_CALL_WRITE_PAGE = 17,            /* user, file, count: the position, data */
     NORD_CALL_NOTE_OPEN = 18,             /* user, file */
     NORD_CALL_FORMAT_DEFAULT = 19,        /* name */
     NORD_CALL_CONVERT_TO_APOSTROPHE = 20, /* nothing */
-    NORD_CALL_CONVERT_TO_ZEROS = 21       /* nothing */
+    NORD_CALL_CONVERT_TO_ZEROS = 21,      /* nothing */
+    NORD_CALL_SALVAGE = 22                /* nothing; the changes are told in the list that is lent to the run */
 };
 
 /* A step: a call with its arguments. The name is the bytes name_at .. name_at + name_bytes of `text`, the type likewise, and a page's data
@@ -267,16 +272,21 @@ typedef struct {
     uint32_t data_at;
 } nord_step;
 
-/* The lengths that nord_run is told: the numbers of so many steps, and of so many replies. */
+/* The lengths that nord_run is told: the numbers of so many steps, of so many changes, and of so many replies. */
 #define NORD_STEPS(n) ((size_t)(n) * 10)
+#define NORD_CHANGE_NUMBERS(n) ((size_t)(n) * 4)
 #define NORD_REPLIES(n) ((size_t)(n) * 13)
 
 /* Makes a list of calls with one check of the image for all of them. The steps are made in order, as many as there are (whole ones) and as
  * have room for a reply; the result is the number of replies. Each step made has its reply, in its place; the first that is refused is the
- * last that is made, and all other replies stay as they were. Replies and image are those of the single calls made one after the other. A
- * step with any other call's number, or that uses a part which does not lie in `text` or `data`, is a call with a wrong argument. */
+ * last that is made, and all other replies stay as they were. Replies, image and list are those of the single calls made one after the other. A
+ * step with any other call's number, or that uses a part which does not lie in `text` or `data`, is a call with a wrong argument.
+ *
+ * A salvage is lent all of `list`, whose room is its whole changes, and tells its changes from the list's beginning on; every other step leaves
+ * the list. Each step that is done leaves a sound image, so only a salvage that is the first step can have a change to tell: a run that does not
+ * begin with one needs no list (NULL, 0). */
 size_t nord_run(uint16_t *img, size_t words, const nord_step *steps, size_t step_numbers, const uint8_t *text, size_t text_bytes,
-                const uint16_t *data, size_t data_words, nord_reply *replies, size_t reply_numbers);
+                const uint16_t *data, size_t data_words, nord_change *list, size_t change_numbers, nord_reply *replies, size_t reply_numbers);
 
 #ifdef __cplusplus
 }

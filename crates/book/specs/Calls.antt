@@ -206,12 +206,12 @@ salvageCall img room = record {
   after = salvaged img;
 }
 
--- done: the list begins with the changes, and those past them stay; refused: it is as it was
-pub record Listed (img : List ℕ) (number : ℕ) (list list′ : List Change) : Type 0 where
-  pub done : number ≡ 0 → list′ ≡ repairs img ++ drop (repaired img) list
+-- done: the list begins with what is told, n long, and what is past it stays; refused: it is as it was
+pub record Listed {A : Type 0} (told : List A) (n number : ℕ) (list list′ : List A) : Type 0 where
+  pub done : number ≡ 0 → list′ ≡ told ++ drop n list
   pub refused : (number ≡ 0 → ⊥) → list′ ≡ list
 
 -- with a list lent
 pub record Salvaged (img : List ℕ) (list : List Change) (r : Numbers ℕ) (img′ : List ℕ) (list′ : List Change) : Type 0 where
   pub outcome : Outcome (salvageCall img (length list)) img r img′
-  pub listed : Listed img (r .number) list list′
+  pub listed : Listed (repairs img) (repaired img) (r .number) list list′

@@ -1,3 +1,5 @@
 pub mod Parts
 pub mod Going
 pub mod Replies
+pub mod Offset
+pub mod Flat

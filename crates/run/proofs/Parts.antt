@@ -87,12 +87,12 @@ module _ (img : List ℕ) (r : Numbers ℕ) (img′ : List ℕ) where
     chosen k q o = stepped (subst (λ (x : ℕ). Is (numbered x u f n t img s text words)) (sym q) o)
 
     -- no call has the number
-    pub none-chosen : ((((((((((((((((((Unit {0} × (c ≡ 1 → ⊥)) × (c ≡ 2 → ⊥)) × (c ≡ 3 → ⊥)) × (c ≡ 4 → ⊥)) × (c ≡ 5 → ⊥)) × (c ≡ 7 → ⊥)) × (c ≡ 8 → ⊥)) × (c ≡ 9 → ⊥)) × (c ≡ 10 → ⊥)) × (c ≡ 11 → ⊥)) × (c ≡ 12 → ⊥)) × (c ≡ 13 → ⊥)) × (c ≡ 14 → ⊥)) × (c ≡ 15 → ⊥)) × (c ≡ 17 → ⊥)) × (c ≡ 18 → ⊥)) × (c ≡ 19 → ⊥)) × (c ≡ 20 → ⊥)) × (c ≡ 21 → ⊥) → Is (wrongCall img) → Is (stepCall img s text words)
+    pub none-chosen : (((((((((((((((((((Unit {0} × (c ≡ 1 → ⊥)) × (c ≡ 2 → ⊥)) × (c ≡ 3 → ⊥)) × (c ≡ 4 → ⊥)) × (c ≡ 5 → ⊥)) × (c ≡ 7 → ⊥)) × (c ≡ 8 → ⊥)) × (c ≡ 9 → ⊥)) × (c ≡ 10 → ⊥)) × (c ≡ 11 → ⊥)) × (c ≡ 12 → ⊥)) × (c ≡ 13 → ⊥)) × (c ≡ 14 → ⊥)) × (c ≡ 15 → ⊥)) × (c ≡ 16 → ⊥)) × (c ≡ 17 → ⊥)) × (c ≡ 18 → ⊥)) × (c ≡ 19 → ⊥)) × (c ≡ 20 → ⊥)) × (c ≡ 21 → ⊥) → Is (wrongCall img) → Is (stepCall img s text words)
     unfolding numbered
     none-chosen h o =
-        let h21 = h .0 in let h20 = h21 .0 in let h19 = h20 .0 in let h18 = h19 .0 in let h17 = h18 .0 in let h15 = h17 .0 in let h14 = h15 .0 in let h13 = h14 .0 in let h12 = h13 .0 in
+        let h21 = h .0 in let h20 = h21 .0 in let h19 = h20 .0 in let h18 = h19 .0 in let h17 = h18 .0 in let h16 = h17 .0 in let h15 = h16 .0 in let h14 = h15 .0 in let h13 = h14 .0 in let h12 = h13 .0 in
         let h11 = h12 .0 in let h10 = h11 .0 in let h9 = h10 .0 in let h8 = h9 .0 in let h7 = h8 .0 in let h5 = h7 .0 in let h4 = h5 .0 in let h3 = h4 .0 in let h2 = h3 .0 in
         stepped (skip (eqb c 1) _ _ (ne-eqb c 1 (h2 .1)) (skip (eqb c 2) _ _ (ne-eqb c 2 (h3 .1)) (skip (eqb c 3) _ _ (ne-eqb c 3 (h4 .1)) (skip (eqb c 4) _ _ (ne-eqb c 4 (h5 .1)) (skip (eqb c 5) _ _ (ne-eqb c 5 (h7 .1))
         (skip (eqb c 7) _ _ (ne-eqb c 7 (h8 .1)) (skip (eqb c 8) _ _ (ne-eqb c 8 (h9 .1)) (skip (eqb c 9) _ _ (ne-eqb c 9 (h10 .1)) (skip (eqb c 10) _ _ (ne-eqb c 10 (h11 .1)) (skip (eqb c 11) _ _ (ne-eqb c 11 (h12 .1))
-        (skip (eqb c 12) _ _ (ne-eqb c 12 (h13 .1)) (skip (eqb c 13) _ _ (ne-eqb c 13 (h14 .1)) (skip (eqb c 14) _ _ (ne-eqb c 14 (h15 .1)) (skip (eqb c 15) _ _ (ne-eqb c 15 (h17 .1)) (skip (eqb c 17) _ _ (ne-eqb c 17 (h18 .1))
-        (skip (eqb c 18) _ _ (ne-eqb c 18 (h19 .1)) (skip (eqb c 19) _ _ (ne-eqb c 19 (h20 .1)) (skip (eqb c 20) _ _ (ne-eqb c 20 (h21 .1)) (skip (eqb c 21) _ _ (ne-eqb c 21 (h .1)) o)))))))))))))))))))
+        (skip (eqb c 12) _ _ (ne-eqb c 12 (h13 .1)) (skip (eqb c 13) _ _ (ne-eqb c 13 (h14 .1)) (skip (eqb c 14) _ _ (ne-eqb c 14 (h15 .1)) (skip (eqb c 15) _ _ (ne-eqb c 15 (h16 .1)) (skip (eqb c 16) _ _ (ne-eqb c 16 (h17 .1)) (skip (eqb c 17) _ _ (ne-eqb c 17 (h18 .1))
+        (skip (eqb c 18) _ _ (ne-eqb c 18 (h19 .1)) (skip (eqb c 19) _ _ (ne-eqb c 19 (h20 .1)) (skip (eqb c 20) _ _ (ne-eqb c 20 (h21 .1)) (skip (eqb c 21) _ _ (ne-eqb c 21 (h .1)) o))))))))))))))))))))

@@ -1,9 +1,9 @@
--- What a run asks of a step's call, whichever it is; and that each of the calls has it. Assumes nothing.
-use mathlib.Core.Path.{_≡_}
+-- What a run asks of a step, whichever it is: two results coincide, and done it leaves a ready image; and that each of the calls has it. Assumes nothing.
+use mathlib.Core.Path.{_≡_, sym, ap, _∙_}
 use mathlib.Core.Logic.{inl, inr}
 use mathlib.Core.Bool.{Bool, true, false}
 use mathlib.Core.List.{List}
-use Prim.Native.Nat.{ℕ, _+_, _<_}
+use Prim.Native.Nat.{ℕ, _+_, _/_, _<_}
 use lib.Dec.{eqb, leb}
 use native.Mathlib.Omega.{arith}
 use lib.ListN.{length, getD, take, drop}
@@ -13,18 +13,19 @@ use Rattle.book.specs.Rows.{Rows, Clear, Counted}
 use Rattle.book.specs.Answers.{Numbers}
 use Rattle.book.specs.Image.{pages, Whole, Ready}
 use Rattle.book.specs.Outcome.{Call, call, asking, judged, Outcome, DoneAs, Single}
-use Rattle.book.specs.Coincide.{single-call}
+use Rattle.book.specs.Coincide.{one-outcome, single-call}
 use Rattle.book.specs.Calls.{checkCall, findUserCall, findFileCall, addressCall, formatCall, createUserCall, deleteUserCall, positionRows}
-use Rattle.book.specs.Calls.{giveCall, takeCall, createIndexedCall, createContiguousCall, growCall, shrinkCall, deleteFileCall, writeCall, openCall, convertCall}
+use Rattle.book.specs.Calls.{giveCall, takeCall, createIndexedCall, createContiguousCall, growCall, shrinkCall, deleteFileCall, writeCall, openCall, convertCall, whoCall, salvageCall}
 use Rattle.book.specs.Format.{middle}
 use Rattle.book.specs.Names.{apostrophe, ends}
-use Rattle.book.specs.Run.{wrongCall, pickCall, partCall, nameCall, namesCall, dataCall, numbered, stepCall}
+use Rattle.book.specs.Run.{wrongCall, pickCall, partCall, nameCall, namesCall, dataCall, offsetCall, numbered, stepCall, Result, NumberResult, heldReply, HolderResult, ChangesResult, pickResult, StepResult}
 use Rattle.laws.specs.Call.Done.{done}
 use Rattle.laws.specs.Call.After.{whole-same, kept-call}
 use Rattle.laws.specs.Call.Open.{kept-open}
 use Rattle.laws.specs.Call.Singles.{single-find-user, single-find-file}
 use Rattle.laws.specs.Call.Write.{kept-write}
 use Rattle.laws.specs.Convert.Call.{kept-convert}
+use Rattle.laws.specs.Count.Who.{single-who}
 use Rattle.laws.specs.Create.FileCall.{kept-create-indexed, kept-create-contiguous}
 use Rattle.laws.specs.Create.UserCall.{kept-create-user}
 use Rattle.laws.specs.Delete.FileCall.{kept-delete-file}
@@ -32,18 +33,24 @@ use Rattle.laws.specs.Delete.User.{kept-delete-user}
 use Rattle.laws.specs.File.Stored.{ends-zero, ends-apostrophe}
 use Rattle.laws.specs.Format.Call.{single-format, format-new}
 use Rattle.laws.specs.Grow.Call.{kept-grow}
+use Rattle.laws.specs.Salvage.Call.{single-salvage, sound-salvage, one-listed}
 use Rattle.laws.specs.Shrink.Call.{kept-shrink}
 use Rattle.laws.specs.User.Give.{kept-give, kept-take}
 
 -- it gives one value, its refusals have numbers above 0, and done it leaves a ready image
-pub record Fair (img : List ℕ) (C : Call ℕ) : Type 0 where
+pub record Fair {A : Type 0} (img : List ℕ) (C : Call A) : Type 0 where
   pub single : Single C
   pub counted : Counted (C .table)
-  pub leaves : (r : Numbers ℕ) (img′ : List ℕ) → DoneAs C img r img′ → Ready img′
+  pub leaves : (r : Numbers A) (img′ : List ℕ) → DoneAs C img r img′ → Ready img′
 
 -- so a call that came back with 0 left a ready image
-pub ready-after : (img : List ℕ) (C : Call ℕ) → Fair img C → (r : Numbers ℕ) (img′ : List ℕ) → Outcome C img r img′ → r .number ≡ 0 → Ready img′
+pub ready-after : {A : Type 0} (img : List ℕ) (C : Call A) → Fair img C → (r : Numbers A) (img′ : List ℕ) → Outcome C img r img′ → r .number ≡ 0 → Ready img′
 ready-after img C F r img′ o z = F .leaves r img′ (done C img r img′ (F .counted) o z)
+
+-- of a step's results: any two coincide, and done it left a ready image
+pub record Lawful (R : Result) : Type 0 where
+  pub one : (r s : Numbers ℕ) (a b l m : List ℕ) → R r a l → R s b m → (r ≡ s) × (a ≡ b) × (l ≡ m)
+  pub leaves : (r : Numbers ℕ) (a l : List ℕ) → R r a l → r .number ≡ 0 → Ready a
 
 -- ---- once for all calls
 
@@ -52,8 +59,8 @@ ready-as : (img img′ : List ℕ) → length img′ ≡ length img → Whole im
 ready-as img img′ l W S = record { whole = whole-same img img′ l W; sound = S }
 
 -- a call that goes through the gate, and keeps a sound image sound
-fair : (img : List ℕ) (args : Type 0) (rest : Rows) (none : ℕ) (gives : ℕ → Type 0) (after : Vol) → Counted rest → Single (asking img args rest none gives after)
-    → ((r : Numbers ℕ) (img′ : List ℕ) → Outcome (asking img args rest none gives after) img r img′ → Sound (pages img) (vol img) → Sound (pages img′) (vol img′))
+fair : {A : Type 0} (img : List ℕ) (args : Type 0) (rest : Rows) (none : A) (gives : A → Type 0) (after : Vol) → Counted rest → Single (asking img args rest none gives after)
+    → ((r : Numbers A) (img′ : List ℕ) → Outcome (asking img args rest none gives after) img r img′ → Sound (pages img) (vol img) → Sound (pages img′) (vol img′))
     → Fair img (asking img args rest none gives after)
 unfolding asking judged Counted Clear Outcome
 fair img args rest none gives after a s k = record {
@@ -63,7 +70,7 @@ fair img args rest none gives after a s k = record {
 }
 
 -- one that leaves the image
-quiet : (img : List ℕ) (args : Type 0) (rest : Rows) (none : ℕ) (gives : ℕ → Type 0) → Counted rest → Single (asking img args rest none gives (vol img)) → Fair img (asking img args rest none gives (vol img))
+quiet : {A : Type 0} (img : List ℕ) (args : Type 0) (rest : Rows) (none : A) (gives : A → Type 0) → Counted rest → Single (asking img args rest none gives (vol img)) → Fair img (asking img args rest none gives (vol img))
 quiet img args rest none gives a s = fair img args rest none gives (vol img) a s (λ r img′ o. kept-call img args rest none gives (vol img) r img′ o (λ W x S c. S))
 
 fair-pick : (img : List ℕ) (b : Bool) (C D : Call ℕ) → Fair img C → Fair img D → Fair img (pickCall b C D)
@@ -146,9 +153,13 @@ module _ (img : List ℕ) where
       unfolding writeCall call positionRows Counted
       fair-write n d = fair img _ _ _ _ _ (omega arith, tt) (single-call img _ _ _ _) (kept-write img u f n d)
 
-      fair-address : (n : ℕ) → Fair img (addressCall img u f n)
+      pub fair-address : (n : ℕ) → Fair img (addressCall img u f n)
       unfolding addressCall call positionRows Counted
       fair-address n = quiet img _ _ _ _ (omega arith, tt) (single-call img _ _ _ _)
+
+      fair-offset : (n : ℕ) → Fair img (offsetCall img u f n)
+      unfolding offsetCall call positionRows Counted
+      fair-offset n = quiet img _ _ _ _ (omega arith, tt) (single-call img _ _ _ _)
 
   fair-convert : (from to : ℕ) → 0 < ends to → Fair img (convertCall from to img)
   unfolding convertCall call Counted
@@ -189,13 +200,62 @@ module _ (img : List ℕ) where
       (fair-pick img (eqb c 13) _ _ (fair-grow u f)
       (fair-pick img (eqb c 14) _ _ (fair-shrink u f)
       (fair-pick img (eqb c 15) _ _ (fair-delete-file u f)
+      (fair-pick img (eqb c 16) _ _ (fair-offset u f n)
       (fair-pick img (eqb c 17) _ _ (fair-data s words _ (fair-write u f n))
       (fair-pick img (eqb c 18) _ _ (fair-open u f)
       (fair-pick img (eqb c 19) _ _ (fair-name s text _ (λ name. fair-format name (middle (pages img))))
       (fair-pick img (eqb c 20) _ _ (fair-convert 0 apostrophe ends-apostrophe)
-      (fair-pick img (eqb c 21) _ _ (fair-convert apostrophe 0 ends-zero) fair-wrong))))))))))))))))))
+      (fair-pick img (eqb c 21) _ _ (fair-convert apostrophe 0 ends-zero) fair-wrong)))))))))))))))))))
 
--- so any step's call has it
-pub fair-step : (img s text words : List ℕ) → Fair img (stepCall img s text words)
-unfolding stepCall
-fair-step img s text words = fair-numbered img (getD s 0 0) (getD s 1 0) (getD s 2 0) (getD s 3 0) (getD s 4 0) s text words
+  fair-step : (s text words : List ℕ) → Fair img (stepCall img s text words)
+  unfolding stepCall
+  fair-step s text words = fair-numbered (getD s 0 0) (getD s 1 0) (getD s 2 0) (getD s 3 0) (getD s 4 0) s text words
+
+  fair-who : (p : ℕ) → Fair img (whoCall img p)
+  unfolding whoCall Counted
+  fair-who p = quiet img _ _ _ _ tt (single-who img p)
+
+  fair-salvage : (room : ℕ) → Fair img (salvageCall img room)
+  unfolding salvageCall Counted Clear Outcome
+  fair-salvage room = record {
+    single = single-salvage img room;
+    counted = (omega arith, (omega arith, (omega arith, (omega arith, tt))));
+    leaves = λ r img′ d. ready-as img img′ (d .size) (d .clear .0) (sound-salvage img room r img′ (inr d) (d .number));
+  }
+
+  -- ---- each kind of step
+
+  module _ (list : List ℕ) where
+    lawful-number : (C : Call ℕ) → Fair img C → Lawful (NumberResult C img list)
+    lawful-number C F = record {
+      one = λ r s a b l m x y. let o = one-outcome C (F .single) img r s a b (x .outcome) (y .outcome) in (o .0, o .1, x .kept ∙ sym (y .kept));
+      leaves = λ r a l x z. ready-after img C F r a (x .outcome) z;
+    }
+
+    lawful-who : (p : ℕ) → Lawful (HolderResult img list p)
+    lawful-who p = record {
+      one = λ r s a b l m x y. let o = one-outcome (whoCall img p) (fair-who p .single) img (x .answer) (y .answer) a b (x .outcome) (y .outcome) in
+          (x .reply ∙ ap heldReply (o .0) ∙ sym (y .reply), o .1, x .kept ∙ sym (y .kept));
+      leaves = λ r a l x z. ready-after img (whoCall img p) (fair-who p) (x .answer) a (x .outcome) (sym (ap (λ (n : Numbers ℕ). n .number) (x .reply)) ∙ z);
+    }
+
+    lawful-salvage : Lawful (ChangesResult img list)
+    lawful-salvage = record {
+      one = λ r s a b l m x y. let o = one-outcome (salvageCall img room) (fair-salvage room .single) img r s a b (x .outcome) (y .outcome) in
+          (o .0, o .1, one-listed _ _ (r .number) (s .number) list l m (ap (λ (n : Numbers ℕ). n .number) (o .0)) (x .listed) (y .listed));
+      leaves = λ r a l x z. ready-after img (salvageCall img room) (fair-salvage room) r a (x .outcome) z;
+    }
+      where
+        room : ℕ
+        room = length list / 4
+
+lawful-pick : (b : Bool) (R Q : Result) → Lawful R → Lawful Q → Lawful (pickResult b R Q)
+lawful-pick true R Q x y = x
+lawful-pick false R Q x y = y
+
+-- so any step has it
+pub lawful-step : (img list s text words : List ℕ) → Lawful (StepResult img list s text words)
+unfolding StepResult
+lawful-step img list s text words =
+    lawful-pick (eqb (getD s 0 0) 6) _ _ (lawful-who img list (getD s 3 0))
+    (lawful-pick (eqb (getD s 0 0) 22) _ _ (lawful-salvage img list) (lawful-number img list _ (fair-step img s text words)))

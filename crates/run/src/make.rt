@@ -26,10 +26,10 @@ ghost use Rattle.book.specs.Answers.{numbers};
 ghost use Rattle.book.specs.Outcome.{Outcome};
 ghost use Rattle.book.specs.Calls.{formatCall, formatDefaultCall, findUserCall, findFileCall, createUserCall, createIndexedCall, createContiguousCall, writeCall};
 ghost use Rattle.book.specs.Enter.{Known};
-ghost use Rattle.book.specs.Run.{nameCall, namesCall, dataCall, stepCall};
+ghost use Rattle.book.specs.Run.{nameCall, namesCall, dataCall, offsetCall, stepCall};
 
-// The numbers of the calls: their places in document 01's list of work, then those of document 02. 6, who holds a page, and 16, read a page, are
-// no steps.
+// The numbers of the calls: their places in document 01's list of work, then those of document 02. 6, who holds a page, and 22, salvage, answer no
+// single value: lib.rt makes them.
 const FORMAT: usize = 1;
 
 const CHECK: usize = 2;
@@ -57,6 +57,8 @@ const GROW: usize = 13;
 const SHRINK: usize = 14;
 
 const DELETE_FILE: usize = 15;
+
+const READ_PAGE: usize = 16;
 
 const WRITE_PAGE: usize = 17;
 
@@ -199,6 +201,20 @@ fn make_create_contiguous(
     files::create_contiguous(img, known, user, name, kind, time, count)
 }
 
+// Read page: where its words begin in the image.
+fn make_read_page(img: &[u16], known: bool, user: usize, file: usize, n: usize) -> Answer
+    requires { ⌜ Known known (now img) ⌝ }
+    ensures { λ r. ⌜ Outcome (offsetCall (now (img .entry)) user file n) (now (img .entry)) (numbers r) (now (img .entry)) ⌝ }
+{
+    let a = ask::address(img, known, user, file, n);
+    match a {
+        Answer::Done { value } => Answer::Done {
+            value: 1024 * value,
+        },
+        Answer::Refused { why } => Answer::Refused { why },
+    }
+}
+
 // Write page with the words that the step tells.
 fn make_write_page(
     img: &mut [u16],
@@ -245,6 +261,7 @@ pub(crate) fn make(img: &mut [u16], known: bool, step: &[u32], text: &[u8], word
         GROW => files::grow(img, known, user, file),
         SHRINK => files::shrink(img, known, user, file),
         DELETE_FILE => files::delete_file(img, known, user, file),
+        READ_PAGE => make_read_page(img, known, user, file, n),
         WRITE_PAGE => make_write_page(img, known, user, file, n, step, words),
         NOTE_OPEN => change::note_open(img, known, user, file),
         FORMAT_DEFAULT => make_format_default(img, known, step, text),

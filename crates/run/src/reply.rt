@@ -2,6 +2,8 @@
 use book::Answer;
 use book::Break;
 use book::Holder;
+use book::Holding;
+use book::Place;
 use book::Refusal;
 use sound::numbers::broken_of;
 use sound::numbers::holder_of;
@@ -10,8 +12,8 @@ ghost use mathlib.Core.Path.{_≡_};
 ghost use Prim.Native.Nat.{_+_, _*_, _≤_};
 ghost use lib.ListN.{length};
 ghost use Rattle.book.specs.Decides.{Decides};
-ghost use Rattle.book.specs.Answers.{unbroken, doneWith, refusedWith, numbers, holderNumbers};
-ghost use Rattle.book.specs.Run.{putThree, putPlace, putHolder, putBreak, putReply};
+ghost use Rattle.book.specs.Answers.{unbroken, doneWith, refusedWith, numbers, holding, holderNumbers};
+ghost use Rattle.book.specs.Run.{heldBy, heldReply, putThree, putFour, putPlace, putHolder, putBreak, putReply};
 
 pub(crate) const LENGTH: usize = 13;
 
@@ -34,15 +36,15 @@ fn place(out: &mut [u32], at: usize, page: u32, word: u32)
     out[at + 1] = word;
 }
 
-// Writes the four numbers of a holder.
-fn four(out: &mut [u32], at: usize, kind: u32, user: u32, file: u32, position: u32)
+// Writes four numbers.
+pub(crate) fn four(out: &mut [u32], at: usize, a: u32, b: u32, c: u32, d: u32)
     requires { ⌜ at + 4 ≤ length (now out) ⌝ }
-    ensures { λ _. ⌜ now (out .exit) ≡ putHolder (now (out .entry)) at (record { kind = kind; user = user; file = file; position = position }) ⌝ }
+    ensures { λ _. ⌜ now (out .exit) ≡ putFour (now (out .entry)) at a b c d ⌝ }
 {
-    out[at] = kind;
-    out[at + 1] = user;
-    out[at + 2] = file;
-    out[at + 3] = position;
+    out[at] = a;
+    out[at + 1] = b;
+    out[at + 2] = c;
+    out[at + 3] = d;
 }
 
 // Writes a holder.
@@ -108,6 +110,46 @@ pub(crate) fn put(out: &mut [u32], i: usize, a: Answer) -> bool
             true
         }
         Answer::Refused { why } => {
+            put_refused(out, i, why);
+            false
+        }
+    }
+}
+
+// What the reply of who holds has beside its number: nothing is broken, and the first holder is the page's.
+fn held_by(h: Holder) -> Break
+    ensures { λ r. ⌜ r ≡ heldBy h ⌝ }
+{
+    Break {
+        rule: 0,
+        place: Place { page: 0, word: 0 },
+        first: h,
+        second: Holder::Free,
+    }
+}
+
+// Writes the reply of step i, which was told who holds a page.
+fn put_holder(out: &mut [u32], i: usize, h: Holder)
+    requires { ⌜ i * 13 + 13 ≤ length (now out) ⌝ }
+    ensures { λ _. ⌜ now (out .exit) ≡ putReply (now (out .entry)) i (heldReply (doneWith h)) ⌝ }
+{
+    let at = i * LENGTH;
+    let b = held_by(h);
+    three(out, at, 0, 0, 0);
+    broken(out, at + 3, b);
+}
+
+// Writes the reply of step i, which asked who holds a page; whether it was done.
+pub(crate) fn put_held(out: &mut [u32], i: usize, a: Holding) -> bool
+    requires { ⌜ i * 13 + 13 ≤ length (now out) ⌝ }
+    ensures { λ r. ⌜ (now (out .exit) ≡ putReply (now (out .entry)) i (heldReply (holding a))) × Decides r (holding a .number ≡ 0) ⌝ }
+{
+    match a {
+        Holding::By { holder } => {
+            put_holder(out, i, holder);
+            true
+        }
+        Holding::Refused { why } => {
             put_refused(out, i, why);
             false
         }

@@ -19,7 +19,7 @@ fn change_of(x: u64) -> Change
 }
 
 // The change that number k of the row tells of.
-fn told_at(row: &[u64; 9311], k: usize) -> Change
+pub fn told_at(row: &[u64; 9311], k: usize) -> Change
     requires { ⌜ k < 9311 ⌝ }
     ensures { λ r. ⌜ r ≡ unpacked (getD (now (row .entry)) k 0) ⌝ }
 {

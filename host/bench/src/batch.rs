@@ -55,7 +55,7 @@ impl Batch {
     /// All files by one run; gives its replies.
     pub fn by_run(&self, image: &mut [u16]) -> Vec<Reply> {
         let mut replies = vec![Reply::default(); self.steps.len()];
-        let made = proved::run(image, &self.steps, &self.text, &self.data, &mut replies);
+        let made = proved::run(image, &self.steps, &self.text, &self.data, &mut [], &mut replies);
         replies.truncate(made);
         replies
     }

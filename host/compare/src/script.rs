@@ -70,7 +70,7 @@ impl Script {
     pub fn on_proved(&self, image: &mut [u16]) -> Played {
         let Lent { steps, text, data } = Lent::of(&self.asked);
         let mut replies = vec![UNTOUCHED; self.room];
-        let made = proved::run(image, &steps, &text, &data, &mut replies);
+        let made = proved::run(image, &steps, &text, &data, &mut [], &mut replies);
         Played { made, replies: replies.into_iter().map(Answer::from).collect() }
     }
 

@@ -19,7 +19,8 @@ pub struct Holder {
 }
 
 /// What a call answers: the number of document 01's table; with 3 the lowest broken rule and its first place, with rule 8 the first two holders
-/// of that page too; the value with 0; else zeros.
+/// of that page too; the value with 0; else zeros. A step that asks who holds a page has the holder as `first`, and one that reads a page the offset
+/// of its words in the image as the value.
 #[repr(C)]
 #[derive(Clone, Copy, Debug, Default, PartialEq, Eq)]
 pub struct Reply {
@@ -53,7 +54,7 @@ pub struct Change {
     pub new: u32,
 }
 
-/// A step of a run: a call by its number (`call`) with its arguments. `count` is a page count, a position, or format's first bit page; the name is
+/// A step of a run: a call by its number (`call`) with its arguments. `count` is a page count, a position, a page, or format's first bit page; the name is
 /// the bytes `name_at .. name_at + name_bytes` of the text lent with the steps, the type likewise, and a page's data are the 1,024 words from
 /// `data_at` on of the words lent with them. What a call does not use is not looked at.
 #[repr(C)]
@@ -71,13 +72,14 @@ pub struct Step {
     pub data_at: u32,
 }
 
-/// The calls of a step, by number. Who holds a page (6) and reading a page (16) answer more than a reply has: they are no steps.
+/// The calls of a step, by number.
 pub mod call {
     pub const FORMAT: u32 = 1;
     pub const CHECK: u32 = 2;
     pub const FIND_USER: u32 = 3;
     pub const FIND_FILE: u32 = 4;
     pub const ADDRESS: u32 = 5;
+    pub const WHO_HOLDS: u32 = 6;
     pub const CREATE_USER: u32 = 7;
     pub const DELETE_USER: u32 = 8;
     pub const GIVE: u32 = 9;
@@ -87,19 +89,22 @@ pub mod call {
     pub const GROW: u32 = 13;
     pub const SHRINK: u32 = 14;
     pub const DELETE_FILE: u32 = 15;
+    pub const READ_PAGE: u32 = 16;
     pub const WRITE_PAGE: u32 = 17;
     pub const NOTE_OPEN: u32 = 18;
     pub const FORMAT_DEFAULT: u32 = 19;
     pub const CONVERT_TO_APOSTROPHE: u32 = 20;
     pub const CONVERT_TO_ZEROS: u32 = 21;
+    pub const SALVAGE: u32 = 22;
 }
 
-/// The numbers of a step and of a reply, which the lengths of their lists are told in.
+/// The numbers of a step, of a change and of a reply, which the lengths of their lists are told in.
 pub(crate) const STEP_NUMBERS: usize = size_of::<Step>() / size_of::<u32>();
+pub(crate) const CHANGE_NUMBERS: usize = size_of::<Change>() / size_of::<u32>();
 pub(crate) const REPLY_NUMBERS: usize = size_of::<Reply>() / size_of::<u32>();
 
-/// The header's NORD_STEPS(1) and NORD_REPLIES(1), and the bytes of what nord_who_holds answers.
-const _: () = assert!(STEP_NUMBERS == 10 && REPLY_NUMBERS == 13 && size_of::<HolderReply>() == 64);
+/// The header's NORD_STEPS(1), NORD_CHANGE_NUMBERS(1) and NORD_REPLIES(1), and the bytes of what nord_who_holds answers.
+const _: () = assert!(STEP_NUMBERS == 10 && CHANGE_NUMBERS == 4 && REPLY_NUMBERS == 13 && size_of::<HolderReply>() == 64);
 
 /// A part of the image, in words.
 #[repr(C)]
@@ -177,6 +182,8 @@ extern "C" {
         text_bytes: usize,
         data: *const u16,
         data_words: usize,
+        list: *mut Change,
+        change_numbers: usize,
         replies: *mut Reply,
         reply_numbers: usize,
     ) -> usize;

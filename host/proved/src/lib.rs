@@ -11,7 +11,7 @@
 mod boundary;
 
 pub use boundary::{call, Change, Holder, HolderReply, Place, Reply, Step};
-use boundary::{REPLY_NUMBERS, STEP_NUMBERS};
+use boundary::{CHANGE_NUMBERS, REPLY_NUMBERS, STEP_NUMBERS};
 
 /// The words of a page.
 pub const PAGE: usize = 1024;
@@ -169,11 +169,14 @@ pub const fn most_changes(pages: usize) -> usize {
 }
 
 /// Makes the steps in order, with one check of the image for all of them: a reply for each, up to the first refusal or to the end of `steps`
-/// or `replies`. Gives the number of replies; the others stay as they were. Replies and image are those of the single calls one after the
-/// other. A step whose call is none, or that uses a part which does not lie in `text` or `data`, is a call whose arguments are wrong.
+/// or `replies`. Gives the number of replies; the others stay as they were. Replies, image and list are those of the single calls one after
+/// the other. A step whose call is none, or that uses a part which does not lie in `text` or `data`, is a call whose arguments are wrong.
 ///
-/// `image` and `replies` are lent as `&mut`, so neither overlaps the other or any of the rest; `steps`, `text` and `data` are only read.
-pub fn run(image: &mut [u16], steps: &[Step], text: &[u8], data: &[u16], replies: &mut [Reply]) -> usize {
+/// A salvage tells its changes in `list`, from its beginning on. Only one that is the first step can have any: every step that is done leaves
+/// a sound image. Any other run needs no list.
+///
+/// `image`, `list` and `replies` are lent as `&mut`, so none overlaps another or any of the rest; `steps`, `text` and `data` are only read.
+pub fn run(image: &mut [u16], steps: &[Step], text: &[u8], data: &[u16], list: &mut [Change], replies: &mut [Reply]) -> usize {
     let (words, length) = (image.as_mut_ptr(), image.len());
     unsafe {
         boundary::nord_run(
@@ -185,6 +188,8 @@ pub fn run(image: &mut [u16], steps: &[Step], text: &[u8], data: &[u16], replies
             text.len(),
             data.as_ptr(),
             data.len(),
+            list.as_mut_ptr(),
+            CHANGE_NUMBERS * list.len(),
             replies.as_mut_ptr(),
             REPLY_NUMBERS * replies.len(),
         )

@@ -8,7 +8,7 @@ use native.Mathlib.Omega.{arith}
 use lib.ListN.{length, getD, take, drop, List·getD-eq-default}
 use lib.Seq.{take-append-seam, drop-append-seam}
 use Rattle.book.specs.Answers.{Numbers}
-use Rattle.book.specs.Calls.{salvaged, repairs, repaired, salvageCall, Salvaged}
+use Rattle.book.specs.Calls.{salvaged, repairs, repaired, salvageCall, Listed, Salvaged}
 use Rattle.book.specs.Coincide.{one-outcome, vol-ext}
 use Rattle.book.specs.Files.{fileAt}
 use Rattle.book.specs.Image.{pages, Sixteen, Whole}
@@ -129,22 +129,18 @@ module _ (img : List ℕ) (room : ℕ) where
 
 -- ---- the list
 
+-- two lists after one call coincide
+pub one-listed : {A : Type 0} (told : List A) (n k m : ℕ) (list a b : List A) → k ≡ m → Listed told n k list a → Listed told n m list b → a ≡ b
+one-listed told n k m list a b e x y = elim (ℕ-discrete k 0) [
+  | yes z ↦ x .done z ∙ sym (y .done (sym e ∙ z))
+  | no h ↦ x .refused h ∙ sym (y .refused (λ z. h (e ∙ z)))
+]
+
 -- two outcomes coincide, the list with them
 pub one-salvage : (img : List ℕ) (list : List Change) (r s : Numbers ℕ) (a b : List ℕ) (l m : List Change) → Salvaged img list r a l → Salvaged img list s b m → (r ≡ s) × (a ≡ b) × (l ≡ m)
-one-salvage img list r s a b l m x y = (
-  o .0,
-  o .1,
-  elim (ℕ-discrete (r .number) 0) [
-    | yes z ↦ x .listed .done z ∙ sym (y .listed .done (sym e ∙ z))
-    | no n ↦ x .listed .refused n ∙ sym (y .listed .refused (λ z. n (e ∙ z)))
-  ],
-)
-  where
-    o : (r ≡ s) × (a ≡ b)
-    o = one-outcome (salvageCall img (length list)) (single-salvage img (length list)) img r s a b (x .outcome) (y .outcome)
-
-    e : r .number ≡ s .number
-    e = ap (λ (n : Numbers ℕ). n .number) (o .0)
+one-salvage img list r s a b l m x y =
+    let o = one-outcome (salvageCall img (length list)) (single-salvage img (length list)) img r s a b (x .outcome) (y .outcome) in
+    (o .0, o .1, one-listed (repairs img) (repaired img) (r .number) (s .number) list l m (ap (λ (n : Numbers ℕ). n .number) (o .0)) (x .listed) (y .listed))
 
 -- two images of one length differ in their own words alone
 inside : (img img′ : List ℕ) → length img′ ≡ length img → Whole img → (p k : ℕ) → vol img p k ≢ vol img′ p k → (p < pages img) × (k < 1024)

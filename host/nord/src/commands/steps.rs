@@ -34,7 +34,7 @@ pub fn make(image: &mut [u16], what: &'static str, count: u32, data: &[u16], ste
     for first in (0..count).step_by(AT_ONCE) {
         let end = first.saturating_add(AT_ONCE as u32).min(count);
         let steps: Vec<Step> = (first..end).map(&step).collect();
-        let made = proved::run(image, &steps, &[], data, &mut replies);
+        let made = proved::run(image, &steps, &[], data, &mut [], &mut replies);
         for reply in &replies[..made] {
             if reply.number != 0 {
                 return Err(Refused {

@@ -91,35 +91,41 @@ returns-14 c =
 returns-15 : tie.Need-returns-15
 unfolding numbered
 returns-15 c =
-    let x = c .before .before in let m = x .before .before in let t = m .before in let n = t .before in let f = n .before in let u = f .before in let a = u .before in
-    chosen _ _ _ _ _ _ _ _ _ _ _ (a .number .ensures .0) (u .number2 .ensures .0) (f .number3 .ensures .0) (n .number4 .ensures .0) (t .created .ensures) _ (m .match .keys15) (x .make-write-page .ensures)
+    let x = c in let m = x .before .before in let t = m .before in let n = t .before in let f = n .before in let u = f .before in let a = u .before in
+    chosen _ _ _ _ _ _ _ _ _ _ _ (a .number .ensures .0) (u .number2 .ensures .0) (f .number3 .ensures .0) (n .number4 .ensures .0) (t .created .ensures) _ (m .match .keys15) (x .make-read-page .ensures)
 
 returns-16 : tie.Need-returns-16
 unfolding numbered
 returns-16 c =
     let x = c .before .before in let m = x .before .before in let t = m .before in let n = t .before in let f = n .before in let u = f .before in let a = u .before in
-    chosen _ _ _ _ _ _ _ _ _ _ _ (a .number .ensures .0) (u .number2 .ensures .0) (f .number3 .ensures .0) (n .number4 .ensures .0) (t .created .ensures) _ (m .match .keys16) (x .note-open .ensures)
+    chosen _ _ _ _ _ _ _ _ _ _ _ (a .number .ensures .0) (u .number2 .ensures .0) (f .number3 .ensures .0) (n .number4 .ensures .0) (t .created .ensures) _ (m .match .keys16) (x .make-write-page .ensures)
 
 returns-17 : tie.Need-returns-17
 unfolding numbered
 returns-17 c =
     let x = c .before .before in let m = x .before .before in let t = m .before in let n = t .before in let f = n .before in let u = f .before in let a = u .before in
-    chosen _ _ _ _ _ _ _ _ _ _ _ (a .number .ensures .0) (u .number2 .ensures .0) (f .number3 .ensures .0) (n .number4 .ensures .0) (t .created .ensures) _ (m .match .keys17) (x .make-format-default .ensures)
+    chosen _ _ _ _ _ _ _ _ _ _ _ (a .number .ensures .0) (u .number2 .ensures .0) (f .number3 .ensures .0) (n .number4 .ensures .0) (t .created .ensures) _ (m .match .keys17) (x .note-open .ensures)
 
 returns-18 : tie.Need-returns-18
 unfolding numbered
 returns-18 c =
     let x = c .before .before in let m = x .before .before in let t = m .before in let n = t .before in let f = n .before in let u = f .before in let a = u .before in
-    chosen _ _ _ _ _ _ _ _ _ _ _ (a .number .ensures .0) (u .number2 .ensures .0) (f .number3 .ensures .0) (n .number4 .ensures .0) (t .created .ensures) _ (m .match .keys18) (x .to-apostrophe .ensures)
+    chosen _ _ _ _ _ _ _ _ _ _ _ (a .number .ensures .0) (u .number2 .ensures .0) (f .number3 .ensures .0) (n .number4 .ensures .0) (t .created .ensures) _ (m .match .keys18) (x .make-format-default .ensures)
 
 returns-19 : tie.Need-returns-19
 unfolding numbered
 returns-19 c =
     let x = c .before .before in let m = x .before .before in let t = m .before in let n = t .before in let f = n .before in let u = f .before in let a = u .before in
-    chosen _ _ _ _ _ _ _ _ _ _ _ (a .number .ensures .0) (u .number2 .ensures .0) (f .number3 .ensures .0) (n .number4 .ensures .0) (t .created .ensures) _ (m .match .keys19) (x .to-zeros .ensures)
+    chosen _ _ _ _ _ _ _ _ _ _ _ (a .number .ensures .0) (u .number2 .ensures .0) (f .number3 .ensures .0) (n .number4 .ensures .0) (t .created .ensures) _ (m .match .keys19) (x .to-apostrophe .ensures)
 
 returns-20 : tie.Need-returns-20
+unfolding numbered
 returns-20 c =
+    let x = c .before .before in let m = x .before .before in let t = m .before in let n = t .before in let f = n .before in let u = f .before in let a = u .before in
+    chosen _ _ _ _ _ _ _ _ _ _ _ (a .number .ensures .0) (u .number2 .ensures .0) (f .number3 .ensures .0) (n .number4 .ensures .0) (t .created .ensures) _ (m .match .keys20) (x .to-zeros .ensures)
+
+returns-21 : tie.Need-returns-21
+returns-21 c =
     let m = c .before .before in let t = m .before in let n = t .before in let f = n .before in let u = f .before in let a = u .before in
     none-chosen _ _ _ _ _ _ _ _ _ _ _ (a .number .ensures .0) (u .number2 .ensures .0) (f .number3 .ensures .0) (n .number4 .ensures .0) (t .created .ensures) (m .match .rest) (c .wrong .ensures)
 
@@ -128,10 +134,11 @@ make-spec =
     tie.close
     (tie.spec
     (λ c κs. search needs) (λ c κs. search needs) (λ c κs. search needs) (λ c κs. search needs) (λ c κs. search needs) (λ c κs. search needs) (λ c κs. search needs) (λ c κs. search needs) (λ c κs. search needs) (λ c κs. search needs)
-    (λ c κs. search needs) (λ c κs. search needs) (λ c κs. search needs) (λ c κs. search needs) (λ c κs. search needs) (λ c κs. search needs) (λ c κs. search needs) (λ c κs. search needs)
-    (λ c κs. search needs) (λ c κs. search needs) (λ c κs. search needs) (λ c κs. search needs) (λ c κs. search needs) (λ c κs. search needs) (λ c κs. search needs) (λ c. search needs)
-    returns (λ c. search needs) returns-2 (λ c. search needs) returns-3 (λ c. search needs) returns-4 (λ c. search needs)
-    returns-5 (λ c. search needs) returns-6 (λ c. search needs) returns-7 (λ c. search needs) returns-8 (λ c. search needs)
-    returns-9 (λ c. search needs) returns-10 (λ c. search needs) returns-11 (λ c. search needs) returns-12 (λ c. search needs)
-    returns-13 (λ c. search needs) returns-14 (λ c. search needs) returns-15 (λ c. search needs) returns-16 (λ c. search needs)
-    returns-17 (λ c. search needs) returns-18 (λ c. search needs) returns-19 (λ c. search needs) returns-20)
+    (λ c κs. search needs) (λ c κs. search needs) (λ c κs. search needs) (λ c κs. search needs) (λ c κs. search needs) (λ c κs. search needs) (λ c κs. search needs) (λ c κs. search needs) (λ c κs. search needs) (λ c κs. search needs)
+    (λ c κs. search needs) (λ c κs. search needs) (λ c κs. search needs) (λ c κs. search needs) (λ c κs. search needs) (λ c κs. search needs)
+    (λ c. search needs) returns (λ c. search needs) returns-2 (λ c. search needs) returns-3 (λ c. search needs) returns-4
+    (λ c. search needs) returns-5 (λ c. search needs) returns-6 (λ c. search needs) returns-7 (λ c. search needs) returns-8
+    (λ c. search needs) returns-9 (λ c. search needs) returns-10 (λ c. search needs) returns-11 (λ c. search needs) returns-12
+    (λ c. search needs) returns-13 (λ c. search needs) returns-14 (λ c. search needs) returns-15 (λ c. search needs) returns-16
+    (λ c. search needs) returns-17 (λ c. search needs) returns-18 (λ c. search needs) returns-19 (λ c. search needs) returns-20
+    (λ c. search needs) returns-21)
