@@ -43,7 +43,7 @@ pub enum Kind {
     Scripts { scripts: u32, steps: u32 },
     /// Scripts past the edges of users, files and index blocks.
     EdgeScripts,
-    /// Two scripts for each rule, broken so often; the one begins with a salvage.
+    /// Scripts for each rule, broken so often.
     DamagedScripts { times: u32 },
     /// Scripts that ask who holds each page, and read pages of each file.
     AskingScripts,
@@ -129,7 +129,7 @@ pub const CYCLE: &[(u32, Kind, Size)] = &[
     (2, Kind::EdgeScripts, Size::Of(1_100)),
     (20, Kind::DamagedScripts { times: 2 }, Size::Between(8, 160)),
     (20, Kind::AskingScripts, Size::Between(8, 160)),
-    (8, Kind::AskingScripts, Size::Between(600, 700)),
+    (12, Kind::AskingScripts, Size::Between(600, 700)),
     (30, Kind::SalvageScripts { images: 4 }, Size::Between(8, 160)),
     (1, Kind::SalvageScripts { images: 4 }, Size::Of(1_100)),
     (10, Kind::Searches, Size::Between(160, 240)),

@@ -19,11 +19,12 @@ const STEPS: u32 = 4;
 const ROOMS: usize = 3;
 
 impl Round<'_> {
-    /// So many times stale bits and counts by chance on one volume.
+    /// A sound volume as it is, and so many times with stale bits and counts by chance.
     pub fn salvage_scripts(&mut self, pages: u32, images: u32) -> Agreed {
         let sound = self.volume_to_damage(pages);
         let scene = Scene::read(&sound);
         let mut both = Both::new(sound.clone());
+        self.salvaged_by_scripts(&mut both, &sound, &Right::Words(sound.clone()))?;
         for _ in 0..images {
             let mut stale = Stale::new(&mut self.random, &sound, &scene);
             stale.by_chance();

@@ -49,20 +49,20 @@ impl Round<'_> {
         }
     }
 
-    /// Two scripts on an image that breaks a rule, for each of the rules; the one begins with a salvage.
+    /// Scripts on an image that breaks a rule, for each of the rules: one by chance, one that begins with a salvage, and one with a question.
     pub fn damaged_scripts(&mut self, pages: u32, times: u32) -> Agreed {
         let base = self.base(pages);
         let scene = Scene::read(&base);
         let mut both = Both::new(base.clone());
         for rule in (0..times).flat_map(|_| 1..=10) {
             let Some(words) = Damage::new(&mut self.random, &base, &scene).aimed(rule) else { continue };
-            for salvage_first in [false, true] {
+            let asking = [Call::WhoHolds { page: 0 }, Call::ReadPage { user: 0, file: 0, position: 0 }];
+            let asking = Asked::of(self.random.pick(&asking).clone());
+            for first in [None, Some(Asked::Salvage), Some(asking)] {
                 both.put(&words);
                 let mut script = self.script(both.image(), &SCRIPTED, 5, 4);
-                if salvage_first {
-                    script.asked.insert(0, Asked::Salvage);
-                    script.room += 1;
-                }
+                script.room += usize::from(first.is_some());
+                script.asked.splice(0..0, first);
                 self.play(&mut both, None, script)?;
                 both.restart();
             }

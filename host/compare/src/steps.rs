@@ -137,3 +137,48 @@ impl StepEdges {
         out
     }
 }
+
+#[cfg(test)]
+mod tests {
+    use super::*;
+    use crate::lists::written;
+    use crate::random::Random;
+    use crate::rounds::Round;
+    use crate::tally::Tally;
+    use proved::{Change, Holder};
+
+    /// The edges that a run of a salvage and a question met, which told one change in a list of so much room.
+    fn met(list: usize, holds: Answer) -> Vec<Edge> {
+        let asked = vec![Asked::Salvage, Asked::Call(Call::WhoHolds { page: 5 }), Asked::Salvage];
+        let salvaged = Answer { value: 1, ..Answer::default() };
+        let made = if holds.number == 0 { 3 } else { 2 };
+        let played = Played { made, replies: vec![salvaged, holds, Answer::default()], list: written(list, &[Change::default()]) };
+        let mut edges = StepEdges::default();
+        edges.ran(&Script { room: 3, list, asked }, &played);
+        Edge::all().into_iter().filter(|&edge| edges.times(edge) == 1).collect()
+    }
+
+    /// What is not done, not first or not just enough is not counted as such.
+    #[test]
+    fn a_run_met_what_its_replies_tell() {
+        let holder = Answer { first: Holder { kind: 10, ..Holder::default() }, ..Answer::default() };
+        assert_eq!(met(1, holder), [Edge::Holds(10), Edge::Changed, Edge::Within, Edge::Enough, Edge::WentOn]);
+        let refused = Answer { number: 2, ..Answer::default() };
+        assert_eq!(met(2, refused), [Edge::HoldsRefused(2), Edge::Changed, Edge::Spare]);
+    }
+
+    /// A few rounds meet every edge.
+    #[test]
+    fn edges_are_met() {
+        let mut tally = Tally::default();
+        for (n, pages) in (0..8).zip([8, 20, 60, 90].into_iter().cycle()) {
+            let mut round = Round { random: Random::of_round(24, n), tally: &mut tally };
+            assert!(round.asking_scripts(pages).is_ok());
+            assert!(round.salvage_scripts(pages, 3).is_ok());
+            assert!(round.damaged_scripts(pages, 1).is_ok());
+        }
+        assert!(Round { random: Random::of_round(24, 8), tally: &mut tally }.asking_scripts(600).is_ok());
+        let never: Vec<Edge> = Edge::all().into_iter().filter(|&edge| tally.steps.times(edge) == 0).collect();
+        assert_eq!(never, []);
+    }
+}
