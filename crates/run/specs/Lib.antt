@@ -1,3 +1,4 @@
 pub mod Fair
 pub mod OneRun
 pub mod StepMade
+pub mod Later
