@@ -109,7 +109,8 @@ impl Both {
     }
 
     /// Plays a script three ways: by a run of each program, and by single calls of the proved library. The number of replies, all replies,
-    /// those that no step has among them, and all words must be the same. Then the check and the listings, as after a call.
+    /// those that no step has among them, all records of the list and all words must be the same. Then the check and the listings, as after a
+    /// call.
     pub fn run(&mut self, lent: Option<usize>, script: Script, tally: &mut Tally) -> Result<Ran, Box<Disagreement>> {
         let words = lent.unwrap_or(self.start.len());
         self.steps.push(Step::Run { lent, script: script.clone() });
@@ -130,7 +131,7 @@ impl Both {
         Ok(Ran { played: proved, check })
     }
 
-    /// Two ways to play a script gave the same replies and left the same words, or the first difference is told.
+    /// Two ways to play a script gave the same replies and left the same lists and words, or the first difference is told.
     fn same_run(&mut self, of: &str, one: &Played, two: &Played) -> Result<(), Box<Disagreement>> {
         if let Some(n) = (0..one.replies.len()).find(|&n| one.replies[n] != two.replies[n]) {
             return Err(self.disagreement(format!("{of}: reply {n} differs"), one.replies[n], two.replies[n]));
@@ -139,6 +140,7 @@ impl Both {
         if one.made != two.made {
             return Err(self.disagreement(format!("{of}: {} and {} steps are said to be made", one.made, two.made), none, none));
         }
+        self.same_list(of, none, &one.list, &two.list)?;
         self.agree(of, none, none)
     }
 
@@ -284,7 +286,7 @@ mod tests {
     /// A run that leaves another word, and one that gives another reply, are seen.
     #[test]
     fn a_run_that_differs_is_seen() {
-        let script = || Script { room: 2, asked: vec![Asked::Call(Call::CreateUser { name: b"DOCK".to_vec() })] };
+        let script = || Script::of(2, &[Call::CreateUser { name: b"DOCK".to_vec() }]);
         let mut both = formatted();
         assert!(both.run(None, script(), &mut Tally::default()).is_ok());
         let mut both = formatted();
@@ -295,6 +297,22 @@ mod tests {
         both.second[1023] += 1;
         let seen = both.run(None, script(), &mut Tally::default()).err().expect("a disagreement");
         assert_eq!((seen.proved.number, seen.second.number, seen.second.rule), (0, 3, 10));
+    }
+
+    /// A run whose list differs is seen, where replies and images are the same; so is a single call's.
+    #[test]
+    fn a_list_of_a_run_that_differs_is_seen() {
+        let script = || Script { room: 1, list: 2, asked: vec![Asked::Salvage] };
+        let mut both = formatted();
+        assert!(both.run(None, script(), &mut Tally::default()).is_ok());
+        both.proved[8 * PAGE] |= 1 << 5;
+        both.second[8 * PAGE] |= 1 << 6;
+        let seen = both.run(None, script(), &mut Tally::default()).err().expect("a disagreement");
+        assert_eq!((seen.word, seen.steps.len()), (None, 3));
+        assert!(seen.what.contains("the runs: change 0 of the lists differs: proved 8 0 289 257, second 8 0 321 257"), "{}", seen.what);
+        let (mut one, two) = (script().on_proved(&mut both.image().to_vec()), script().on_second(&mut both.image().to_vec()));
+        one.list[1].new += 1;
+        assert!(formatted().same_run("the runs", &one, &two).is_err());
     }
 
     #[test]

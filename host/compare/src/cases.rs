@@ -144,9 +144,12 @@ fn expect(both: &mut Both, asked: &str, call: Step, wanted: &str, tally: &mut Ta
     Ok(())
 }
 
-/// A line `run ..: REPLY ; REPLY ..` of expect: so many steps are made, with these replies.
+/// A line `run ..: REPLY ; REPLY .. | CHANGE ; CHANGE ..` of expect: so many steps are made, with these replies, and the list has these changes from
+/// its beginning on; its other records stay.
 fn expect_replies(asked: &str, played: &Played, wanted: &str) -> Result<(), String> {
-    if played.replies[..played.made] != replies(wanted)? {
+    let (replies, changes) = replies(wanted)?;
+    let has_room = changes.len() <= played.list.len();
+    if played.replies[..played.made] != replies || !has_room || played.list != written(played.list.len(), &changes) {
         return Err(format!("`{asked}` gives {}, {wanted} is expected", replies_in_words(played)));
     }
     Ok(())

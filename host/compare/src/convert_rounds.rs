@@ -6,7 +6,7 @@ use crate::converts::{all_filled, series, Aimed, Aims, Edge, Seen, Way};
 use crate::edges::By;
 use crate::rounds::{Agreed, Round};
 use crate::scene::Scene;
-use crate::script::{Asked, Script};
+use crate::script::Script;
 use crate::volumes::with_entries;
 
 impl Round<'_> {
@@ -43,7 +43,7 @@ impl Round<'_> {
 
     fn converted_by_run(&mut self, both: &mut Both, lent: Option<usize>, calls: Vec<Call>) -> Agreed {
         let start = both.image().to_vec();
-        let script = Script { room: calls.len() + 1, asked: calls.iter().cloned().map(Asked::Call).collect() };
+        let script = Script::of(calls.len() + 1, &calls);
         let played = both.run(lent, script, self.tally)?.played;
         self.converts_met(By::Step, &start[..lent.unwrap_or(start.len())], &calls, &played.replies[..played.made]);
         Ok(())

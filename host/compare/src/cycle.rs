@@ -43,8 +43,12 @@ pub enum Kind {
     Scripts { scripts: u32, steps: u32 },
     /// Scripts past the edges of users, files and index blocks.
     EdgeScripts,
-    /// A script for each rule, broken so often.
+    /// Scripts for each rule, broken so often.
     DamagedScripts { times: u32 },
+    /// Scripts that ask who holds each page, and read pages of each file.
+    AskingScripts,
+    /// Scripts that begin with a salvage, for each room that its list may have, on a volume damaged by chance so often.
+    SalvageScripts { images: u32 },
     /// Searches for free pages, on a volume for each of their edges.
     Searches,
     /// Searches past 100 full words of the bit file.
@@ -124,6 +128,10 @@ pub const CYCLE: &[(u32, Kind, Size)] = &[
     (4, Kind::EdgeScripts, Size::Between(70, 160)),
     (2, Kind::EdgeScripts, Size::Of(1_100)),
     (20, Kind::DamagedScripts { times: 2 }, Size::Between(8, 160)),
+    (20, Kind::AskingScripts, Size::Between(8, 160)),
+    (12, Kind::AskingScripts, Size::Between(600, 700)),
+    (30, Kind::SalvageScripts { images: 4 }, Size::Between(8, 160)),
+    (1, Kind::SalvageScripts { images: 4 }, Size::Of(1_100)),
     (10, Kind::Searches, Size::Between(160, 240)),
     (6, Kind::LargeSearches, Size::Between(1_760, 2_048)),
     (1, Kind::LargeSearches, Size::Of(16_384)),

@@ -34,7 +34,7 @@ impl Lent {
 fn step(asked: &Asked, text: &[u8], data: &[u16]) -> proved::Step {
     match asked {
         Asked::NoCall { number, call } => proved::Step { call: *number, ..step_of(call, text, data) },
-        Asked::Call(call) => step_of(call, text, data),
+        Asked::Call(_) | Asked::Salvage => step_of(asked.call(), text, data),
         Asked::Outside { part, past, call } => {
             let mut step = step_of(call, text, data);
             match part {
@@ -132,8 +132,8 @@ fn numbers_of(call: &Call) -> proved::Step {
         Call::FindUser { .. } => of(number::FIND_USER),
         Call::FindFile { user: owner, .. } => user(number::FIND_FILE, owner),
         Call::Address { user, file: f, position } => counted(position, file(number::ADDRESS, user, f)),
-        Call::WhoHolds { page } => counted(page, of(6)),
-        Call::ReadPage { user, file: f, position } => counted(position, file(16, user, f)),
+        Call::WhoHolds { page } => counted(page, of(number::WHO_HOLDS)),
+        Call::ReadPage { user, file: f, position } => counted(position, file(number::READ_PAGE, user, f)),
         Call::Format { bit_page: Some(page), .. } => counted(page, of(number::FORMAT)),
         Call::Format { bit_page: None, .. } => of(number::FORMAT_DEFAULT),
         Call::CreateUser { .. } => of(number::CREATE_USER),
@@ -151,6 +151,6 @@ fn numbers_of(call: &Call) -> proved::Step {
         Call::NoteOpen { user, file: f } => file(number::NOTE_OPEN, user, f),
         Call::ConvertToApostrophe => of(number::CONVERT_TO_APOSTROPHE),
         Call::ConvertToZeros => of(number::CONVERT_TO_ZEROS),
-        Call::Salvage { room } => counted(room, of(22)),
+        Call::Salvage { .. } => of(number::SALVAGE),
     }
 }

@@ -23,6 +23,12 @@ pub fn written(room: usize, changes: &[Change]) -> Vec<Change> {
     list
 }
 
+/// The part of a list up to its last record that is not as it was lent.
+pub fn touched(list: &[Change]) -> &[Change] {
+    let last = (0..list.len()).rev().find(|&n| list[n] != untouched(n));
+    &list[..last.map_or(0, |last| last + 1)]
+}
+
 /// The words in which an image differs from what it was before, as a salvage tells them.
 pub fn differing(before: &[u16], after: &[u16]) -> Vec<Change> {
     let pages = before.chunks(PAGE).zip(after.chunks(PAGE)).enumerate().filter(|(_, (old, new))| old != new);
@@ -60,6 +66,7 @@ mod tests {
         assert_eq!(changes.iter().map(in_words).collect::<Vec<String>>(), ["0 1 2 5", "0 2 3 4"]);
         assert_eq!(written(3, &changes), [changes[0], changes[1], untouched(2)]);
         assert_eq!((written(1, &changes), lent(0)), (lent(1), Vec::new()));
+        assert_eq!((touched(&written(5, &changes)), touched(&lent(5))), (&changes[..], &[][..]));
         assert_eq!(from_second(&to_second(&changes)), changes);
     }
 }

@@ -1,6 +1,7 @@
 //! Compares the proved library with the second program: every answer and every word, after every call.
 
 mod aimed;
+mod asking_scripts;
 mod both;
 mod calls;
 mod cases;
@@ -26,6 +27,7 @@ mod report;
 mod rounds;
 mod run;
 mod salvage_rounds;
+mod salvage_scripts;
 mod salvaged;
 mod salvages;
 mod scattered;
@@ -36,6 +38,7 @@ mod search_rounds;
 mod searched;
 mod spots;
 mod stale;
+mod steps;
 mod tally;
 mod text;
 mod there_and_back;

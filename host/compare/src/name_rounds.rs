@@ -7,7 +7,7 @@ use crate::edges::By;
 use crate::names::{Aims, Edge, Seen};
 use crate::rounds::{Agreed, Round};
 use crate::scene::Scene;
-use crate::script::{Asked, Script};
+use crate::script::Script;
 use crate::volumes::with_names;
 
 impl Round<'_> {
@@ -43,7 +43,7 @@ impl Round<'_> {
     fn named_by_run(&mut self, both: &mut Both, call: Call) -> Agreed {
         let before = both.image().to_vec();
         let calls = if matches!(call, Call::Format { .. }) { vec![call] } else { vec![Call::Check, call] };
-        let script = Script { room: calls.len(), asked: calls.iter().cloned().map(Asked::Call).collect() };
+        let script = Script::of(calls.len(), &calls);
         let ran = both.run(None, script, self.tally)?;
         for (call, answer) in calls.iter().zip(&ran.played.replies).take(ran.played.made) {
             self.tally.names.seen(By::Step, &Seen { before: &before, call, answer, after: both.image() });

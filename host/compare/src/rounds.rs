@@ -48,6 +48,8 @@ impl Round<'_> {
             Kind::Scripts { scripts, steps } => self.scripts(pages, scripts, steps),
             Kind::EdgeScripts => self.edge_scripts(pages),
             Kind::DamagedScripts { times } => self.damaged_scripts(pages, times),
+            Kind::AskingScripts => self.asking_scripts(pages),
+            Kind::SalvageScripts { images } => self.salvage_scripts(pages, images),
             Kind::Searches => self.searches(pages),
             Kind::LargeSearches => self.large_searches(pages),
             Kind::Names => self.names(pages),

@@ -56,7 +56,7 @@ impl Round<'_> {
 
     /// A volume as calls give it, with nobody on it, with entries on several pages or by chance; seldom with a long file; or one that no calls
     /// give.
-    fn volume_to_damage(&mut self, most: u32) -> Vec<u16> {
+    pub fn volume_to_damage(&mut self, most: u32) -> Vec<u16> {
         let pages = self.random.between(8, most);
         match self.random.below(64) {
             0 => with_long_file(&mut self.random, LONG_PAGES, 513),

@@ -1,23 +1,27 @@
 //! Rounds of scripts: lists of calls, played by runs and by single calls.
 
-use crate::both::Both;
-use crate::calls::Call;
+use crate::both::{Both, Disagreement, Ran};
+use crate::calls::{Answer, Call};
 use crate::choose::{Choice, Profile, PROFILES};
 use crate::damage::Damage;
 use crate::lent::number_of;
+use crate::lists::{lent as lent_list, to_second};
 use crate::meets::run_meets;
 use crate::rounds::{Agreed, Round};
 use crate::scene::Scene;
-use crate::script::{is_step, used, Asked, Part, Script};
+use crate::script::{used, Asked, Part, Script};
 use crate::tally::Met;
 use crate::volumes::*;
 
-/// All calls that a run can make, formats among them, and now and then one that it cannot.
-const SCRIPTED: Profile = [2, 2, 2, 3, 1, 1, 1, 1, 6, 2, 6, 2, 8, 4, 16, 5, 2, 6, 3, 2, 2, 1];
+/// All calls, formats among them.
+pub const SCRIPTED: Profile = [2, 2, 2, 3, 4, 4, 1, 1, 6, 2, 6, 2, 8, 4, 16, 5, 2, 6, 3, 2, 2, 2];
 
 /// Numbers that are no call's, and what is added to a call's for one: it is the call's if only its last byte or word is looked at.
-const NO_CALLS: [u32; 6] = [0, 6, 16, 22, u32::MAX - 1, u32::MAX];
+const NO_CALLS: [u32; 5] = [0, 23, 24, u32::MAX - 1, u32::MAX];
 const ADDED: [u32; 4] = [32, 256, 65_536, 1 << 31];
+
+/// Room for changes where a run's salvages mostly have none to tell.
+const LISTS: [usize; 6] = [0, 0, 1, 2, 3, 8];
 
 /// How far behind the end a part may end that does not lie in its slice.
 const PAST: [u32; 7] = [1, 2, 5, 1_024, 1 << 31, u32::MAX - 3, u32::MAX];
@@ -45,17 +49,23 @@ impl Round<'_> {
         }
     }
 
-    /// A script on an image that breaks a rule, for each of the rules.
+    /// Scripts on an image that breaks a rule, for each of the rules: one by chance, one that begins with a salvage, and one with a question.
     pub fn damaged_scripts(&mut self, pages: u32, times: u32) -> Agreed {
         let base = self.base(pages);
         let scene = Scene::read(&base);
         let mut both = Both::new(base.clone());
         for rule in (0..times).flat_map(|_| 1..=10) {
             let Some(words) = Damage::new(&mut self.random, &base, &scene).aimed(rule) else { continue };
-            both.put(&words);
-            let script = self.script(both.image(), &SCRIPTED, 5, 4);
-            self.play(&mut both, None, script)?;
-            both.restart();
+            let asking = [Call::WhoHolds { page: 0 }, Call::ReadPage { user: 0, file: 0, position: 0 }];
+            let asking = Asked::of(self.random.pick(&asking).clone());
+            for first in [None, Some(Asked::Salvage), Some(asking)] {
+                both.put(&words);
+                let mut script = self.script(both.image(), &SCRIPTED, 5, 4);
+                script.room += usize::from(first.is_some());
+                script.asked.splice(0..0, first);
+                self.play(&mut both, None, script)?;
+                both.restart();
+            }
         }
         Ok(())
     }
@@ -79,7 +89,8 @@ impl Round<'_> {
         let mut both = Both::new(with_long_file(&mut self.random, pages, 508));
         let (grow, shrink) = (Call::Grow { user: 0, file: 0 }, Call::Shrink { user: 0, file: 0 });
         let up_and_down = (0..16).map(|n| if n < 8 { grow.clone() } else { shrink.clone() });
-        self.play(&mut both, None, whole(up_and_down.chain([Call::DeleteFile { user: 0, file: 0 }])))
+        self.play(&mut both, None, whole(up_and_down.chain([Call::DeleteFile { user: 0, file: 0 }])))?;
+        Ok(())
     }
 
     /// A contiguous file of one page, then one that is longer than any run.
@@ -87,31 +98,34 @@ impl Round<'_> {
         let mut both = Both::new(with_owner(&mut self.random, pages, 3));
         let longest = Scene::read(both.image()).longest_run(both.image()) as usize;
         let file = |(n, count): (u32, usize)| Call::CreateContiguous { user: 0, name: nth(n), kind: Vec::new(), created: n, count };
-        self.play(&mut both, None, whole((0..).zip([1, longest + 1, 1]).map(file)))
+        self.play(&mut both, None, whole((0..).zip([1, longest + 1, 1]).map(file)))?;
+        Ok(())
     }
 
     /// Plays a script, and notes what it met.
-    fn play(&mut self, both: &mut Both, lent: Option<usize>, script: Script) -> Agreed {
+    pub fn play(&mut self, both: &mut Both, lent: Option<usize>, script: Script) -> Result<Ran, Box<Disagreement>> {
         let unsound = second::check(both.image()).number == 3;
         let ran = both.run(lent, script.clone(), self.tally)?;
         run_meets(&script, &ran.played).into_iter().for_each(|what| self.tally.met(what));
-        if unsound && ran.played.made > 1 && ran.played.replies[1].number == 0 {
+        let by_format = matches!(script.asked.first(), Some(Asked::Call(Call::Format { .. })));
+        if unsound && by_format && ran.played.made > 1 && ran.played.replies[1].number == 0 {
             self.tally.met(Met::FormatOnUnsound);
         }
-        Ok(())
+        Ok(ran)
     }
 
     /// A script of so many steps, each chosen on the image as those before it leave it. Of the calls that would be refused one in so many is
     /// taken, and a script may have a step that is none.
-    fn script(&mut self, image: &[u16], profile: &Profile, steps: u32, refused: u32) -> Script {
+    pub fn script(&mut self, image: &[u16], profile: &Profile, steps: u32, refused: u32) -> Script {
         let mut image = image.to_vec();
+        let list = *self.random.pick(&LISTS);
         let mut asked = Vec::new();
         for _ in 0..5 * steps {
             let scene = Scene::read(&image);
             let call = Choice { random: &mut self.random, image: &image, scene: &scene }.call(profile);
-            let done = is_step(&call) && call.on_second(&mut image).number == 0;
-            if done || self.random.one_in(refused) {
-                asked.push(Asked::Call(call));
+            let answer = call.on_second_with(&mut image, &mut to_second(&lent_list(list)));
+            if goes_on(&call, &answer) || self.random.one_in(refused) {
+                asked.push(Asked::of(call));
             }
             if asked.len() == steps as usize {
                 break;
@@ -120,7 +134,7 @@ impl Round<'_> {
         if self.random.one_in(2) {
             self.odd(&mut asked);
         }
-        Script { room: self.room(asked.len() as u32) as usize, asked }
+        Script { room: self.room(asked.len() as u32) as usize, list, asked }
     }
 
     /// Puts a step that is none before a call of the script: the same with a number that is no call's, or with a part outside.
@@ -149,8 +163,13 @@ impl Round<'_> {
     }
 }
 
+/// Whether a run would go on behind a call that answers so; one that reads a page answers no number.
+fn goes_on(call: &Call, answer: &Answer) -> bool {
+    answer.number == 0 && (answer.length > 0 || !matches!(call, Call::ReadPage { .. }))
+}
+
 /// A script of calls with room for all its replies.
-fn whole(calls: impl Iterator<Item = Call>) -> Script {
-    let asked: Vec<Asked> = calls.map(Asked::Call).collect();
-    Script { room: asked.len() + 1, asked }
+pub fn whole(calls: impl Iterator<Item = Call>) -> Script {
+    let calls: Vec<Call> = calls.collect();
+    Script::of(calls.len() + 1, &calls)
 }

@@ -6,7 +6,7 @@ use crate::edges::By;
 use crate::patterns::{Aim, Ask, Border, Gap, Pattern, Shape, SHAPES};
 use crate::rounds::{Agreed, Round};
 use crate::scattered::{patterned, Beyond};
-use crate::script::{Asked, Script};
+use crate::script::Script;
 use crate::searched::Before;
 
 /// Pages that a volume with chosen free pages holds at least.
@@ -114,7 +114,7 @@ impl Round<'_> {
     /// One run of all calls; what each step met is told by single calls on a copy, which a run is compared with.
     fn searched_by_run(&mut self, both: &mut Both, calls: Vec<Call>) -> Agreed {
         let mut copy = both.image().to_vec();
-        let script = Script { room: calls.len(), asked: calls.iter().cloned().map(Asked::Call).collect() };
+        let script = Script::of(calls.len(), &calls);
         let ran = both.run(None, script, self.tally)?;
         for (call, reply) in calls.iter().zip(&ran.played.replies).take(ran.played.made) {
             let before = Before::read(&copy, call);

@@ -7,17 +7,15 @@ use crate::edges::Edges;
 use crate::names::NameEdges;
 use crate::packs::PackEdges;
 use crate::salvages::SalvageEdges;
-use crate::script::{is_step, Asked, Played, Script};
+use crate::script::{Played, Script};
 use crate::spots::{Spot, SPOTS};
+use crate::steps::StepEdges;
 use crate::twice::{pairs, FILE_SUBINDEX};
 use std::collections::BTreeMap;
 use std::fmt::Write;
 
 /// The numbers that a call can answer: 0 to 14.
 pub const NUMBERS: usize = 15;
-
-/// Those of salvage alone, which is no step.
-const OF_SALVAGE: [usize; 2] = [13, 14];
 
 /// How often at least each of them, each rule 1 to 10, and each rule by damage aimed at it.
 const EACH_NUMBER: u64 = 50;
@@ -142,7 +140,7 @@ pub struct Tally {
     /// For each call, how often it was answered with each number.
     calls: [[u64; NUMBERS]; NAMES.len()],
     /// The same of the steps of runs; the last row is of steps that are no calls.
-    steps: [[u64; NUMBERS]; NAMES.len() + 1],
+    made: [[u64; NUMBERS]; NAMES.len() + 1],
     runs: u64,
     /// The lowest rule of the check after each call; 0 is a sound image.
     rules: [u64; 11],
@@ -165,6 +163,8 @@ pub struct Tally {
     pub salvages: SalvageEdges,
     /// The edges of larger packs.
     pub packs: PackEdges,
+    /// The edges of steps that ask and that salvage.
+    pub steps: StepEdges,
     met: BTreeMap<Met, u64>,
 }
 
@@ -183,12 +183,10 @@ impl Tally {
     pub fn ran(&mut self, script: &Script, played: &Played) {
         self.runs += 1;
         for (asked, reply) in script.asked.iter().zip(&played.replies).take(played.made) {
-            let which = match asked {
-                Asked::Call(call) if is_step(call) => call.which(),
-                _ => NO_CALL,
-            };
-            self.steps[which][reply.number as usize] += 1;
+            let which = if asked.is_call() { asked.call().which() } else { NO_CALL };
+            self.made[which][reply.number as usize] += 1;
         }
+        self.steps.ran(script, played);
     }
 
     pub fn hit(&mut self, rule: u32) {
@@ -237,7 +235,7 @@ impl Tally {
 
     /// The runs, and the steps that they made.
     pub fn runs_and_steps(&self) -> (u64, u64) {
-        (self.runs, self.steps.iter().flatten().sum())
+        (self.runs, self.made.iter().flatten().sum())
     }
 
     /// What was met too seldom, one line each.
@@ -249,13 +247,13 @@ impl Tally {
             }
         };
         (0..NUMBERS).for_each(|n| demand(format!("number {n}"), by_number(&self.calls, n), EACH_NUMBER));
-        step_numbers().for_each(|n| demand(format!("number {n} to a step"), by_number(&self.steps, n), EACH_STEP_NUMBER));
+        (0..NUMBERS).for_each(|n| demand(format!("number {n} to a step"), by_number(&self.made, n), EACH_STEP_NUMBER));
         (1..11).for_each(|rule| demand(format!("rule {rule}"), self.rules[rule], EACH_RULE));
         (1..11).for_each(|rule| demand(format!("damage aimed at rule {rule}"), self.aimed[rule], EACH_AIMED));
         for (name, call) in NAMES.iter().zip(&self.calls) {
             demand(format!("{name} done"), call[0], EACH_CALL_DONE);
         }
-        for (name, step) in NAMES.iter().zip(&self.steps).filter(|(name, _)| can_be_a_step(name)) {
+        for (name, step) in NAMES.iter().zip(&self.made).filter(|(name, _)| can_be_a_step(name)) {
             demand(format!("{name} done as a step"), step[0], EACH_STEP_DONE);
         }
         for (spot, told) in self.spots_told() {
@@ -271,7 +269,8 @@ impl Tally {
             demand(words.to_string(), self.times(what), least);
         }
         let edges = self.edges.demands().into_iter().chain(self.names.demands()).chain(self.converts.demands());
-        edges.chain(self.salvages.demands()).chain(self.packs.demands()).for_each(|(words, met, least)| demand(words, met, least));
+        let edges = edges.chain(self.salvages.demands()).chain(self.packs.demands()).chain(self.steps.demands());
+        edges.for_each(|(words, met, least)| demand(words, met, least));
         short
     }
 
@@ -280,7 +279,7 @@ impl Tally {
         let mut out = table("call \\ number", &NAMES, &self.calls);
         let _ = writeln!(out, "(read_page answers no number: its parts, full and empty, are counted under 0 and below)\n");
         let names: Vec<&str> = NAMES.into_iter().chain(["no call"]).collect();
-        out += &table("step \\ number", &names, &self.steps);
+        out += &table("step \\ number", &names, &self.made);
         let _ = writeln!(out, "\n{:22}   sound{}", "check after a call", (1..11).map(|n| format!("  rule{n:2}")).collect::<String>());
         let _ = writeln!(out, "{:22}{}", "lowest rule", row(&self.rules));
         let _ = writeln!(out, "{:22}{}", "aimed and hit", row(&self.aimed));
@@ -303,6 +302,8 @@ impl Tally {
             + &self.salvages.summary()
             + "\n"
             + &self.packs.summary()
+            + "\n"
+            + &self.steps.summary()
     }
 
     /// How often each number was answered, and each rule was the lowest broken one: a line for a run of cases.
@@ -344,14 +345,9 @@ fn holders_met(check: &Answer) -> Option<Met> {
     })
 }
 
-/// The numbers that a step can answer.
-fn step_numbers() -> impl Iterator<Item = usize> {
-    (0..NUMBERS).filter(|number| !OF_SALVAGE.contains(number))
-}
-
 /// Whether a run can make the call of this name.
 fn can_be_a_step(name: &str) -> bool {
-    !["who_holds", "read_page", "salvage"].contains(&name) && (name != "check" || second::CHECK_IS_A_STEP)
+    name != "check" || second::CHECK_IS_A_STEP
 }
 
 fn by_number(rows: &[[u64; NUMBERS]], number: usize) -> u64 {
@@ -378,15 +374,15 @@ mod tests {
     use super::*;
 
     /// A run that met nothing is told so for each number, each rule twice, each call, each kind of place and pair of holders, each size,
-    /// each edge, and each edge of a search, of a name and of a conversion, most of them twice, and each of salvage and of larger packs.
+    /// each edge, and each edge of a search, of a name and of a conversion, most of them twice, and each of salvage, of larger packs and of
+    /// steps.
     #[test]
     fn nothing_is_too_little() {
         let steps = NAMES.into_iter().filter(|name| can_be_a_step(name)).count();
-        let wanted =
-            NUMBERS + step_numbers().count() + 10 + 10 + NAMES.len() + steps + SPOTS.len() + pairs().len() + SIZES.len() + MINIMUMS.len();
+        let wanted = NUMBERS + NUMBERS + 10 + 10 + NAMES.len() + steps + SPOTS.len() + pairs().len() + SIZES.len() + MINIMUMS.len();
         let wanted = wanted + Edges::default().demands().len() + NameEdges::default().demands().len();
         let wanted = wanted + ConvertEdges::default().demands().len() + SalvageEdges::default().demands().len();
-        let wanted = wanted + PackEdges::default().demands().len();
+        let wanted = wanted + PackEdges::default().demands().len() + StepEdges::default().demands().len();
         assert_eq!(Tally::default().too_little().len(), wanted);
     }
 }

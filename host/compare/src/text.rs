@@ -2,7 +2,7 @@
 //! the forms.
 
 use crate::calls::{Answer, Call, Data};
-use crate::lists::in_words;
+use crate::lists::{in_words, touched};
 use crate::script::{Asked, Part, Played, Script};
 use crate::words::PAGE;
 use proved::{Change, Holder, Place};
@@ -47,14 +47,22 @@ fn call_or_run(name: &str, lent: Option<usize>, words: &mut Words) -> Result<Ste
     })
 }
 
-/// The room for replies, and the steps with `;` between them.
+/// The room for replies, the room for changes if there is a list, and the steps with `;` between them.
 fn script(words: &mut Words) -> Result<Script, String> {
     let room = words.number()?;
+    let list = match words.peek().as_deref() {
+        Some("list") => {
+            words.next()?;
+            words.number()?
+        }
+        _ => 0,
+    };
     let asked = words.parts().into_iter().map(asked).collect::<Result<Vec<Asked>, String>>()?;
-    Ok(Script { room, asked })
+    Ok(Script { room, list, asked })
 }
 
-/// A step of a script: a call, one with a number that is none's, or one with a part that ends so far outside.
+/// A step of a script: a call, one with a number that is none's, or one with a part that ends so far outside. A salvage has the script's list, and
+/// no room of its own.
 fn asked(mut words: Words) -> Result<Asked, String> {
     let read = match words.next()?.as_str() {
         "no-call" => {
@@ -66,6 +74,7 @@ fn asked(mut words: Words) -> Result<Asked, String> {
             let part = Part::ALL.into_iter().find(|other| other.name() == part).ok_or_else(|| format!("{part} is no part"))?;
             Asked::Outside { part, past, call: call(&name, &mut words)? }
         }
+        "salvage" => Asked::Salvage,
         name => Asked::Call(call(name, &mut words)?),
     };
     words.end()?;
@@ -155,21 +164,28 @@ pub fn answer_and_changes_in_words(answer: &Answer, changes: &[Change]) -> Strin
     format!("{answer}{}", changes.concat())
 }
 
-/// The replies of a run: its answers with `;` between them, `none` where no step was made.
-pub fn replies(line: &str) -> Result<Vec<Answer>, String> {
-    match line.trim() {
-        "none" => Ok(Vec::new()),
-        line => line.split(';').map(answer).collect(),
-    }
+/// The replies of a run: its answers with `;` between them, `none` where no step was made; and then, behind a `|` and with `;` between them, the
+/// changes that it wrote to its list.
+pub fn replies(line: &str) -> Result<(Vec<Answer>, Vec<Change>), String> {
+    let (line, changes) = match line.split_once('|') {
+        Some((line, changes)) => (line, changes.split(';').map(change).collect::<Result<Vec<Change>, String>>()?),
+        None => (line, Vec::new()),
+    };
+    let replies = match line.trim() {
+        "none" => Vec::new(),
+        line => line.split(';').map(answer).collect::<Result<Vec<Answer>, String>>()?,
+    };
+    Ok((replies, changes))
 }
 
-/// The replies that a run has written, as `replies` reads them.
+/// The replies that a run has written, and the part of its list that is not as it was lent, as `replies` reads them.
 pub fn replies_in_words(played: &Played) -> String {
     let written: Vec<String> = played.replies.iter().take(played.made).map(Answer::to_string).collect();
-    if written.is_empty() {
-        "none".to_string()
-    } else {
-        written.join(" ; ")
+    let replies = if written.is_empty() { "none".to_string() } else { written.join(" ; ") };
+    let changes: Vec<String> = touched(&played.list).iter().map(in_words).collect();
+    match changes.is_empty() {
+        true => replies,
+        false => format!("{replies} | {}", changes.join(" ; ")),
     }
 }
 
@@ -267,6 +283,9 @@ impl fmt::Display for Step {
 impl fmt::Display for Script {
     fn fmt(&self, out: &mut fmt::Formatter) -> fmt::Result {
         write!(out, "run {}", self.room)?;
+        if self.list > 0 {
+            write!(out, " list {}", self.list)?;
+        }
         for (n, asked) in self.asked.iter().enumerate() {
             write!(out, "{}{asked}", if n == 0 { " " } else { " ; " })?;
         }
@@ -278,6 +297,7 @@ impl fmt::Display for Asked {
     fn fmt(&self, out: &mut fmt::Formatter) -> fmt::Result {
         match self {
             Asked::Call(call) => write!(out, "{call}"),
+            Asked::Salvage => write!(out, "salvage"),
             Asked::NoCall { number, call } => write!(out, "no-call {number} {call}"),
             Asked::Outside { part, past, call } => write!(out, "outside {} {past} {call}", part.name()),
         }
@@ -345,6 +365,7 @@ impl fmt::Display for Answer {
 #[cfg(test)]
 mod tests {
     use super::{answer, answer_and_changes, answer_and_changes_in_words, replies, replies_in_words, step, Played};
+    use crate::lists::written;
 
     /// What is kept of a disagreement is read again as it was.
     #[test]
@@ -378,7 +399,10 @@ mod tests {
             "run 3",
             "run 3 user A\\x3B ; give 0 5 ; no-call 16 grow 0 0 ; outside name 1 find-user A ; write 0 0 0 5 1024",
             "lend 7168 run 0 format YARD ; format YARD 7",
-            "run 3 convert-to-apostrophe ; check ; no-call 22 convert-to-zeros",
+            "run 3 convert-to-apostrophe ; check ; no-call 23 convert-to-zeros",
+            "run 3 holds 7 ; read 0 0 1 ; salvage ; no-call 54 salvage 0",
+            "run 2 list 9 salvage ; check",
+            "lend 7168 run 2 list 1",
         ];
         for line in lines {
             assert_eq!(step(line).map(|step| step.to_string()), Ok(line.to_string()));
@@ -399,16 +423,20 @@ mod tests {
             "salvage",
             "salvage 1 1",
         ];
-        for wrong in calls.into_iter().chain(["run", "run 1 ;", "run 1 outside"]) {
+        for wrong in calls.into_iter().chain(["run", "run 1 ;", "run 1 outside", "run 1 list", "run 1 list salvage", "run 1 salvage 2"]) {
             assert!(step(wrong).is_err(), "{wrong}");
         }
     }
 
     #[test]
     fn replies_are_read_as_they_are_written() {
-        for line in ["none", "0", "0 ; 0 value 5 ; 3 rule 10 place 0 1022"] {
-            let replies = replies(line).expect("replies");
-            assert_eq!(replies_in_words(&Played { made: replies.len(), replies }), line);
+        let lines = ["none", "0", "0 ; 0 value 5 ; 3 rule 10 place 0 1022", "0 first 10 1 2 3", "0 value 2 ; 0 | 2 17 3 2 ; 8 0 351 383"];
+        for line in lines {
+            let (replies, changes) = replies(line).expect("replies");
+            assert_eq!(replies_in_words(&Played { made: replies.len(), replies, list: written(4, &changes) }), line);
+        }
+        for wrong in ["", "0 |", "0 | 2 17 3", "0 ; ", "0 | 2 17 3 2 ; "] {
+            assert!(replies(wrong).is_err(), "{wrong}");
         }
     }
 

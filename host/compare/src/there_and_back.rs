@@ -10,7 +10,7 @@ use crate::random::Random;
 use crate::rounds::{Agreed, Round};
 use crate::run::disagreed;
 use crate::scene::Scene;
-use crate::script::{Asked, Script};
+use crate::script::Script;
 use crate::tally::{Met, Tally};
 use crate::volumes::with_entries;
 use std::panic::{catch_unwind, AssertUnwindSafe};
@@ -63,7 +63,7 @@ impl Round<'_> {
             let right = both.image() == wanted.as_slice();
             both.demand(right, "a conversion left other words", answered.call)?;
         }
-        let script = Script { room: 2, asked: calls.map(Asked::Call).to_vec() };
+        let script = Script::of(2, &calls);
         let played = both.run(None, script, self.tally)?.played;
         let right = played.made == 2 && played.replies.iter().all(|reply| *reply == Answer::default()) && both.image() == start.as_slice();
         both.demand(right, "a run there and back is not just done, or left other words", Answer::default())?;

@@ -19,7 +19,7 @@ pub struct Holder {
 /// What a call answers: the number of document 01's table, with number 3 the
 /// broken rule, the first place that breaks it and, where it is rule 8, the
 /// first two holders of that page, and with number 0 the value. All else is
-/// zero.
+/// zero, save that a run tells the holder of a page as the first.
 #[derive(Clone, Copy, Debug, Default, PartialEq, Eq)]
 pub struct Reply {
     pub number: u32,

@@ -377,15 +377,15 @@ fn in_a_run() {
     let image = yard(0);
     let mut after = image.clone();
     let mut replies = [refused(99); 6];
-    assert_eq!(run(&mut after, &[20, 2, 21, 20].map(step), b"", &[], &mut replies), 4);
+    assert_eq!(run(&mut after, &[20, 2, 21, 20].map(step), b"", &[], &mut [], &mut replies), 4);
     assert_eq!(
         (replies[0], replies[2], replies[3], replies[4]),
         (done(0), done(0), done(0), refused(99))
     );
     assert!(after == converted(&image, 39));
-    assert_eq!(run(&mut after, &[20, 21].map(step), b"", &[], &mut replies), 1);
+    assert_eq!(run(&mut after, &[20, 21].map(step), b"", &[], &mut [], &mut replies), 1);
     assert_eq!(replies[0], refused(12));
-    assert_eq!(run(&mut after, &[21, 20, 21, 21, 20].map(step), b"", &[], &mut replies), 4);
+    assert_eq!(run(&mut after, &[21, 20, 21, 21, 20].map(step), b"", &[], &mut [], &mut replies), 4);
     assert_eq!((replies[2], replies[3]), (done(0), refused(12)));
     assert!(after == image);
 }
