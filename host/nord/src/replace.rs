@@ -2,11 +2,15 @@
 //! rename the old file is there, after it the new one.
 
 use crate::failure::{of_file, Failure};
+use crate::progress::Progress;
 use crate::{chunks, pause};
 use std::fs::{self, File, Metadata, OpenOptions, Permissions};
 use std::io::{self, Write};
 use std::os::unix::fs::{fchown, MetadataExt, OpenOptionsExt, PermissionsExt};
 use std::path::{Path, PathBuf};
+
+/// The words of an image that are written before the bar goes on.
+const AT_ONCE: usize = 256 * proved::PAGE;
 
 /// A new file that is to take the target's place. It goes away if it does not get there.
 pub struct Fresh {
@@ -55,7 +59,14 @@ impl Fresh {
 
     /// The same with words, the high byte first.
     pub fn fill_with_words(&mut self, words: &[u16]) -> Result<(), Failure> {
-        self.fill_by_halves(words, chunks::write)
+        let bar = Progress::start("writing", "pages", (words.len() / proved::PAGE) as u64);
+        self.fill_by_halves(words, |file, half| {
+            half.chunks(AT_ONCE).try_for_each(|words| {
+                chunks::write(file, words)?;
+                bar.advance((words.len() / proved::PAGE) as u64);
+                Ok(())
+            })
+        })
     }
 
     fn fill_by_halves<T>(&mut self, whole: &[T], write: impl Fn(&mut File, &[T]) -> io::Result<()>) -> Result<(), Failure> {

@@ -129,7 +129,7 @@ fn holders_in_words() {
 
 #[test]
 fn json_says_what_the_listing_says() {
-    let json = nord::volume_json::json(&read(&yard16()));
+    let json = serde_json::to_value(nord::volume_json::Listed::from(&read(&yard16()))).unwrap();
     let file = serde_json::json!({"index": 0, "name": "READS", "type": "DATA", "pages": 1, "kind": "INDEXED", "opens": 0, "created": 1234});
     let user = serde_json::json!({"index": 0, "name": "DOCK", "given": 5, "used": 2, "files": [file]});
     let whole = serde_json::json!({"name": "YARD", "pages": 16, "reserved": 8, "unreserved": 5, "users": [user]});

@@ -97,7 +97,7 @@ fn asked(list: &mut Plan, user: &UserName, index: u32, file: &volume::File) -> (
         file: Within::Name(name.clone(), kind.clone()),
     };
     list.file_of(index, &name, &kind, &subject);
-    let calls = transfer::addresses(list, &subject, (index, file.index));
+    let calls = transfer::pages_of(list, &subject, (index, file.index));
     let exported = Exported {
         user: index,
         file: file.index,

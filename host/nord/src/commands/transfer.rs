@@ -53,22 +53,22 @@ pub fn read(image: &mut [u16], at: &Ask, file: &FileName, output: Option<&Path>)
 fn all_pages(image: &mut [u16], path: &Path, file: &FileName) -> Result<Vec<u8>, Failure> {
     let mut list = Plan::on(image, path);
     let calls = match list.file(file) {
-        Some(place) => addresses(&mut list, file, place),
+        Some(place) => pages_of(&mut list, file, place),
         None => 0..0,
     };
     let replies = plan::make(&list, 0..list.len(), image)?;
     Ok(bytes_at(image, &replies[calls]))
 }
 
-/// The calls that ask for the address of each page of a file. They change nothing, and the pages lie there.
-pub fn addresses(list: &mut Plan, file: &FileName, place: Place) -> Range<usize> {
+/// The calls that ask where in the image the words of each page of a file lie. They change nothing.
+pub fn pages_of(list: &mut Plan, file: &FileName, place: Place) -> Range<usize> {
     let first = list.len();
     match list.forecast.pages(place) {
         Some(pages) => list.calls(Call::Address, file, Each::Position, None, pages, |position| {
-            on_file(call::ADDRESS, place, position)
+            on_file(call::READ_PAGE, place, position)
         }),
         // An index that no entry has: the library says which refusal it is.
-        None => list.call(Call::FindFile, file, None, on_file(call::ADDRESS, place, 0)),
+        None => list.call(Call::FindFile, file, None, on_file(call::READ_PAGE, place, 0)),
     }
     first..list.len()
 }
@@ -77,7 +77,7 @@ pub fn addresses(list: &mut Plan, file: &FileName, place: Place) -> Range<usize>
 pub fn bytes_at(image: &[u16], replies: &[Reply]) -> Vec<u8> {
     let mut bytes = Vec::with_capacity(replies.len() * store::PAGE);
     for reply in replies {
-        let start = reply.value as usize * proved::PAGE;
+        let start = reply.value as usize;
         bytes.extend(store::bytes(&image[start..start + proved::PAGE]));
     }
     bytes

@@ -84,6 +84,33 @@ fn a_full_disk_is_a_clear_error() {
     }
 }
 
+/// The same for an import, a script and an export: the image is as it was, and of the export nothing is there.
+#[test]
+fn many_files_on_a_full_disk() {
+    let (folder, image) = sample();
+    let small = folder.path("small");
+    fs::create_dir(&small).unwrap();
+    fs::write(folder.path("one.txt"), b"Ewe 513").unwrap();
+    fs::write(folder.path("lines"), "user add FLOCK\nfile grow DOCK/READS:DATA 3\n").unwrap();
+    let script = format!(
+        "mount -t tmpfs -o size=328k none {0} || exit 99; cp {1} {0}; cd {0}; \
+         {NORD} import disk.img DOCK ../one.txt; echo status $?; {NORD} run disk.img ../lines; echo status $?; cmp disk.img {1} && echo same; \
+         {NORD} export disk.img DOCK out; echo status $?; ls -A; {NORD} check disk.img",
+        small.display(),
+        image.display(),
+    );
+    let run = match Command::new("unshare").args(["-rm", "bash", "-c", &script]).output() {
+        Ok(output) => Run::of(output),
+        Err(error) => return untried("unshare", error),
+    };
+    if run.status == 99 || run.err.starts_with("unshare:") {
+        return forbidden("mounts (unshare -rm)", run.err);
+    }
+    let wanted = "status 74\nstatus 74\nsame\nstatus 74\ndisk.img\nsound: 20 of 154 pages are held\n";
+    assert_eq!(run.text(), wanted, "{}", run.err);
+    assert_eq!(run.err.matches("No space left on device").count(), 3, "{}", run.err);
+}
+
 #[test]
 fn an_answer_that_cannot_be_printed_is_an_error() {
     let (_folder, image) = sample();

@@ -110,6 +110,33 @@ fn salvage() -> Case {
     Case::salvage(other_change("user delete IMAGE FLOCK").folder)
 }
 
+/// An import of many files over an image that has some of them.
+fn import() -> Case {
+    let (folder, image) = disk(1024, 900);
+    let within = folder.path("in");
+    std::fs::create_dir(&within).unwrap();
+    for number in 0..40 {
+        std::fs::write(within.join(format!("file-{number}.bin")), noise(number, 30_000)).unwrap();
+    }
+    let there = folder.put("FILE-7.BIN", &noise(99, 70_000));
+    done(&image, &format!("import IMAGE DOCK {}", there.display()));
+    let line = format!("import IMAGE DOCK {}", within.display());
+    Case::new(folder, line)
+}
+
+/// A script of changes of several kinds.
+fn script() -> Case {
+    let (folder, _image) = disk(1024, 900);
+    let bytes = folder.put("bytes.bin", &noise(3, 600 * 2048));
+    let lines = format!(
+        "write DOCK/READS:DATA {}\nuser add FLOCK\nuser give FLOCK 9\nfile create FLOCK/LOG\nfile grow FLOCK/LOG 5\nconvert --to zeros\n",
+        bytes.display()
+    );
+    let script = folder.put("script", lines.as_bytes());
+    let line = format!("run IMAGE {}", script.display());
+    Case::new(folder, line)
+}
+
 /// How long a run takes that is not killed.
 fn undisturbed(case: &Case) -> Duration {
     let start = Instant::now();
@@ -145,6 +172,15 @@ fn a_write_killed_at_many_moments() {
     let (old, new) = kill_at_moments(&large_write(), 70);
     println!("{old} old images, {new} new ones");
     assert!(old > 20, "{old} old, {new} new");
+}
+
+#[test]
+fn imports_and_scripts_killed_at_many_moments() {
+    for case in [import(), script()] {
+        let (old, new) = kill_at_moments(&case, 24);
+        println!("{}: {old} old images, {new} new ones", case.line);
+        assert!(old > 6, "{old} old, {new} new");
+    }
 }
 
 #[test]
@@ -194,7 +230,11 @@ mod staged {
             "file create IMAGE DOCK/NEW --contiguous 9",
             "format IMAGE BERTH --force",
         ];
-        for case in lines.map(other_change).iter().chain([&large_write(), &salvage()]) {
+        for case in lines
+            .map(other_change)
+            .iter()
+            .chain([&large_write(), &salvage(), &import(), &script()])
+        {
             for (stage, new) in STAGES {
                 kill_at_stage(case, stage);
                 assert_eq!(case.is_new(stage), new, "{} killed when {stage}", case.line);
@@ -266,6 +306,38 @@ mod staged {
                 pages += 1;
             }
             assert!(pages > 1, "{stage}: {pages} pages");
+            std::fs::remove_dir_all(&out).unwrap();
+        }
+    }
+
+    /// What is exported is no file or the whole one, and none before all are written.
+    #[test]
+    fn an_export_killed_at_each_stage() {
+        let case = import();
+        let (image, out) = (case.folder.path("disk.img"), case.folder.path("out"));
+        done(&image, &case.line);
+        let line = format!("export IMAGE DOCK {}", out.display());
+        let case = Case { line, ..case };
+        for (stage, placed) in [("one written", 0), ("all written", 0), ("placed", 1)] {
+            kill_at_stage(&case, stage);
+            let names = std::fs::read_dir(&out)
+                .unwrap()
+                .map(|entry| entry.unwrap().file_name().into_string().unwrap());
+            let placed_now: Vec<String> = names.filter(|name| !name.starts_with('.')).collect();
+            assert_eq!(placed_now.len(), placed, "{stage}");
+            for name in placed_now {
+                let number: u64 = name["FILE-".len()..].trim_end_matches(".BIN").parse().unwrap();
+                assert!(
+                    std::fs::read(out.join(&name)).unwrap()[..30_000] == noise(number, 30_000)[..],
+                    "{name}"
+                );
+            }
+            done(&image, &case.line);
+            assert_eq!(
+                std::fs::read_dir(&out).unwrap().count(),
+                40,
+                "{stage}: what a killed run has left is swept"
+            );
             std::fs::remove_dir_all(&out).unwrap();
         }
     }

@@ -16,7 +16,7 @@ fn a_bar_on_a_terminal_only() {
     let (folder, image) = disk(2048, 2000);
     let command = writing(&image, &folder.put("in.bin", &noise(1, 800 * 2048)));
     let seen = Screen::after(&command, 80).seen;
-    assert!(seen.contains("growing") && seen.contains("/800 pages"), "{seen}");
+    assert!(seen.contains("writing") && seen.contains("/2048 pages"), "{seen}");
     assert!(seen.trim_end().ends_with("DOCK/READS:DATA created: 800 pages"), "{seen}");
     let in_pipe = Command::new("bash")
         .args(["-c", &format!("{command} 2>&1 | cat")])
@@ -33,7 +33,7 @@ fn the_bar_is_no_wider_than_the_terminal_and_leaves_nothing() {
     let mut answer = "DOCK/READS:DATA created: 1800 pages";
     for columns in [20, 40, 79, 200] {
         let screen = Screen::after(&command, columns);
-        assert!(screen.seen.contains("growing "), "{columns}: {}", screen.seen);
+        assert!(screen.seen.contains("writing "), "{columns}: {}", screen.seen);
         assert_eq!(screen.rows().concat(), answer, "{columns}: {:?}", screen.seen);
         assert_eq!(screen.wraps, screen.rows().len() - 1, "{columns}: {:?}", screen.seen);
         done(&image, "file shrink IMAGE DOCK/READS:DATA 1800");
