@@ -14,14 +14,17 @@ fn first_use() -> String {
     blocks.map(|block| block.split_once("```").expect("its end").0).collect()
 }
 
-/// Each command, and the lines that follow it.
-fn steps(block: &str) -> Vec<(&str, String)> {
-    let mut steps: Vec<(&str, String)> = Vec::new();
+/// Each command, and the lines that follow it. A command that is lent lines (`<<`) has them behind `> `.
+fn steps(block: &str) -> Vec<(String, String)> {
+    let mut steps: Vec<(String, String)> = Vec::new();
     for line in block.lines() {
-        match (line.strip_prefix("$ "), steps.last_mut()) {
-            (Some(command), _) => steps.push((command, String::new())),
-            (None, Some((_, output))) => output.push_str(&format!("{line}\n")),
-            (None, None) => panic!("output before a command: {line}"),
+        match (line.strip_prefix("$ "), line.strip_prefix("> "), steps.last_mut()) {
+            (Some(command), _, _) => steps.push((command.to_string(), String::new())),
+            (None, Some(lent), Some((command, output))) if command.contains("<<") && output.is_empty() => {
+                command.push_str(&format!("\n{lent}"));
+            }
+            (None, _, Some((_, output))) => output.push_str(&format!("{line}\n")),
+            (None, _, None) => panic!("output before a command: {line}"),
         }
     }
     steps
