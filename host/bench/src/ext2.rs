@@ -88,7 +88,7 @@ pub fn own_child(task: &str, image: &Path) -> io::Result<Command> {
 }
 
 /// The command nord, if it was built beside this program.
-fn nord() -> Option<PathBuf> {
+pub fn nord() -> Option<PathBuf> {
     let path = std::env::current_exe().ok()?.with_file_name("nord");
     path.exists().then_some(path)
 }

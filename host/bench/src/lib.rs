@@ -9,6 +9,7 @@ pub mod contest;
 pub mod disk;
 pub mod ext2;
 pub mod ext2_stale;
+pub mod fat;
 pub mod fill;
 pub mod goals;
 pub mod hostile;

@@ -12,7 +12,7 @@ use std::process::ExitCode;
 const USE: &str = "bench [--quick] [--output FILE.md]
 bench searches                   the part on volumes that are nearly full, alone
 bench salvage                    the part on salvage, alone
-bench beside                     the part on e2fsck, alone
+bench beside                     the parts on e2fsck and mcopy, alone
 bench packs                      the part on packs of 37,035 and 140,733 pages, alone
 bench machine                    the machine and the tools
 bench volumes FOLDER             writes the volumes there, for the next three

@@ -3,7 +3,7 @@
 use std::process::Command;
 
 /// The tables of a run.
-const TITLES: [&str; 20] = [
+const TITLES: [&str; 21] = [
     "The machine and the tools",
     "The volumes",
     "Calls",
@@ -11,6 +11,7 @@ const TITLES: [&str; 20] = [
     "Searches for free pages",
     "Runs",
     "Check beside e2fsck",
+    "Many files beside mcopy",
     "Salvage beside the check",
     "Salvage beside e2fsck",
     "Growth of the check",
@@ -51,6 +52,8 @@ fn a_quick_run_prints_every_table() {
         nord == 6 || text.contains("Left out: e2fsck") || (text.contains("not built") && std::env::var_os("NORD_GATE").is_none()),
         "{nord}: four volumes and two packs"
     );
+    let files = goals("200 files, time over mcopy's and sync's");
+    assert!(files == 2 || text.contains("Left out: mcopy"), "{files}: in and out");
     let beside = goals("salvage, process over e2fsck's that mends");
     assert!(
         matches!(beside, 4 | 8) || text.contains("Left out: e2fsck"),

@@ -212,6 +212,17 @@ The new image is written to
 in the image's folder, synced, and renamed over the image; then the folder is synced. Owner and permissions are kept. What a killed run has left
 is removed by the next one that changes the image. The image is locked (flock) while a command changes it; a second one waits.
 .PP
+There is no command that renames a file or copies one within an image: no call of the library changes a name or copies pages. A file is copied by
+.B nord read
+and
+.BR "nord write" ,
+or
+.B nord export
+and
+.BR "nord import" ,
+and it gets another name by a copy and
+.BR "nord file delete" .
+.PP
 An image that is a symbolic link is replaced where the link leads to. Other names of the image file (hard links) keep the old image, as the new one is
 another file: the command says on standard error how many there are.
 .PP

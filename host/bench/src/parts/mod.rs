@@ -2,6 +2,7 @@
 
 mod beside;
 mod calls;
+mod files;
 mod growth;
 mod hostile;
 mod instructions;
@@ -31,6 +32,8 @@ pub struct Plan {
     pub effort: Effort,
     /// For processes, whose start takes long beside a check.
     pub process_effort: Effort,
+    /// Pages of the image that many files go into.
+    pub files: u32,
     /// Pages of the large volumes, and of those of the growth.
     pub large: u32,
     pub growth: Vec<u32>,
@@ -50,6 +53,7 @@ impl Plan {
         Plan {
             effort: THOROUGH,
             process_effort: Effort { sample: 0.005, ..THOROUGH },
+            files: LARGE_VOLUME,
             large: LARGE_VOLUME,
             growth: vec![1_000, 2_000, 4_000, 8_000, LARGE_VOLUME, 32_768, PACK_75, 65_536, 100_000, PACK_288],
             packs: vec![
@@ -69,6 +73,7 @@ impl Plan {
         Plan {
             effort: QUICK,
             process_effort: QUICK,
+            files: 8_000,
             large: 2_500,
             growth: vec![1_000, 1_500, LARGE_VOLUME + 1],
             packs: vec![("few75", full, LARGE_VOLUME + 100), ("many288", many, 2_600)],
@@ -127,12 +132,13 @@ pub fn run_salvage(plan: Plan) -> io::Result<Report> {
     Ok(run.ended())
 }
 
-/// Does the part on e2fsck alone; gives the report.
+/// Does the parts on e2fsck and mcopy alone; gives the report.
 pub fn run_beside(plan: Plan) -> io::Result<Report> {
     let mut run = Run::new(plan)?;
     let volumes = volumes(run.plan.large);
     run.report.add(contents(volumes.iter()));
     beside::measure(&mut run, &volumes)?;
+    files::measure(&mut run)?;
     Ok(run.ended())
 }
 
@@ -153,6 +159,7 @@ pub fn run(plan: Plan) -> io::Result<Report> {
     searches::measure(&mut run, &nearly_full);
     runs::measure(&mut run);
     beside::measure(&mut run, &volumes)?;
+    files::measure(&mut run)?;
     salvage::measure(&mut run, &volumes)?;
     growth::measure(&mut run);
     hostile::measure(&mut run);
