@@ -14,7 +14,7 @@ fn files_are_lost_only_by_force() {
         said,
         format!(
             "nord: {}: volume YARD has 2 users and 2 files, which a format loses: nothing is changed without --force \
-             (`nord read` copies a file out)\n",
+             (`nord export` copies files out)\n",
             image.display()
         )
     );

@@ -79,7 +79,7 @@ fn every_field_is_in_the_manual() {
         let object = told.json();
         assert_eq!(object["number"], told.status, "{line}");
         assert_eq!(object["error"].is_string(), told.status != 0, "{line}");
-        assert_eq!(object["rule"].is_number(), told.status != 0, "{line}");
+        assert!(object["rule"].is_number() || told.status == 0, "{line}");
         fields(&object, &mut all);
     }
     assert!(all.len() > 90, "{} fields", all.len());

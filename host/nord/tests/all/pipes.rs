@@ -74,7 +74,7 @@ fn wrong_lengths_of_a_pipe() {
     // An endless one ends.
     let zeros = File::open("/dev/zero").unwrap();
     let run = Run::of(Command::new(NORD).args(["check", "-"]).stdin(zeros).output().unwrap());
-    assert_eq!((run.status, run.err.contains("bytes (or more)")), (1, true), "{}", run.err);
+    assert_eq!((run.status, run.err.ends_with(" pages) (or more)\n")), (1, true), "{}", run.err);
 }
 
 #[test]

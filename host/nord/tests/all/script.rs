@@ -169,7 +169,7 @@ fn every_change_can_be_a_line() {
     assert_eq!(std::fs::read_dir(&out).unwrap().count(), 2);
     assert!(done(&image, "list IMAGE").ends_with("FILE 1 LAMBS:DATA PAGES 10 CONTIGUOUS\n"));
     done(&image, "check IMAGE");
-    let run = piped(&image, "format NEW\nuser add ONE\nlist\n", &[]);
+    let run = piped(&image, "format NEW --force\nuser add ONE\nlist\n", &[]);
     assert!(run.text().ends_with("USER 0 ONE GIVEN 0 USED 0\n"), "{}{}", run.text(), run.err);
 }
 

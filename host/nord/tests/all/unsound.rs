@@ -298,7 +298,7 @@ fn json_has_every_doubt() {
     assert_eq!((head(&map), map["holders"].as_array().map(Vec::len)), (place.clone(), Some(154)));
     assert_eq!(
         map["holders"][7],
-        json!({ "holder": "free", "kind": 0, "position": 0, "doubts": ["set, no holder"] })
+        json!({ "holder": "free", "kind": 0, "user": 0, "file": 0, "position": 0, "doubts": ["set, no holder"] })
     );
     let first = json!({ "holder": "data page", "kind": 10, "position": 1, "user": 0, "file": 0, "doubts": ["held twice"] });
     assert_eq!(map["holders"][147], first);
