@@ -82,7 +82,7 @@ fn every_field_is_in_the_manual() {
         assert!(object["rule"].is_number() || told.status == 0, "{line}");
         fields(&object, &mut all);
     }
-    assert!(all.len() > 90, "{} fields", all.len());
+    assert!(all.len() > 80, "{} fields", all.len());
     for field in all {
         assert!(manual.contains(&format!("\"{field}\"")), "{field}");
     }
