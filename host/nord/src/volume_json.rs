@@ -24,15 +24,15 @@ struct User {
 }
 
 #[derive(Serialize)]
-struct File {
-    index: u32,
-    name: String,
+pub struct File {
+    pub index: u32,
+    pub name: String,
     #[serde(rename = "type")]
-    type_name: String,
-    pages: u32,
-    kind: &'static str,
-    opens: u32,
-    created: u32,
+    pub type_name: String,
+    pub pages: u32,
+    pub kind: &'static str,
+    pub opens: u32,
+    pub created: u32,
 }
 
 impl From<&Volume> for Listed {

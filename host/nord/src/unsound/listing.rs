@@ -6,6 +6,7 @@ use super::judge::Judge;
 use super::shapes::File;
 use super::Broken;
 use crate::volume::{Pointer, ENTRIES};
+use crate::volume_json;
 use serde::Serialize;
 
 /// The volume with its users.
@@ -32,16 +33,11 @@ struct User {
     files: Vec<Listed>,
 }
 
+/// A file as the listing has it, and what is doubtful about it.
 #[derive(Serialize)]
 struct Listed {
-    index: u32,
-    name: String,
-    #[serde(rename = "type")]
-    type_name: String,
-    pages: u32,
-    kind: &'static str,
-    opens: u32,
-    created: u32,
+    #[serde(flatten)]
+    file: volume_json::File,
     doubts: Vec<String>,
 }
 
@@ -122,7 +118,7 @@ impl User {
 impl Listed {
     fn of(file: &File, doubts: Vec<String>) -> Listed {
         let entry = &file.entry;
-        Listed {
+        let file = volume_json::File {
             index: file.index(),
             name: entry.name(),
             type_name: entry.type_name(),
@@ -130,19 +126,19 @@ impl Listed {
             kind: kind(entry.pointer()),
             opens: entry.opens(),
             created: entry.created(),
-            doubts,
-        }
+        };
+        Listed { file, doubts }
     }
 
     fn line(&self) -> String {
-        let Listed {
+        let volume_json::File {
             index,
             name,
             type_name,
             pages,
             kind,
             ..
-        } = self;
+        } = &self.file;
         format!("FILE {index} {name}:{type_name} PAGES {pages} {kind}")
     }
 }

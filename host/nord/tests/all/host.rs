@@ -51,27 +51,38 @@ fn a_limit_of_file_sizes_is_a_clear_error() {
     done(&image, "user add IMAGE FLOCK");
 }
 
-/// In a mount of its own, which the system takes away with the run; where mounts are not allowed the test says so, and the one above stands
-/// alone.
+/// Runs a script beside a copy of the image, in a mount of its own of this size, which the system takes away with the run; IMAGE stands for the image
+/// itself. Where mounts are not allowed that is said, and the test above stands alone.
+fn on_a_small_disk(folder: &Folder, image: &Path, size: &str, script: &str) -> Option<Run> {
+    let small = folder.path("small");
+    fs::create_dir(&small).unwrap();
+    let (small, image) = (small.display().to_string(), image.display().to_string());
+    let script = script.replace("IMAGE", &image);
+    let script = format!("mount -t tmpfs -o size={size} none {small} || exit 99; cp {image} {small}; cd {small}; {script}");
+    let run = match Command::new("unshare").args(["-rm", "bash", "-c", &script]).output() {
+        Ok(output) => Run::of(output),
+        Err(error) => {
+            untried("unshare", error);
+            return None;
+        }
+    };
+    if run.status == 99 || run.err.starts_with("unshare:") {
+        forbidden("mounts (unshare -rm)", run.err);
+        return None;
+    }
+    Some(run)
+}
+
 #[test]
 fn a_full_disk_is_a_clear_error() {
     let (folder, image) = sample();
-    let small = folder.path("small");
-    fs::create_dir(&small).unwrap();
     let script = format!(
-        "mount -t tmpfs -o size=400k none {0} || exit 99; cp {1} {0}; cd {0}; head -c 80k /dev/zero >out.bin; \
-         {NORD} user add disk.img FLOCK; echo status $?; cmp disk.img {1} && echo same; \
-         {NORD} read disk.img DOCK/LAMBS:DATA out.bin; echo status $?; stat -c %s out.bin; ls -A; {NORD} check disk.img",
-        small.display(),
-        image.display(),
+        "head -c 80k /dev/zero >out.bin; {NORD} user add disk.img FLOCK; echo status $?; cmp disk.img IMAGE && echo same; \
+         {NORD} read disk.img DOCK/LAMBS:DATA out.bin; echo status $?; stat -c %s out.bin; ls -A; {NORD} check disk.img"
     );
-    let run = match Command::new("unshare").args(["-rm", "bash", "-c", &script]).output() {
-        Ok(output) => Run::of(output),
-        Err(error) => return untried("unshare", error),
+    let Some(run) = on_a_small_disk(&folder, &image, "400k", &script) else {
+        return;
     };
-    if run.status == 99 || run.err.starts_with("unshare:") {
-        return forbidden("mounts (unshare -rm)", run.err);
-    }
     let wanted = "status 74\nsame\nstatus 74\n81920\ndisk.img\nout.bin\nsound: 20 of 154 pages are held\n";
     assert_eq!(run.text(), wanted, "{}", run.err);
     for name in ["disk.img", "out.bin"] {
@@ -88,24 +99,15 @@ fn a_full_disk_is_a_clear_error() {
 #[test]
 fn many_files_on_a_full_disk() {
     let (folder, image) = sample();
-    let small = folder.path("small");
-    fs::create_dir(&small).unwrap();
     fs::write(folder.path("one.txt"), b"Ewe 513").unwrap();
     fs::write(folder.path("lines"), "user add FLOCK\nfile grow DOCK/READS:DATA 3\n").unwrap();
     let script = format!(
-        "mount -t tmpfs -o size=328k none {0} || exit 99; cp {1} {0}; cd {0}; \
-         {NORD} import disk.img DOCK ../one.txt; echo status $?; {NORD} run disk.img ../lines; echo status $?; cmp disk.img {1} && echo same; \
-         {NORD} export disk.img DOCK out; echo status $?; ls -A; {NORD} check disk.img",
-        small.display(),
-        image.display(),
+        "{NORD} import disk.img DOCK ../one.txt; echo status $?; {NORD} run disk.img ../lines; echo status $?; cmp disk.img IMAGE && echo same; \
+         {NORD} export disk.img DOCK out; echo status $?; ls -A; {NORD} check disk.img"
     );
-    let run = match Command::new("unshare").args(["-rm", "bash", "-c", &script]).output() {
-        Ok(output) => Run::of(output),
-        Err(error) => return untried("unshare", error),
+    let Some(run) = on_a_small_disk(&folder, &image, "328k", &script) else {
+        return;
     };
-    if run.status == 99 || run.err.starts_with("unshare:") {
-        return forbidden("mounts (unshare -rm)", run.err);
-    }
     let wanted = "status 74\nstatus 74\nsame\nstatus 74\ndisk.img\nsound: 20 of 154 pages are held\n";
     assert_eq!(run.text(), wanted, "{}", run.err);
     assert_eq!(run.err.matches("No space left on device").count(), 3, "{}", run.err);
