@@ -25,7 +25,7 @@
  * first (x86-64 and Arm do) the bytes of each word change places between the file and the slice.
  *
  * No other thread writes to what is lent while a call runs. The library keeps nothing between calls, has no data of its own and takes no
- * memory but some stack, less than 256 KiB (a list of calls: less than 320 KiB), so calls on different images may run at the same time.
+ * memory but some stack, less than 256 KiB, so calls on different images may run at the same time.
  *
  * Users, files, positions, pages and counts are size_t and judged in their full width: 2^32 + 1 pages is a wrong count, and not 1. A page count
  * (of give, take and create contiguous) is 1 to 140,733 on every volume, else 2.

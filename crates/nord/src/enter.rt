@@ -67,7 +67,7 @@ pub(crate) fn enter_count(img: &[u16], known: bool, user: usize, count: usize) -
 }
 
 // A page number.
-pub(crate) fn enter_page(img: &[u16], known: bool, p: usize) -> Gate
+pub fn enter_page(img: &[u16], known: bool, p: usize) -> Gate
     requires { ⌜ Known known (now img) ⌝ }
     ensures { λ r. ⌜ Entered (now (img .entry)) (PageArg (pages (now (img .entry))) p) r ⌝ }
 {

@@ -1,9 +1,11 @@
 // A list of calls by one run: one check, then each call on the image that the one before left.
+mod ask;
 mod make;
 mod mend;
 mod reply;
 mod step;
 
+use crate::ask::make_who;
 use crate::make::make;
 use crate::mend::make_salvage;
 use crate::reply::put;
@@ -12,7 +14,6 @@ use crate::step::CALL;
 use crate::step::COUNT;
 use crate::step::LENGTH;
 use crate::step::number;
-use nord::ask;
 ghost use mathlib.Core.Path.{_≡_};
 ghost use Prim.Native.Nat.{_+_, _*_, _/_, _≤_, _<_};
 ghost use lib.ListN.{length};
@@ -63,7 +64,7 @@ fn make_step(
 {
     let call = number(s, CALL);
     if call == WHO_HOLDS {
-        let h = ask::who_holds(img, known, number(s, COUNT));
+        let h = make_who(img, known, number(s, COUNT));
         return put_held(out, i, h);
     }
     if call == SALVAGE {

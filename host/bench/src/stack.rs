@@ -47,3 +47,20 @@ pub fn depth(work: &mut dyn FnMut()) -> usize {
     let empty = touched(&mut || ());
     touched(work).saturating_sub(empty)
 }
+
+/// The calls that a step can ask for.
+pub const STEPS: std::ops::RangeInclusive<u32> = proved::call::FORMAT..=proved::call::SALVAGE;
+
+/// A list of one call: user 0, file 0, page or position 1, name NAME, type DATA.
+pub fn one_step(image: &mut [u16], call: u32, list: &mut [proved::Change]) {
+    let step = proved::Step {
+        call,
+        count: 1,
+        name_bytes: 4,
+        type_at: 4,
+        type_bytes: 4,
+        ..proved::Step::default()
+    };
+    let (data, mut replies) = ([0; proved::PAGE], [proved::Reply::default()]);
+    std::hint::black_box(proved::run(image, &[step], b"NAMEDATA", &data, list, &mut replies));
+}

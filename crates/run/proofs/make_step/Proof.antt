@@ -9,10 +9,10 @@ use Rattle.run.proofs.make_step.Tie as tie
 returns : tie.Need-returns
 returns c =
     let p = c .before .before in let w = p .before .before in let u = w .before in let i = u .before .before in let n = i .before in
-    let a = holding (w .who-holds .result) in record {
+    let a = holding (w .make-who .result) in record {
       numbers = heldReply a;
       result = step-holder (heldReply a) _ _ _ _ _ _ _ (n .number .result) (n .number .ensures .0) (i .if1 .taken) (u .number2 .result) (u .number2 .ensures .0)
-          (record { answer = a; outcome = w .who-holds .ensures; reply = refl; kept = refl });
+          (record { answer = a; outcome = w .make-who .ensures; reply = refl; kept = refl });
       reply = p .put-held .ensures .0;
       done = p .put-held .ensures .1;
     }

@@ -1,9 +1,9 @@
 //! Memory that a call takes beyond the image: `bench-memory IMAGE [CALL]` tells the stack and the heap of each call, or of that one, and of
-//! each program, in bytes; and of a salvage. A program of its own, since its allocator counts, which would cost time in the others.
+//! each program, in bytes; and of a salvage and of lists of calls. A program of its own, since its allocator counts, which would cost time in the others.
 
 use bench::calls::{ask, Call, Program, Question, CALLS};
 use bench::scratch::{map_private, question_of, words_mut};
-use bench::stack::depth;
+use bench::stack::{depth, one_step, STEPS};
 use bench::stale::list;
 use std::alloc::{GlobalAlloc, Layout, System};
 use std::hint::black_box;
@@ -71,6 +71,20 @@ fn tell_salvage(image: &Path) -> io::Result<()> {
     Ok(())
 }
 
+/// The same of lists of one call, the deepest of all that a step can ask for.
+fn tell_runs(image: &Path) -> io::Result<()> {
+    let mut most = (0, 0);
+    for call in STEPS {
+        let (mut for_stack, mut for_heap) = (map_private(image)?, map_private(image)?);
+        let mut lent = list(words_mut(&mut for_stack));
+        let stack = depth(&mut || one_step(words_mut(&mut for_stack), call, &mut lent));
+        let heap = heap(&mut || one_step(words_mut(&mut for_heap), call, &mut lent));
+        most = (stack.max(most.0), heap.max(most.1));
+    }
+    println!("run {} {} {}", Program::Proved.name(), most.0, most.1);
+    Ok(())
+}
+
 fn main() -> io::Result<()> {
     let wrong = || io::Error::other("bench-memory IMAGE [CALL]");
     let image = std::env::args().nth(1).ok_or_else(wrong)?;
@@ -80,5 +94,6 @@ fn main() -> io::Result<()> {
         None => CALLS.to_vec(),
     };
     tell(image, &question_of(image)?, &calls)?;
-    tell_salvage(image)
+    tell_salvage(image)?;
+    tell_runs(image)
 }

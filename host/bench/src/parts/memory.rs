@@ -15,7 +15,7 @@ use std::process::Command;
 const NOTE: &str =
     "Bytes. Stack: the call runs in a thread whose stack was painted before; what is no longer paint was used, less what an empty \
     thread uses. Heap: the most that was out at once, by an allocator that counts. The library has no heap and no data of its own: its \
-    memory is its stack. The most of any is that of the seven calls and of a salvage, which the library alone is asked for; its list is the caller's.";
+    memory is its stack. The most of any is that of the seven calls, of a salvage and of lists of one call, whichever it is, which the library alone is asked for; the list of changes is the caller's.";
 
 /// Below 256 KiB.
 const LIMIT: f64 = 262_143.0;
@@ -77,7 +77,10 @@ pub fn of_refusal(run: &mut Run, table: &mut Table, image: &Hostile, on: &str) -
     let path = write_native(&run.scratch.folder, on, &image.words, &hostile::question())?;
     let all = tell(&path, Some(Call::Check))?;
     remove_file(path)?;
-    for (what, any) in [("check, refused", false), ("the most of check and salvage", true)] {
+    for (what, any) in [
+        ("check, refused", false),
+        ("the most of check, salvage and lists of one call", true),
+    ] {
         table.row(row(on, what, &all, any));
     }
     judge(run, "memory beyond the image, bytes, a refusal of a hostile image", on, &all);

@@ -1,7 +1,7 @@
 //! The lines of a script on one image: one lock, one check, one replacement.
 
 use super::{kind, Kind, Work};
-use crate::answers::{fields, Answer};
+use crate::answers::{fields, item, Answer};
 use crate::args;
 use crate::failure::Failure;
 use crate::script::{self, failed, Words};
@@ -31,7 +31,7 @@ fn made(image: &mut [u16], with: &args::Run, lines: &[Words]) -> Result<(Answer,
             Ok(()) if next == lines.len() => break,
             Ok(()) => next + 1,
             Err((number, failure)) => {
-                let failure = failed(&lines[number].line, failure);
+                let failure = failed(&lines[number].line, told(failure, with.keep_going));
                 if !with.keep_going {
                     return Err(failure);
                 }
@@ -41,6 +41,17 @@ fn made(image: &mut [u16], with: &args::Run, lines: &[Words]) -> Result<(Answer,
         };
     }
     Ok((answer(session, lines, refused), then))
+}
+
+/// A refusal that ends the run says that nothing is kept.
+fn told(failure: Failure, goes_on: bool) -> Failure {
+    match failure {
+        Failure::Refused(refusal) if !goes_on => {
+            let words = "no line is kept, and the image is as it was; with --keep-going the others are made";
+            refusal.also(item("script", words)).into()
+        }
+        _ => failure,
+    }
 }
 
 /// Runs a line by its place among all lines.

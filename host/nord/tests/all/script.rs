@@ -67,7 +67,7 @@ fn a_refused_line_is_told_and_nothing_is_changed() {
     let run = piped(&image, lines, &[]);
     let wanted =
         "nord: standard input line 3: user give FLOCK 200: refused (10): unreserved is below the pages to be given: 200 for FLOCK \
-                  (200 pages needed, 48 are there)\n";
+                  (200 pages needed, 48 are there)\n  script    no line is kept, and the image is as it was; with --keep-going the others are made\n";
     assert_eq!((run.status, run.err.as_str(), run.text()), (10, wanted, ""));
     let run = piped(&image, lines, &["--json"]);
     assert_eq!(
