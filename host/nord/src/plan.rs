@@ -115,12 +115,11 @@ impl Plan {
 
     /// A step with a name.
     pub fn named(&mut self, call: u32, name: &str) -> Step {
-        let name_at = self.text.len() as u32;
-        self.text.extend(name.as_bytes());
+        let (name_at, name_bytes) = self.spell(name);
         Step {
             call,
             name_at,
-            name_bytes: name.len() as u32,
+            name_bytes,
             ..Step::default()
         }
     }
@@ -128,14 +127,20 @@ impl Plan {
     /// A step with a user, a name and a type.
     pub fn typed(&mut self, call: u32, user: u32, name: &str, kind: &str) -> Step {
         let step = self.named(call, name);
-        let type_at = self.text.len() as u32;
-        self.text.extend(kind.as_bytes());
+        let (type_at, type_bytes) = self.spell(kind);
         Step {
             user,
             type_at,
-            type_bytes: kind.len() as u32,
+            type_bytes,
             ..step
         }
+    }
+
+    /// Letters that steps can name: where they begin among all that are lent, and how many they are.
+    fn spell(&mut self, letters: &str) -> (u32, u32) {
+        let first = self.text.len() as u32;
+        self.text.extend(letters.as_bytes());
+        (first, letters.len() as u32)
     }
 
     /// Words that steps can write, and where they begin among all that are lent.
