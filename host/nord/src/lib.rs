@@ -32,6 +32,7 @@ pub mod script;
 pub mod session;
 pub mod store;
 pub mod swapped;
+pub mod touched;
 pub mod typed;
 pub mod unsound;
 pub mod volume;

@@ -11,6 +11,7 @@ pub use forecast::Forecast;
 pub use made::{make, unforeseen, Made, Stopped};
 
 use crate::answers::{Answer, Call};
+use crate::chunks;
 use crate::failure::Failure;
 use crate::names::{FileName, UserName, Within};
 use proved::{call, Step, MOST_PAGES};
@@ -143,10 +144,10 @@ impl Plan {
         (first, letters.len() as u32)
     }
 
-    /// Words that steps can write, and where they begin among all that are lent.
-    pub fn lend(&mut self, words: &[u16]) -> u32 {
+    /// Bytes whose words steps can write, and where these begin among all that are lent.
+    pub fn lend(&mut self, bytes: &[u8]) -> u32 {
         let first = self.data.len() as u32;
-        self.data.extend(words);
+        self.data.extend(chunks::pairs(bytes));
         first
     }
 

@@ -6,7 +6,7 @@ use crate::progress::Progress;
 use crate::{chunks, pause};
 use std::fs::{self, File, Metadata, OpenOptions, Permissions};
 use std::io::{self, Write};
-use std::os::unix::fs::{fchown, MetadataExt, OpenOptionsExt, PermissionsExt};
+use std::os::unix::fs::{fchown, FileExt, MetadataExt, OpenOptionsExt, PermissionsExt};
 use std::path::{Path, PathBuf};
 
 /// The words of an image that are written before the bar goes on.
@@ -54,26 +54,27 @@ impl Fresh {
 
     /// Writes the bytes and waits until they are on the disk.
     pub fn fill(&mut self, bytes: &[u8]) -> Result<(), Failure> {
-        self.fill_by_halves(bytes, |file, half| file.write_all(half))
+        self.fill_by_halves(bytes, |file, from, half| file.write_all_at(half, from as u64))
     }
 
-    /// The same with words, the high byte first.
+    /// The same with words, the high byte first. Long parts of zeros become holes, so that a large volume with little in it is soon on the disk.
     pub fn fill_with_words(&mut self, words: &[u16]) -> Result<(), Failure> {
         let bar = Progress::start("writing", "pages", (words.len() / proved::PAGE) as u64);
-        self.fill_by_halves(words, |file, half| {
-            half.chunks(AT_ONCE).try_for_each(|words| {
-                chunks::write(file, words)?;
+        self.file.set_len(2 * words.len() as u64).map_err(not_written(&self.target))?;
+        self.fill_by_halves(words, |file, from, half| {
+            half.chunks(AT_ONCE).enumerate().try_for_each(|(number, words)| {
+                chunks::write(file, from + number * AT_ONCE, words)?;
                 bar.advance((words.len() / proved::PAGE) as u64);
                 Ok(())
             })
         })
     }
 
-    fn fill_by_halves<T>(&mut self, whole: &[T], write: impl Fn(&mut File, &[T]) -> io::Result<()>) -> Result<(), Failure> {
+    fn fill_by_halves<T>(&mut self, whole: &[T], write: impl Fn(&File, usize, &[T]) -> io::Result<()>) -> Result<(), Failure> {
         let (first, rest) = whole.split_at(whole.len() / 2);
-        write(&mut self.file, first).map_err(not_written(&self.target))?;
+        write(&self.file, 0, first).map_err(not_written(&self.target))?;
         pause::at("half");
-        write(&mut self.file, rest).map_err(not_written(&self.target))?;
+        write(&self.file, first.len(), rest).map_err(not_written(&self.target))?;
         pause::at("written");
         self.file.sync_all().map_err(not_written(&self.target))?;
         pause::at("synced");

@@ -2,7 +2,7 @@
 //! with one check for all of them; who asks sees the image as the lines before have left it.
 
 use crate::answers::Answer;
-use crate::commands::Work;
+use crate::commands::{ask, Work};
 use crate::failure::Failure;
 use crate::plan::{self, Made, Plan, Planned, Stopped, Tell};
 use proved::Reply;
@@ -62,6 +62,10 @@ impl Session<'_> {
     /// A line more. The refused line may be this one or one before it that was planned: all after it are forgotten.
     pub fn line(&mut self, number: usize, work: Work) -> Result<(), Refused> {
         match work {
+            Work::Check(at) => {
+                self.make()?;
+                self.answer(number, |image| ask::check(image, &at))
+            }
             Work::Ask(ask) => {
                 self.make()?;
                 self.answer(number, |image| ask(image))

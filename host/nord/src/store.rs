@@ -2,9 +2,10 @@
 
 use crate::answers::Refusal;
 use crate::failure::{of_file, Failure};
-use crate::image::Image;
+use crate::image::{Image, LARGE};
 use crate::replace::Fresh;
-use crate::{chunks, lock, pause, replace};
+use crate::{chunks, lock, pause, replace, touched};
+use proved::Reply;
 use std::fs::{self, File};
 use std::io::{self, Read};
 use std::os::unix::fs::MetadataExt;
@@ -53,9 +54,29 @@ pub fn shown(path: &Path) -> &Path {
 /// The words of an image that is only asked. No lock: writers put another file in its place and leave this one alone.
 pub fn read(path: &Path) -> Result<Image, Failure> {
     match open(path)? {
-        Source::Plain(file) => contents(&file, path),
+        Source::Plain(file) => undisturbed(&file, path, once),
         Source::Pipe(mut pipe) => piped(&mut pipe, path),
     }
+}
+
+/// What the proved check says of a large image file, of which no more is read than it touches. Nothing of a pipe, which is read to its end, nor of
+/// a small file, which is soon read.
+pub fn check(path: &Path) -> Result<Option<Checked>, Failure> {
+    let Source::Plain(file) = open(path)? else { return Ok(None) };
+    if file.metadata().map_err(of_file(path))?.len() < 2 * LARGE as u64 {
+        return Ok(None);
+    }
+    let checked = undisturbed(&file, path, |file, words| {
+        let reply = touched::look(file, words, proved::check)?;
+        Ok(Checked { reply, words })
+    })?;
+    Ok(Some(checked))
+}
+
+/// What the check says of an image of so many words.
+pub struct Checked {
+    pub reply: Reply,
+    pub words: usize,
 }
 
 /// What becomes of the image after work that is done.
@@ -82,9 +103,8 @@ pub fn change_or_keep<T>(path: &Path, wait: u64, work: impl FnOnce(&mut [u16]) -
     let file = lock::take(path, Duration::from_secs(wait))?;
     pause::at("locked");
     replace::sweep(path);
-    let before = contents(&file, path)?;
+    let [before, mut image] = undisturbed(&file, path, twice)?;
     pause::at("read");
-    let mut image = before.copy();
     let (answer, then) = work(&mut image)?;
     if then == Then::Keep {
         return Ok(answer);
@@ -143,17 +163,23 @@ fn unchanged(file: &File, path: &Path, before: &[u16]) -> Result<(), Failure> {
 }
 
 /// All words of the file.
-fn contents(file: &File, path: &Path) -> Result<Image, Failure> {
-    undisturbed(file, path, |file, count| {
-        let mut words = Image::full(count);
-        chunks::read(file, 0, &mut words)?;
-        Ok(words)
-    })
+fn once(file: &File, count: usize) -> io::Result<Image> {
+    let mut words = Image::full(count);
+    chunks::read(file, 0, &mut words)?;
+    Ok(words)
+}
+
+/// The same, and a copy of them.
+fn twice(file: &File, count: usize) -> io::Result<[Image; 2]> {
+    let mut images = [(); 2].map(|()| Image::full(count));
+    let [words, copy] = &mut images;
+    chunks::read_twice(file, words, copy)?;
+    Ok(images)
 }
 
 /// What is read of a file of so many words while nobody changes it. A length that the library cannot be asked about is refused as the library
 /// would.
-fn undisturbed<T>(file: &File, path: &Path, read: impl Fn(&File, usize) -> io::Result<T>) -> Result<T, Failure> {
+fn undisturbed<T>(file: &File, path: &Path, read: impl FnOnce(&File, usize) -> io::Result<T>) -> Result<T, Failure> {
     let stamp = || {
         file.metadata()
             .and_then(|now| Ok((now.len(), now.modified()?)))

@@ -1,6 +1,6 @@
 //! Commands that ask an image: check, list, find, address, who.
 
-use crate::answers::{done, Answer, Call};
+use crate::answers::{done, Answer, Call, Refusal};
 use crate::args::Ask;
 use crate::broken::Broken;
 use crate::failure::Failure;
@@ -24,19 +24,27 @@ struct Sound {
 
 pub fn check(image: &[u16], at: &Ask) -> Result<Answer, Failure> {
     let reply = proved::check(image);
-    let visits = done(reply, Call::Check, "").map_err(|refusal| match refusal.number {
+    if let Some(answer) = sound(reply, image.len()) {
+        return Ok(answer);
+    }
+    let refusal = Refusal::of(reply, Call::Check, "");
+    let path = store::shown(&at.image);
+    Err(Failure::Refused(match refusal.number {
         3 => {
-            let path = store::shown(&at.image);
             let told = Broken::of(image, reply).tell(refusal, path);
             let told = CanMend::of(image, reply).tell(told, path);
             swapped::tell(told, image, path)
         }
         _ => refusal,
-    })?;
-    let pages = image.len() / proved::PAGE;
+    }))
+}
+
+/// What is said of a sound image of so many words.
+pub fn sound(reply: Reply, words: usize) -> Option<Answer> {
+    let (visits, pages) = (reply.value, words / proved::PAGE);
     let line = format!("sound: {visits} of {pages} pages are held");
-    let sound = true;
-    Ok(Answer::new(line, Sound { sound, visits, pages }))
+    let sound = reply.number == 0;
+    sound.then(|| Answer::new(line, Sound { sound, visits, pages }))
 }
 
 pub fn list(image: &[u16]) -> Result<Answer, Failure> {

@@ -155,19 +155,19 @@ fn yard(list: &mut Plan) -> Planned {
     let (reads, lambs) = ("DOCK/READS:DATA".parse(), "DOCK/LAMBS:DATA".parse());
     let (reads, lambs) = (reads.map_err(Failure::Usage)?, lambs.map_err(Failure::Usage)?);
     let page = |position| page(&format!("Page {position} of READS:DATA, a file of user DOCK on volume YARD.\n"));
-    let words = (0..3).flat_map(page).collect::<Vec<_>>();
+    let bytes = (0..3).flat_map(page).collect::<Vec<_>>();
     let creation = transfer::Creation {
         contiguous: false,
         created: 0,
     };
-    transfer::put(list, &reads, &words, &creation)?;
+    transfer::put(list, &reads, &bytes, &creation)?;
     files::make(list, &lambs, Some(10), 0)?;
     Ok(told)
 }
 
 /// A page that begins with the text and goes on with zeros.
-fn page(text: &str) -> Vec<u16> {
+fn page(text: &str) -> Vec<u8> {
     let mut bytes = text.as_bytes().to_vec();
     bytes.resize(store::PAGE, 0);
-    store::words(&bytes)
+    bytes
 }

@@ -38,10 +38,10 @@ struct Imports {
 pub fn plan(list: &mut Plan, with: &Import) -> Planned {
     let (paths, warnings) = found(&with.paths)?;
     let bar = Progress::start("reading", "files", paths.len() as u64);
-    let (mut given, mut files, mut pages) = (Given::default(), Vec::new(), 0);
+    let (mut hands, mut files, mut pages) = (Hands::default(), Vec::new(), 0);
     list.user(&with.user);
     for path in paths {
-        let Some(imported) = one(list, with, &path, &mut given)? else {
+        let Some(imported) = one(list, with, &path, &mut hands)? else {
             return Ok(None);
         };
         pages += imported.written.as_ref().map_or(0, |written| written.pages);
@@ -55,9 +55,16 @@ pub fn plan(list: &mut Plan, with: &Import) -> Planned {
     Ok(Some(Box::new(move |_| answer(user, files, pages, warnings))))
 }
 
+/// What goes from file to file: the names that were given so far, and the room for a file's bytes.
+#[derive(Default)]
+struct Hands {
+    given: Given,
+    bytes: Vec<u8>,
+}
+
 /// The calls that copy one file in.
-fn one(list: &mut Plan, with: &Import, path: &Path, given: &mut Given) -> Result<Option<Imported>, Failure> {
-    let (name, kind) = given.to(path);
+fn one(list: &mut Plan, with: &Import, path: &Path, hands: &mut Hands) -> Result<Option<Imported>, Failure> {
+    let (name, kind) = hands.given.to(path);
     let file = FileName {
         user: with.user.clone(),
         file: Within::Name(name.clone(), kind.clone()),
@@ -71,7 +78,8 @@ fn one(list: &mut Plan, with: &Import, path: &Path, given: &mut Given) -> Result
                 contiguous: false,
                 created: with.created,
             };
-            let Some(written) = transfer::put(list, &file, &transfer::load(path)?, &creation)? else {
+            transfer::load(path, &mut hands.bytes)?;
+            let Some(written) = transfer::put(list, &file, &hands.bytes, &creation)? else {
                 return Ok(None);
             };
             Some(written)

@@ -1,6 +1,6 @@
 //! One file for each subject of commands. Each command gives its answer or says what failed.
 
-mod ask;
+pub mod ask;
 mod convert;
 mod export;
 mod files;
@@ -16,7 +16,7 @@ mod unsound;
 mod users;
 
 use crate::answers::Answer;
-use crate::args::Command;
+use crate::args::{Ask, Command};
 use crate::failure::Failure;
 use crate::plan::{Plan, Planned};
 use crate::store::{self, Then};
@@ -25,6 +25,8 @@ use std::path::{Path, PathBuf};
 
 /// What a command does with an image.
 pub enum Work {
+    /// It checks the image, and of a sound one the check's reply is all that is told.
+    Check(Ask),
     /// It asks: nothing is changed.
     Ask(Box<dyn FnOnce(&mut [u16]) -> Result<Answer, Failure>>),
     /// It changes the image by a list of calls.
@@ -49,6 +51,7 @@ pub fn run(command: Command) -> Result<Answer, Failure> {
 /// Work on an image file. Who only asks takes no lock.
 fn on(path: &Path, wait: u64, work: Work) -> Result<Answer, Failure> {
     match work {
+        Work::Check(at) => check(path, &at),
         Work::Ask(ask) => {
             let mut image = store::read(path)?;
             ask(&mut image).map_err(|failure| failure.sized(image.len()))
@@ -58,6 +61,15 @@ fn on(path: &Path, wait: u64, work: Work) -> Result<Answer, Failure> {
         }),
         Work::Mend(mend) => store::change_or_keep(path, wait, |image| mend(image).map_err(|failure| failure.sized(image.len()))),
     }
+}
+
+/// Checks an image file. It is read whole only if there is something wrong to tell of it, or if it comes by a pipe or is small.
+fn check(path: &Path, at: &Ask) -> Result<Answer, Failure> {
+    if let Some(answer) = store::check(path)?.and_then(|checked| ask::sound(checked.reply, checked.words)) {
+        return Ok(answer);
+    }
+    let image = store::read(path)?;
+    ask::check(&image, at).map_err(|failure| failure.sized(image.len()))
 }
 
 /// What a command is.
@@ -90,8 +102,9 @@ pub fn kind(command: Command) -> Result<Kind, Failure> {
             contiguous,
             created,
         } => {
-            let (words, creation) = (transfer::load(&input)?, transfer::Creation { contiguous, created });
-            Ok(change(at, move |plan| transfer::write(plan, file, &words, &creation)))
+            let (mut bytes, creation) = (Vec::new(), transfer::Creation { contiguous, created });
+            transfer::load(&input, &mut bytes)?;
+            Ok(change(at, move |plan| transfer::write(plan, file, &bytes, &creation)))
         }
         Command::Salvage(with) => Ok(salvaging(with)),
         asking => Ok(asks(asking)),
@@ -159,7 +172,11 @@ fn asks(command: Command) -> Kind {
             let svg = svg.as_deref();
             unsound::map(image, &at, unsound::Look { svg, width, colour }, look.unsound)
         }),
-        Command::Check(at) => ask(at.image.clone(), move |image| ask::check(image, &at)),
+        Command::Check(at) => Kind::On {
+            image: at.image.clone(),
+            wait: 0,
+            work: Work::Check(at),
+        },
         _ => whole(|| Err(Failure::Usage("this command asks no image".to_string()))),
     }
 }

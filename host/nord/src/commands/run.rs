@@ -59,7 +59,7 @@ fn one(session: &mut Session, with: &args::Run, line: &Words, at: usize, then: &
     let command = line.command(&with.at.image, with.at.json).map_err(|failure| (at, failure))?;
     match kind(command).map_err(|failure| (at, failure))? {
         Kind::On { work, .. } => {
-            if !matches!(work, Work::Ask(_)) {
+            if !matches!(work, Work::Check(_) | Work::Ask(_)) {
                 *then = Then::Replace;
             }
             session.line(at, work)

@@ -100,16 +100,16 @@ impl Written {
     }
 }
 
-pub fn write(list: &mut Plan, file: FileName, words: &[u16], creation: &Creation) -> Planned {
-    let Some(written) = put(list, &file, words, creation)? else {
+pub fn write(list: &mut Plan, file: FileName, bytes: &[u8], creation: &Creation) -> Planned {
+    let Some(written) = put(list, &file, bytes, creation)? else {
         return Ok(None);
     };
     Ok(Some(Box::new(move |_| Answer::new(format!("{file} {}", written.words()), written))))
 }
 
-/// The calls that copy these words into a file: it is created where it is not there, grows or shrinks to fit, and every page is written.
-pub fn put(list: &mut Plan, file: &FileName, words: &[u16], creation: &Creation) -> Result<Option<Written>, Failure> {
-    let pages = (words.len() / proved::PAGE) as u32;
+/// The calls that copy these pages' bytes into a file: it is created where it is not there, grows or shrinks to fit, and every page is written.
+pub fn put(list: &mut Plan, file: &FileName, bytes: &[u8], creation: &Creation) -> Result<Option<Written>, Failure> {
+    let pages = (bytes.len() / store::PAGE) as u32;
     let created = creation.contiguous || is_new(list, file);
     let place = match created {
         true => files::make(list, file, creation.contiguous.then_some(pages), creation.created)?,
@@ -119,7 +119,7 @@ pub fn put(list: &mut Plan, file: &FileName, words: &[u16], creation: &Creation)
     if !fit(list, file, place, pages) {
         return Ok(None);
     }
-    let data_at = list.lend(words);
+    let data_at = list.lend(bytes);
     list.calls(Call::Write, file, Each::Position, None, pages, |position| Step {
         data_at: data_at + proved::PAGE as u32 * position,
         ..on_file(call::WRITE_PAGE, place, position)
@@ -163,15 +163,20 @@ fn fit(list: &mut Plan, file: &FileName, place: Place, pages: u32) -> bool {
     true
 }
 
-/// The input's words, filled with zeros to whole pages. Of an input larger than any image no more is read than shows that.
-pub fn load(input: &Path) -> Result<Vec<u16>, Failure> {
+/// Puts the input's bytes, filled with zeros to whole pages, in the place of those that are there. Of an input larger than any image no more is
+/// read than shows that.
+pub fn load(input: &Path, bytes: &mut Vec<u8>) -> Result<(), Failure> {
     let limit = (proved::MOST_PAGES * store::PAGE) as u64 + 1;
-    let mut bytes = Vec::new();
+    bytes.clear();
     match input == Path::new("-") {
-        true => std::io::stdin().lock().take(limit).read_to_end(&mut bytes),
-        false => fs::File::open(input).and_then(|file| file.take(limit).read_to_end(&mut bytes)),
+        true => std::io::stdin().lock().take(limit).read_to_end(bytes),
+        false => fs::File::open(input).and_then(|file| {
+            // Room for all of it, and for what fills its last page.
+            bytes.reserve(file.metadata()?.len().min(limit) as usize + store::PAGE);
+            file.take(limit).read_to_end(bytes)
+        }),
     }
     .map_err(of_file(input))?;
     bytes.resize(bytes.len().next_multiple_of(store::PAGE), 0);
-    Ok(store::words(&bytes))
+    Ok(())
 }

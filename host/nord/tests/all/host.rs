@@ -19,7 +19,8 @@ fn is_root() -> bool {
 fn run_as_nobody(folder: &Folder, image: &Path, line: &str) -> Run {
     let program = folder.path("nord");
     if !program.exists() {
-        fs::copy(NORD, &program).unwrap();
+        // Another process copies it: a copy that this one has open would be open in what other tests start meanwhile, and could not be run.
+        assert!(Command::new("cp").args([Path::new(NORD), &program]).status().unwrap().success());
     }
     mode(&program, 0o755);
     let mut command = Command::new(program);
@@ -58,7 +59,7 @@ fn on_a_small_disk(folder: &Folder, image: &Path, size: &str, script: &str) -> O
     fs::create_dir(&small).unwrap();
     let (small, image) = (small.display().to_string(), image.display().to_string());
     let script = script.replace("IMAGE", &image);
-    let script = format!("mount -t tmpfs -o size={size} none {small} || exit 99; cp {image} {small}; cd {small}; {script}");
+    let script = format!("mount -t tmpfs -o size={size} none {small} || exit 99; cp --sparse=never {image} {small}; cd {small}; {script}");
     let run = match Command::new("unshare").args(["-rm", "bash", "-c", &script]).output() {
         Ok(output) => Run::of(output),
         Err(error) => {

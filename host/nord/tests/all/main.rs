@@ -16,6 +16,7 @@ mod hostile;
 mod import;
 mod json;
 mod killed;
+mod large;
 mod listing;
 mod names;
 mod packs;

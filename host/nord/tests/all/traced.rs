@@ -20,7 +20,7 @@ fn strace(folder: &Folder, options: &[&str], line: &str) -> std::io::Result<Exit
 }
 
 /// The calls that a run makes, each as strace writes it; none where strace cannot be used.
-fn calls(folder: &Folder, line: &str) -> Vec<String> {
+pub fn calls(folder: &Folder, line: &str) -> Vec<String> {
     match strace(folder, &[], line) {
         Ok(status) if status.success() => std::fs::read_to_string(folder.path("trace"))
             .unwrap()

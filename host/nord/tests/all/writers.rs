@@ -158,19 +158,29 @@ mod paused {
         assert_eq!(folder.names(), ["disk.img"]);
     }
 
-    /// The words that were read, to see at the end that the file is still the same, and those that are changed; and some MB for the program.
-    #[test]
-    fn a_change_takes_two_times_the_image() {
-        let (_folder, image) = disk(16384, 100);
-        let paused = Paused::start(&image, "user add IMAGE FIRST", "placed");
+    /// The kB that a change has taken at most.
+    fn memory_of(image: &Path, line: &str) -> u64 {
+        let paused = Paused::start(image, line, "placed");
         let status = std::fs::read_to_string(format!("/proc/{}/status", paused.0.id())).unwrap();
         let most = status.lines().find_map(|line| line.strip_prefix("VmHWM:")).unwrap();
-        let most: u64 = most.trim().trim_end_matches(" kB").parse().unwrap();
         assert_eq!(paused.end(), (0, String::new()));
-        let image = std::fs::metadata(&image).unwrap().len() / 1024;
+        most.trim().trim_end_matches(" kB").parse().unwrap()
+    }
+
+    /// The words that were read, to see at the end that the file is still the same, and those that are changed; and some MB for the program. Where
+    /// the image has zeros neither takes any.
+    #[test]
+    fn a_change_takes_two_times_the_image_and_nothing_for_zeros() {
+        let (folder, image) = disk(16384, 16300);
+        let size = std::fs::metadata(&image).unwrap().len() / 1024;
+        let empty = memory_of(&image, "user add IMAGE FIRST");
+        assert!(empty < size, "{empty} kB for an empty image of {size} kB");
+        std::fs::write(folder.path("full"), vec![b'N'; 16_200 * 2048]).unwrap();
+        done(&image, &format!("write IMAGE DOCK/FULL {}", folder.path("full").display()));
+        let full = memory_of(&image, "user add IMAGE SECOND");
         assert!(
-            most > 2 * image && most < 2 * image + 10_000,
-            "{most} kB for an image of {image} kB"
+            full > 2 * size - 4_000 && full < 2 * size + 10_000,
+            "{full} kB for a full image of {size} kB"
         );
     }
 
