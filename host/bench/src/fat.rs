@@ -110,8 +110,10 @@ impl Made {
         }
     }
 
-    fn into_images(&self, effort: Effort) -> Way {
-        let fresh = |from: &'static str, to: &'static str| move || fs::copy(self.path(from), self.path(to)).map(drop);
+    /// Into images with their holes, as they were made, or without any, as `dd` copies a disk.
+    fn into_images(&self, sparse: &'static str, effort: Effort) -> Way {
+        let copy = |from, to| done(Command::new("cp").arg(sparse).args([self.path(from), self.path(to)]));
+        let fresh = |from: &'static str, to: &'static str| move || copy(from, to);
         let ours = self.side(fresh("empty.img", "new.img"), self.nord_shell("import new.img DOCK in"));
         let theirs = self.side(
             fresh("empty.fat", "new.fat"),
@@ -138,10 +140,14 @@ fn remove(folder: &Path) -> io::Result<()> {
     }
 }
 
+/// The ways: files into an image with holes, into one without, and out.
+pub const WAYS: [&str; 3] = ["in", "in, an image without holes", "out"];
+
 /// All files into an image of so many pages, and out of it.
-pub fn contest(scratch: &Scratch, pages: u32, effort: Effort) -> io::Result<[Way; 2]> {
+pub fn contest(scratch: &Scratch, pages: u32, effort: Effort) -> io::Result<[Way; 3]> {
     let made = Made::new(scratch, pages)?;
-    let ways = [made.into_images(effort), made.out_of_images(effort)];
+    let [holes, dense] = ["--sparse=auto", "--sparse=never"].map(|sparse| made.into_images(sparse, effort));
+    let ways = [holes, dense, made.out_of_images(effort)];
     fs::remove_dir_all(&made.folder)?;
     Ok(ways)
 }

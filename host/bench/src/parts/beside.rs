@@ -12,8 +12,8 @@ const NOTE: &str =
     "`e2fsck -fn` is a whole process on an ext2 image of 2,048-byte blocks (a page is 2,048 bytes, so both have the same data \
     blocks), with the same number of files and bytes. Beside it, in the same rounds: the check in memory; a process that reads the whole \
     image file, swaps its bytes to this machine's order and checks it; and a process that maps an image file in this machine's order and \
-    checks it; and the command `nord check` on an image file, which reads it whole and swaps its bytes in one pass, by all cores. \
-    All files are in the page cache.";
+    checks it; and the command `nord check` on an image file, which reads what the check touches of it, and the whole by all cores after many \
+    touches. All files are in the page cache.";
 
 pub fn measure(run: &mut Run, volumes: &[Volume]) -> io::Result<()> {
     if version().is_none() {
