@@ -210,7 +210,8 @@ const FILES: &str = r#".SH FILES
 The new image is written to
 .I .IMAGE.nord\-PROCESS
 in the image's folder, synced, and renamed over the image; then the folder is synced. Owner and permissions are kept. What a killed run has left
-is removed by the next one that changes the image. The image is locked (flock) while a command changes it; a second one waits.
+is removed by the next one that changes the image. The image is locked (flock) while a command changes it; a second one waits. Long parts of zeros
+become holes: the file has its whole length, and takes no room on the disk where there are only zeros.
 .PP
 There is no command that renames a file or copies one within an image: no call of the library changes a name or copies pages. A file is copied by
 .B nord read

@@ -55,6 +55,8 @@ struct Group {
 pub enum Each {
     /// There is one.
     Only,
+    /// There is one, for so many pages as the user has typed them.
+    Of(String),
     /// Each is for a page more or less: "page 3 of 8 to grow by".
     PageOf(String),
     /// Each is for a position of a file.

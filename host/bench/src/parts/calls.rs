@@ -49,16 +49,10 @@ pub fn of_call(run: &mut Run, table: &mut Table, volume: &Volume, call: Call) {
 }
 
 fn judge(run: &mut Run, volume: &Volume, call: Call, ratio: Spread, over: Spread) {
+    let mut beside_second = |goal| run.goals.at_most(goal, &volume.name, ratio.median, 1.0, ratio.to_string());
     match call {
-        Call::Check => {
-            run.goals.at_most(
-                "check, time over second program's",
-                &volume.name,
-                ratio.median,
-                1.0,
-                ratio.to_string(),
-            );
-        }
+        Call::Check => beside_second("check, time over second program's"),
+        Call::WhoHolds => beside_second("who holds, time over second program's"),
         Call::Address | Call::FindUser | Call::FindFile => {
             let told = format!("{over}, {}", call.name());
             run.goals.at_most(

@@ -46,7 +46,6 @@ struct Shrunk {
 }
 
 fn create(plan: &mut Plan, file: &FileName, contiguous: Option<Number>, created: u32) -> Planned {
-    let contiguous = contiguous.map(|count| count.value);
     let Some((user, index)) = make(plan, file, contiguous, created)? else {
         return Ok(None);
     };
@@ -56,22 +55,23 @@ fn create(plan: &mut Plan, file: &FileName, contiguous: Option<Number>, created:
 }
 
 /// The call that creates an empty indexed file, or a contiguous one of so many pages, and the file's indexes.
-pub fn make(plan: &mut Plan, file: &FileName, contiguous: Option<u32>, created: u32) -> Result<Option<Place>, Failure> {
+pub fn make(plan: &mut Plan, file: &FileName, contiguous: Option<Number>, created: u32) -> Result<Option<Place>, Failure> {
     let Within::Name(name, kind) = &file.file else {
         return Err(Failure::Usage("a new file is named by its name, not by an index".to_string()));
     };
     let Some(user) = plan.user(&file.user) else { return Ok(None) };
-    let (number, call) = match contiguous {
-        None => (call::CREATE_INDEXED, Call::CreateIndexed),
-        Some(_) => (call::CREATE_CONTIGUOUS, Call::CreateContiguous),
+    let pages = contiguous.as_ref().map(|count| count.value);
+    let (number, call, each) = match contiguous {
+        None => (call::CREATE_INDEXED, Call::CreateIndexed, Each::Only),
+        Some(count) => (call::CREATE_CONTIGUOUS, Call::CreateContiguous, Each::Of(count.pages())),
     };
     let step = Step {
         created,
-        count: contiguous.unwrap_or(0),
+        count: pages.unwrap_or(0),
         ..plan.typed(number, user, name, kind)
     };
-    let index = plan.forecast.add_file(user, name, kind, contiguous);
-    plan.call(call, file, index, step);
+    let index = plan.forecast.add_file(user, name, kind, pages);
+    plan.calls(call, file, each, index, 1, |_| step);
     Ok(index.map(|index| (user, index)))
 }
 

@@ -161,7 +161,7 @@ fn yard(list: &mut Plan) -> Planned {
         created: 0,
     };
     transfer::put(list, &reads, &bytes, &creation)?;
-    files::make(list, &lambs, Some(10), 0)?;
+    files::make(list, &lambs, Some(10.into()), 0)?;
     Ok(told)
 }
 

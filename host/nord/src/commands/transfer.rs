@@ -112,7 +112,7 @@ pub fn put(list: &mut Plan, file: &FileName, bytes: &[u8], creation: &Creation) 
     let pages = (bytes.len() / store::PAGE) as u32;
     let created = creation.contiguous || is_new(list, file);
     let place = match created {
-        true => files::make(list, file, creation.contiguous.then_some(pages), creation.created)?,
+        true => files::make(list, file, creation.contiguous.then_some(pages.into()), creation.created)?,
         false => list.file(file),
     };
     let Some(place) = place else { return Ok(None) };

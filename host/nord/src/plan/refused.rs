@@ -25,6 +25,7 @@ pub fn refusal(plan: &Plan, number: usize, reply: Reply, image: &[u16]) -> Refus
     };
     match &group.each {
         Each::PageOf(of) => refusal.with(format!("page {} of {of}", nth + 1)),
+        Each::Of(pages) if reply.number == 2 => refusal.with(format!("{pages} asked for")),
         _ => refusal,
     }
 }

@@ -62,6 +62,18 @@ fn number_2_for_arguments() {
     ] {
         assert!(fails(&image, line, 2).contains("refused (2): an argument is wrong ("), "{line}");
     }
+    // A count is told as it was typed, however large it is.
+    for (line, told) in [
+        ("user give IMAGE DOCK 4294967297", ": 4294967297 for DOCK\n"),
+        (
+            "file create IMAGE DOCK/BIG --contiguous 4294967297",
+            ": DOCK/BIG: (4294967297 pages asked for)\n",
+        ),
+        ("who IMAGE 4294967300", ": page 4294967300 of 154\n"),
+    ] {
+        let said = fails(&image, line, 2);
+        assert!(said.ends_with(told), "{said}");
+    }
     assert!(fails(&image, "find IMAGE dock", 2).ends_with("dock (names are in capitals)\n"));
     let said = fails(&image, "format IMAGE YARD --bit-page 154", 2);
     assert!(
