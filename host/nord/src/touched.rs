@@ -4,7 +4,7 @@
 //! changes under the check. Touches in a row bring more and more at once, and after many of them the rest comes, by all cores.
 
 use crate::chunks;
-use libc::{c_int, c_void, sigaction, siginfo_t};
+use libc::{c_int, c_void, sigaction, siginfo_t, sigset_t};
 use memmap2::{Advice, MmapMut};
 use std::cell::{Cell, RefCell};
 use std::fs::File;
@@ -170,14 +170,18 @@ impl Words<'_> {
 
 const OPEN: c_int = libc::PROT_READ | libc::PROT_WRITE;
 
-/// Takes over the signal and gives what it did before.
+/// Takes over the signal, lets it come where who has started us holds it back, and gives what it did before.
 fn hear() -> Option<sigaction> {
     // All fields are numbers, sets of numbers or no function.
-    let (mut action, mut before): (sigaction, sigaction) = unsafe { (mem::zeroed(), mem::zeroed()) };
+    let (mut action, mut before, mut signals): (sigaction, sigaction, sigset_t) = unsafe { mem::zeroed() };
     action.sa_sigaction = touched as *const () as usize;
     action.sa_flags = libc::SA_SIGINFO;
-    let done = unsafe { libc::sigaction(libc::SIGSEGV, &action, &mut before) };
-    (done == 0).then_some(before)
+    let done = unsafe {
+        libc::sigaddset(&mut signals, libc::SIGSEGV);
+        libc::sigaction(libc::SIGSEGV, &action, &mut before) == 0
+            && libc::pthread_sigmask(libc::SIG_UNBLOCK, &signals, ptr::null_mut()) == 0
+    };
+    done.then_some(before)
 }
 
 /// Some memory was touched that is closed. Where it is that of the words, this runs in the midst of reading one of them and of nothing else, so it

@@ -4,6 +4,7 @@ use crate::common::{disk, done, noise, run, Folder, Run, NORD};
 use crate::traced;
 use std::fs::{self, File};
 use std::os::unix::fs::{FileExt, MetadataExt};
+use std::os::unix::process::CommandExt;
 use std::path::{Path, PathBuf};
 use std::process::Command;
 
@@ -64,6 +65,31 @@ fn a_file_is_checked_as_a_pipe_is() {
     }
     assert!(sound > 10 && unsound > 10, "{sound} sound, {unsound} unsound");
     assert!(done(&image, "check IMAGE").starts_with("sound: "));
+}
+
+/// Who starts the command may hold back or ignore the signal by which the system tells of a touch.
+#[test]
+fn the_signal_is_heard_whoever_starts_the_command() {
+    let (_folder, image) = volume();
+    let held_back = || unsafe {
+        let mut signals = std::mem::zeroed();
+        libc::sigaddset(&mut signals, libc::SIGSEGV);
+        libc::pthread_sigmask(libc::SIG_BLOCK, &signals, std::ptr::null_mut())
+    };
+    let ignored = || unsafe { libc::signal(libc::SIGSEGV, libc::SIG_IGN) as i32 };
+    for hide in [held_back as fn() -> i32, ignored] {
+        let mut command = Command::new(NORD);
+        command.arg("check").arg(&image);
+        // Nothing is done there but a call of the system.
+        unsafe {
+            command.pre_exec(move || {
+                hide();
+                Ok(())
+            })
+        };
+        let run = Run::of(command.output().unwrap());
+        assert_eq!((run.status, run.err.as_str()), (0, ""));
+    }
 }
 
 /// All that a check reads of a volume with one large file are its blocks and entries.
