@@ -53,7 +53,12 @@ fn a_quick_run_prints_every_table() {
         "{nord}: four volumes and two packs"
     );
     let files = goals("200 files, time over mcopy's and sync's");
-    assert!(files == 2 || text.contains("Left out: mcopy"), "{files}: in and out");
+    assert!(
+        files == 3 || text.contains("Left out: mcopy"),
+        "{files}: in, with holes and without, and out"
+    );
+    let held = goals("who holds, time over second program's");
+    assert_eq!(held, 6, "four volumes and two packs");
     let beside = goals("salvage, process over e2fsck's that mends");
     assert!(
         matches!(beside, 4 | 8) || text.contains("Left out: e2fsck"),
