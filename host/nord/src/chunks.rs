@@ -225,12 +225,12 @@ fn in_parts<T: Send>(parts: impl Iterator<Item = T>, work: impl Fn(usize, T) -> 
 }
 
 #[cfg(test)]
-mod tests {
+pub mod tests {
     use super::*;
 
-    /// A file of so many words by the number of each, which has no name.
-    fn file(words: &[u16]) -> File {
-        let path = std::env::temp_dir().join(format!("nord-chunks-{}-{}", std::process::id(), words.len()));
+    /// A file of these words that has no name.
+    pub fn file(words: &[u16]) -> File {
+        let path = std::env::temp_dir().join(format!("nord-words-{}-{:?}", std::process::id(), thread::current().id()));
         let file = File::options().read(true).write(true).create_new(true).open(&path).unwrap();
         std::fs::remove_file(path).unwrap();
         file.set_len(place(words.len())).unwrap();
@@ -238,7 +238,8 @@ mod tests {
         file
     }
 
-    fn numbers(count: usize) -> Vec<u16> {
+    /// So many words, each by its number.
+    pub fn numbers(count: usize) -> Vec<u16> {
         (0..count).map(|number| (number ^ (number >> 16)) as u16).collect()
     }
 

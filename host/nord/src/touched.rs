@@ -199,22 +199,10 @@ extern "C" fn touched(signal: c_int, info: *mut siginfo_t, _: *mut c_void) {
 #[cfg(test)]
 mod tests {
     use super::*;
+    use crate::chunks::tests::{file, numbers};
     use crate::store;
     use std::hint::black_box;
     use std::os::unix::fs::FileExt;
-
-    /// A file of these words that has no name.
-    fn file(words: &[u16]) -> File {
-        let path = std::env::temp_dir().join(format!("nord-touched-{}-{:?}", std::process::id(), std::thread::current().id()));
-        std::fs::write(&path, store::bytes(words)).unwrap();
-        let file = File::options().read(true).write(true).open(&path).unwrap();
-        std::fs::remove_file(path).unwrap();
-        file
-    }
-
-    fn numbers(count: usize) -> Vec<u16> {
-        (0..count).map(|number| (number ^ (number >> 16)) as u16).collect()
-    }
 
     /// The parts of the words that this thread looks at, and how many of them were read.
     fn parts() -> (usize, usize) {

@@ -6,7 +6,7 @@ use crate::answers::{Call, Refusal};
 use crate::args::Ending;
 use crate::convert::InTheWay;
 use crate::names;
-use proved::{Reply, Step};
+use proved::{Reply, Step, MOST_PAGES};
 
 /// The refusal of the call of this number, on the image that the calls before have left.
 pub fn refusal(plan: &Plan, number: usize, reply: Reply, image: &[u16]) -> Refusal {
@@ -25,9 +25,14 @@ pub fn refusal(plan: &Plan, number: usize, reply: Reply, image: &[u16]) -> Refus
     };
     match &group.each {
         Each::PageOf(of) => refusal.with(format!("page {} of {of}", nth + 1)),
-        Each::Of(pages) if reply.number == 2 => refusal.with(format!("{pages} asked for")),
+        Each::Of(pages) if reply.number == 2 && !is_count(step.count) => refusal.with(format!("{pages} asked for")),
         _ => refusal,
     }
+}
+
+/// Whether a file may have so many pages; else the count is what is wrong.
+fn is_count(pages: u32) -> bool {
+    (1..=MOST_PAGES as u32).contains(&pages)
 }
 
 /// The reason and the subject.
