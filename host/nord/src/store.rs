@@ -6,7 +6,7 @@ use crate::image::{Image, LARGE};
 use crate::replace::Fresh;
 use crate::{chunks, lock, pause, replace, touched};
 use proved::Reply;
-use std::fs::{self, File};
+use std::fs::{self, File, Metadata};
 use std::io::{self, Read};
 use std::os::unix::fs::MetadataExt;
 use std::path::Path;
@@ -59,13 +59,14 @@ pub fn read(path: &Path) -> Result<Image, Failure> {
     }
 }
 
-/// What the proved check says of a large image file, of which no more is read than it touches. Nothing of a pipe, which is read to its end, nor of
-/// a small file, which is soon read.
+/// What the proved check says of a large image file, of which no more is read than it touches. Nothing of a small file, which is soon read, nor of a
+/// pipe, which is read to its end: that can be opened only once, and is not opened here.
 pub fn check(path: &Path) -> Result<Option<Checked>, Failure> {
-    let Source::Plain(file) = open(path)? else { return Ok(None) };
-    if file.metadata().map_err(of_file(path))?.len() < 2 * LARGE as u64 {
+    let is_large = |file: Metadata| file.is_file() && file.len() >= 2 * LARGE as u64;
+    if path == Path::new(STANDARD) || !fs::metadata(path).is_ok_and(is_large) {
         return Ok(None);
     }
+    let file = File::open(path).map_err(of_file(path))?;
     let checked = undisturbed(&file, path, |file, words| {
         let reply = touched::look(file, words, proved::check)?;
         Ok(Checked { reply, words })

@@ -1,6 +1,7 @@
 //! An image that comes by a pipe: the commands that ask read it to its end, and those that change want a file.
 
 use crate::common::{disk, done, fails, run, sample, words, Run, NORD};
+use crate::traced;
 use std::fs::{self, File};
 use std::path::Path;
 use std::process::{Command, Stdio};
@@ -101,6 +102,23 @@ fn pipes_at_a_path_are_read_to_their_end() {
     let script = format!("{NORD} check <(cat {image}); mkfifo {fifo}; cat {image} >{fifo} & {NORD} check {fifo}");
     let run = Run::of(Command::new("bash").args(["-c", &script]).output().unwrap());
     assert_eq!(run.text(), "sound: 20 of 154 pages are held\n".repeat(2), "{}", run.err);
+}
+
+/// What a writer has begun to bring is lost with the first reader, and a second one would wait for ever.
+#[test]
+fn a_pipe_at_a_path_is_opened_once() {
+    let (folder, image) = sample();
+    let fifo = folder.path("fifo");
+    let made = format!("mkfifo {}; exec cat {} >{}", fifo.display(), image.display(), fifo.display());
+    let mut writer = Command::new("sh").args(["-c", &made]).spawn().unwrap();
+    while !fifo.exists() {
+        std::thread::yield_now();
+    }
+    let calls = traced::calls(&folder, &format!("check {}", fifo.display()));
+    let _ = writer.kill();
+    writer.wait().unwrap();
+    let opened = calls.iter().filter(|call| call.starts_with("openat(") && call.contains("/fifo\""));
+    assert!(calls.is_empty() || opened.count() == 1, "{calls:#?}");
 }
 
 #[test]
