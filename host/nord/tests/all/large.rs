@@ -104,7 +104,9 @@ fn a_check_reads_what_it_touches() {
     }
     let reads = calls.iter().filter(|call| call.starts_with("pread64("));
     let bytes: u64 = reads.map(|call| call.rsplit("= ").next().unwrap().parse::<u64>().unwrap()).sum();
-    assert!((100_000..1_000_000).contains(&bytes), "{bytes} bytes read of {}", 16384 * 2048);
+    // How much a touch brings is up to the machine's pages, of 4 KiB or 64.
+    let all = 16384 * 2048;
+    assert!((100_000..all / 4).contains(&bytes), "{bytes} bytes read of {all}");
 }
 
 /// An empty volume takes hardly a block on the disk, after each change too; what is not a zero is there.
