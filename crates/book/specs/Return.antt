@@ -66,6 +66,9 @@ own-plain NoRun h = (refl, λ e. omega (arith, e))
 own-plain Fill h = (refl, λ e. omega (arith, e))
 own-plain Overdrawn h = (refl, λ e. omega (arith, e))
 own-plain ShortList h = (refl, λ e. omega (arith, e))
+own-plain Size h = elim h [ ]
+own-plain Argument h = elim h [ ]
+own-plain (Unsound _) h = elim h [ ]
 
 module _ {A : Type 0} (img : List ℕ) (args : Type 0) (rest : Rows) (none : A) (gives : A → Type 0) (after : Vol) where
   abbrev C : Call A

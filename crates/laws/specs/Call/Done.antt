@@ -27,6 +27,7 @@ pub asks_none : (t : Rows) (n : ℕ) → Asks t n → Applies t n → ⊥
 unfolding Asks Applies
 asks_none (row k A t) n a (inl x) = x.1 (a.0 x.0)
 asks_none (row k A t) n a (inr x) = asks_none t n a.1 x
+asks_none end n a x'' = elim x'' [ ]
 
 module _ {A : Type 0} (C : Call A) (img : List ℕ) (r : Numbers A) (img' : List ℕ) (o : Outcome C img r img') (n : ℕ) (some : 0 < n) where
   -- a refusal has number n exactly if n is the lowest that applies

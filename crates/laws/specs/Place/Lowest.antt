@@ -19,6 +19,7 @@ past-none : (t : Rows) (n : ℕ) → Lowest t n → Past t n → ⊥
 unfolding Lowest Past
 past-none (row k A t) n (inl e) p = omega (arith, e.0, p.0)
 past-none (row k A t) n (inr q) p = past-none t n q.1 p.1
+past-none end n x'' p = elim x'' [ ]
 
 -- a row before the number holds, and so on from the next
 over : (k n : ℕ) (A : Type 0) (t : Rows) → Lowest (row k A t) n → k < n → A × Lowest t n
