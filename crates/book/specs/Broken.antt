@@ -1,5 +1,5 @@
 -- What refusal 3 tells, and that it is one thing. Assumes nothing.
-use Rattle.std.specs.Prelude.{◌≡◌, refl, Bool, true, ℕ}
+use Rattle.std.specs.Prelude.{◌≡◌, Bool, true, ℕ}
 use Rattle.std.proofs.Common.{sym, ap, ◌∙◌, subst}
 use Rattle.std.proofs.Math.Decide.{ℕ_discrete}
 use Rattle.book.specs.Words.{Vol}

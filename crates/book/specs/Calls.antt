@@ -1,5 +1,5 @@
 -- The twenty-one calls: for each number that it can be refused with, what that number asks for. Assumes nothing.
-use Rattle.std.specs.Prelude.{◌≡◌, true, false, List, [], ◌++◌, ℕ, ◌-◌, ◌*◌, ◌≤◌, ◌<◌, length, take, drop}
+use Rattle.std.specs.Prelude.{◌≡◌, true, false, List, [], ◌++◌, ℕ, ◌*◌, ◌≤◌, ◌<◌, length, take, drop}
 use Rattle.book.specs.Words.{Vol, vol}
 use Rattle.book.specs.Pointers.{flags}
 use Rattle.book.specs.Trees.{page_at}

@@ -4,7 +4,6 @@ use Rattle.std.proofs.Common.{subst, arith}
 use Rattle.book.specs.Decides.{Decides}
 use Rattle.book.specs.Image.{Ready}
 use Rattle.book.specs.Gate.{Shuts, Gated}
-use Rattle.book.specs.declared.Refusal.{Refusal}
 use Rattle.book.specs.declared.Refusal.TheVariants.{Size, Argument, Unsound, Missing, Taken, Kind, HasFiles, Full, Allowance, Unreserved, NoRun, Fill, Overdrawn, ShortList}
 use Rattle.book.specs.declared.Gate.{Gate}
 use Rattle.book.specs.declared.Gate.TheVariants.{Shut, Open}

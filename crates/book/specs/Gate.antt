@@ -1,5 +1,5 @@
 -- What check says, and numbers 1 to 3, which every call but format asks alike. Assumes nothing.
-use Rattle.std.specs.Prelude.{◌≡◌, Bool, true, false, List, ℕ}
+use Rattle.std.specs.Prelude.{◌≡◌, Bool, true, List, ℕ}
 use Rattle.book.specs.Words.{Vol, vol}
 use Rattle.book.specs.Holders.{visits}
 use Rattle.book.specs.Rows.{Lowest}

@@ -4,13 +4,13 @@ use Rattle.sums.specs.Sum.{sum}
 use Rattle.book.specs.Words.{Vol}
 use Rattle.book.specs.Pointers.{flags, page, slot, Zero, Inside, plain, indexed, subindexed, bit_pointer, user_pointer, object_pointer, volume_name, unreserved_count}
 use Rattle.book.specs.Bits.{bit, bit_pages, bit_page, bit_word}
-use Rattle.book.specs.Entries.{Table, entry_word, user, object, user_page, object_page, used, given, used_pages, grant, page_count, file_pointer, file_entry, unreserved}
+use Rattle.book.specs.Entries.{Table, entry_word, user, object, user_page, object_page, used, used_pages, grant, page_count, file_pointer, file_entry, unreserved}
 use Rattle.book.specs.Names.{LegalName, LegalType, SameName, SameFile}
 use Rattle.book.specs.Files.{Empty, Contiguous, BytesRight}
 use Rattle.book.specs.Holders.{mine, holders, some, system_pages}
 use Rattle.book.specs.Rules.{Asked, UsedWithin}
 use Rattle.book.specs.declared.Place.{Place}
-use Rattle.book.specs.Spots.{at, Spots, none, spot, ◌then◌, each, when, Chapters, last, chapter, nth}
+use Rattle.book.specs.Spots.{at, Spots, none, spot, ◌then◌, each, when, last, chapter, nth}
 
 -- word k of the master page, of user u's entry, of object entry e
 abbrev pub in_master : ℕ → Place

@@ -1,5 +1,5 @@
 -- Pointers: two words, with the flags S and I in the highest two bits. Assumes nothing.
-use Rattle.std.specs.Prelude.{◌≡◌, ℕ, zero, suc, ◌+◌, ◌*◌, ◌/◌, ◌%◌, ◌<◌}
+use Rattle.std.specs.Prelude.{◌≡◌, ℕ, suc, ◌+◌, ◌*◌, ◌/◌, ◌%◌, ◌<◌}
 use Rattle.book.specs.Words.{Words, Vol, two, word, put2}
 
 -- the flags stand above the fourteen lower bits of the first word

@@ -1,4 +1,5 @@
 // The answers of the calls, and who can hold a page. specs/ says which numbers of document 01 each case stands for.
+#![tactic(auto)]
 
 // Which page of a file a page is. A position counts the index blocks, or the data pages, from 0.
 #[derive(Drop)]

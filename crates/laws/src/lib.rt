@@ -1,1 +1,3 @@
+#![tactic(auto)]
+
 // What follows from the book alone: theorems, in specs/. There is no code here.

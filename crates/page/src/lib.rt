@@ -1,4 +1,6 @@
 // The words of one page of an image: numbers, pointers, entries and names in it. Contracts speak of the volume, `vol (now img)`.
+#![tactic(auto)]
+
 pub mod entry;
 pub mod names;
 pub mod read;

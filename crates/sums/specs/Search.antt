@@ -2,7 +2,6 @@
 use Rattle.std.specs.Prelude.{◌≡◌, refl, ℕ, zero, suc, ◌-◌, ◌≤◌, ◌<◌}
 use Rattle.std.proofs.Common.{sym, ap, ◌∙◌, zero-le, not-suc-le-zero, eq-zero-or-pos, le_of_suc-le-suc, inl, inr, arith}
 use Rattle.std.proofs.Math.Decide.{ℕ_discrete}
-use Rattle.sums.specs.Sum.{is}
 
 -- the first if n is not 0, else the second
 unfoldable pub pick : {A : Type 0} → ℕ → A → A → A

@@ -1,15 +1,14 @@
 -- One bit is set or cleared; a page in hand is given back. Assumes nothing.
-use Rattle.std.specs.Prelude.{◌≡◌, ◌≢◌, ℕ, ◌+◌, ◌-◌, ◌/◌, ◌%◌, ◌<◌}
+use Rattle.std.specs.Prelude.{◌≡◌, ◌≢◌, ℕ, ◌+◌, ◌/◌, ◌%◌, ◌<◌}
 use Rattle.std.proofs.Common.{sym, ◌∙◌, arith}
 use Rattle.std.proofs.Math.Path.{ap, ap₂, subst}
 use Rattle.std.proofs.Math.Decide.{ℕ_discrete}
 use Rattle.sums.specs.Sum.{is}
 use Rattle.book.specs.Bits.{bit_file, bit_page, bit, digit, mark, bit_word, page_bits}
 use Rattle.book.specs.Holders.{hit, all}
-use Rattle.book.specs.Pointers.{page}
 use Rattle.book.specs.Rules.{Rule1}
 use Rattle.book.specs.Trees.{Root, page_at}
-use Rattle.book.specs.Words.{Vol, two, word}
+use Rattle.book.specs.Words.{Vol, word}
 use Rattle.book.specs.Written.{digit-same, digit-other, word-pos, word-ext, put-here, put-page, put_word}
 use Rattle.laws.specs.Bits.Claim.{bit_page-is, bit_page-pos, bit_page-rest}
 use Rattle.laws.specs.Count.Good.{Good, bit_le}

@@ -9,7 +9,7 @@ use Rattle.book.specs.Bits.{bit_file}
 use Rattle.book.specs.Calls.{position_rows, write_call}
 use Rattle.book.specs.Entries.{Table, user_file, object_file, user, object, used, page_count, file_entry}
 use Rattle.book.specs.Files.{file_at}
-use Rattle.book.specs.Holders.{hit, all, mine}
+use Rattle.book.specs.Holders.{hit, mine}
 use Rattle.book.specs.Image.{pages}
 use Rattle.book.specs.Outcome.{Outcome}
 use Rattle.book.specs.Pointers.{volume_name}

@@ -6,7 +6,7 @@ use Prim.Native.Nat.{ℕ, zero, suc, ◌+◌, ◌*◌, ◌/◌, ◌%◌, ◌≤�
 use Rattle.std.proofs.Math.Decide.{ℕ_discrete}
 use native.Mathlib.Omega.{arith}
 use Rattle.std.proofs.Math.Arith.{lt-one}
-use Rattle.sums.specs.Sum.{sum, is, is_same, is-other, sum-none, sum-at, sum-at₂, sum-find}
+use Rattle.sums.specs.Sum.{sum, is_same, is-other, sum-none, sum-at, sum-at₂, sum-find}
 use Rattle.book.specs.declared.Role.{Role}
 use Rattle.book.specs.declared.Role.TheVariants.{Subindex, Index, Data}
 use Rattle.book.specs.declared.Holder.{Holder}

@@ -7,7 +7,7 @@ use Rattle.book.specs.Bits.{bit_file}
 use Rattle.book.specs.Entries.{user_file, object_file, object, used, page_count, file_pointer}
 use Rattle.book.specs.Files.{file_at}
 use Rattle.book.specs.Holders.{all, system, mine}
-use Rattle.book.specs.Trees.{Root, tree, run, weigh_r, root_at}
+use Rattle.book.specs.Trees.{Root, run, weigh_r, root_at}
 use Rattle.book.specs.Words.{Vol}
 use Rattle.laws.specs.Count.Sums.{sum-cat, sum_rows}
 use Rattle.laws.specs.Tree.Roles.{Shallow, shallow-by}

@@ -16,7 +16,7 @@ use Rattle.book.specs.Trees.{run, page_at}
 use Rattle.book.specs.Words.{Vol, Words, two}
 use Rattle.laws.specs.Bits.Choose.{Stock}
 use Rattle.laws.specs.Bits.Taking.{TakenWords, NoWords, Taking, taking-then}
-use Rattle.laws.specs.Count.Good.{Good, good, sound, free}
+use Rattle.laws.specs.Count.Good.{Good, sound, free}
 use Rattle.laws.specs.Create.FilePlace.{FilePlaceWords, FilePlaced, file-placed}
 use Rattle.laws.specs.Create.NewFile.{new-file-unused, Entered, new-file}
 use Rattle.laws.specs.Create.Vacant.{used-reached}

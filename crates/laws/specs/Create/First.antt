@@ -1,5 +1,5 @@
 -- The first user ever: the user index and the object index become pages of the volume. Assumes nothing.
-use Rattle.std.specs.Prelude.{◌≡◌, refl, ◌⊎◌, ℕ, suc, ◌+◌, ◌-◌, ◌*◌, ◌/◌, ◌%◌, ◌≤◌, ◌<◌}
+use Rattle.std.specs.Prelude.{◌≡◌, refl, ◌⊎◌, ℕ, suc, ◌+◌, ◌*◌, ◌/◌, ◌%◌, ◌≤◌, ◌<◌}
 use Rattle.std.proofs.Math.Path.{sym, ap, subst₂, fun_ext}
 use Rattle.std.proofs.Common.{◌∙◌, zero-le}
 use Rattle.std.proofs.Math.Logic.{inl, inr}

@@ -1,18 +1,16 @@
 -- Format leaves a sound volume, whatever was there, and changes the directory entry and the bit file alone. Assumes nothing.
-use Rattle.std.specs.Prelude.{◌≡◌, refl, ◌⊎◌, ℕ, ◌/◌, ◌<◌, length}
+use Rattle.std.specs.Prelude.{◌≡◌, ◌⊎◌, ℕ, ◌/◌}
 use Rattle.std.proofs.Common.{sym, ◌∙◌, inl, inr, arith}
 use Rattle.std.proofs.Math.Path.{ap, subst}
 use mathlib.Core.List.{List}
 use Rattle.book.specs.Pointers.{volume_name}
 use Rattle.book.specs.Words.{Vol, vol}
 use Rattle.book.specs.Bits.{bit_pages}
-use Rattle.book.specs.Names.{NameText}
 use Rattle.book.specs.Rows.{Lowest, Clear}
 use Rattle.book.specs.Rules.{Sound}
-use Rattle.book.specs.Image.{pages, Whole, BitArg}
+use Rattle.book.specs.Image.{pages, Whole}
 use Rattle.book.specs.Answers.{Numbers}
 use Rattle.book.specs.Outcome.{Outcome, RefusedAs, DoneAs, Single}
-use Rattle.book.specs.Format.{format}
 use Rattle.book.specs.Calls.{format_call}
 use Rattle.laws.specs.Format.Volume.{formatted-sound, format-only}
 use Rattle.laws.specs.Frame.Places.{WordsOf, RunOf, Either, OnlyAt}

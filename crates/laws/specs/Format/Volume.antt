@@ -13,7 +13,7 @@ use Rattle.book.specs.Names.{NameText, stored, packed}
 use Rattle.book.specs.Written.{digit-other, put-here, put-page, put_word, word-pos, put2-hi, put2-lo, put2-two, put2-word, put_words-here, wipe-here, wipe-page}
 use Rattle.sums.specs.Sum.{sum, is, is_same, is-other, sum-suc, sum-zero, sum-ext, sum-const}
 use Rattle.book.specs.Words.{Vol, two, put2, put_words, wipe}
-use Rattle.book.specs.Trees.{weigh_r, run}
+use Rattle.book.specs.Trees.{weigh_r}
 use Rattle.book.specs.Holders.{hit, some}
 use Rattle.book.specs.Image.{BitArg}
 use Rattle.book.specs.Rules.{Rule1, Sound}

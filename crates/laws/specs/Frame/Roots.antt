@@ -1,7 +1,7 @@
 -- The trees at roots: what a change of some pages leaves alone, where the pointers of the master page stay (Roots). Assumes nothing.
 use Rattle.std.specs.Prelude.{◌≡◌, ◌≢◌, ℕ, zero, suc, ◌+◌, ◌-◌, ◌*◌, ◌/◌, ◌%◌, ◌^◌, ◌≤◌, ◌<◌}
 use Rattle.std.proofs.Math.Path.{refl, sym, ap}
-use Rattle.std.proofs.Common.{ap₂, ◌∙◌, subst, zero-le, one-mul, zero-mul, not-suc-le-zero, arith}
+use Rattle.std.proofs.Common.{◌∙◌, subst, zero-le, one-mul, zero-mul, not-suc-le-zero, arith}
 use Rattle.std.proofs.Math.Decide.{dec_lt}
 use Rattle.sums.specs.Search.{pick}
 use Rattle.sums.specs.Sum.{sum, sum-ext, sum-at, sum-at₂, sum-change, sum-none, sum-add}

@@ -1,9 +1,9 @@
 -- A page with two first holders is held twice; the order of holders is total. Assumes nothing.
 use Rattle.std.specs.Prelude.{◌≡◌, refl, ◌⊎◌, ℕ, zero, suc, ◌≤◌, ◌<◌}
 use Rattle.std.proofs.Common.{sym, ap, ◌∙◌, subst, inl, inr, arith}
-use Rattle.std.proofs.Math.Decide.{dec_lt, ℕ_discrete}
+use Rattle.std.proofs.Math.Decide.{dec_lt}
 use Rattle.book.specs.Words.{Vol}
-use Rattle.book.specs.Holders.{holders, Holds}
+use Rattle.book.specs.Holders.{holders}
 use Rattle.book.specs.Answers.{HolderNumbers, holder_numbers}
 use Rattle.book.specs.declared.Role.{Role}
 use Rattle.book.specs.declared.Role.TheVariants.{Subindex, Index, Data}

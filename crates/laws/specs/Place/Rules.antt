@@ -1,20 +1,20 @@
 -- A rule holds exactly when all its places do; rule 7 stands by itself in Rule7. Assumes nothing.
-use Rattle.std.specs.Prelude.{◌≡◌, refl, Bool, ◌⊎◌}
-use Rattle.std.proofs.Common.{sym, ap, ◌∙◌, subst}
+use Rattle.std.specs.Prelude.{◌≡◌, Bool}
+use Rattle.std.proofs.Common.{sym, ap, ◌∙◌}
 use Rattle.std.proofs.Math.Logic.{inl, inr}
-use Prim.Native.Nat.{ℕ, zero, suc, ◌+◌, ◌*◌, ◌≤◌, ◌<◌}
+use Prim.Native.Nat.{ℕ, zero, suc, ◌<◌}
 use Rattle.std.proofs.Math.Decide.{dec_lt, ℕ_discrete}
 use native.Mathlib.Omega.{arith}
-use Rattle.book.specs.Words.{Vol, two, word}
+use Rattle.book.specs.Words.{Vol, two}
 use Rattle.book.specs.Pointers.{flags, page, slot, Zero, Inside, user_pointer, object_pointer}
 use Rattle.book.specs.Trees.{Below}
-use Rattle.book.specs.Entries.{Table, user, object, used, file_entry}
+use Rattle.book.specs.Entries.{user, object, used, file_entry}
 use Rattle.book.specs.Names.{stored, SameName, SameFile}
 use Rattle.book.specs.Rules.{Rule1, Rule2, Rule3, Rule4Over, Rule5, Rule5By, Rule6, Rule6Over, Rule8, Rule9, Rule10}
 use Rattle.laws.specs.Tree.Pointer.{zero-page, zero_flags}
 use Rattle.laws.specs.Tree.Slot.{slot-zero}
 use Rattle.laws.specs.File.Named.{SameFile-sym}
-use Rattle.book.specs.Spots.{Spots, AllHold, when-all, when-hold}
+use Rattle.book.specs.Spots.{AllHold, when-all, when-hold}
 use Rattle.book.specs.Places.{pointers, spots1, spots2, spots3, user_spots, spots4, spots5_by, spots5, object_spots, spots6, spots8, spots9, spots10}
 
 -- the slots of no block

@@ -1,7 +1,7 @@
 -- Where the pointers are good, user pages and bit pages are held by no other tree, and each user has a place of his own. Assumes nothing.
 use Rattle.std.specs.Prelude.{◌≡◌, refl}
 use Rattle.std.proofs.Common.{sym, subst, inl, inr, eq-zero-or-pos, arith}
-use Prim.Native.Nat.{ℕ, zero, suc, ◌+◌, ◌-◌, ◌*◌, ◌≤◌, ◌<◌}
+use Prim.Native.Nat.{ℕ, zero, suc, ◌+◌, ◌*◌, ◌≤◌, ◌<◌}
 use Rattle.std.proofs.Math.Decide.{ℕ_discrete}
 use Rattle.sums.specs.Sum.{sum, is-other, sum-none}
 use Rattle.book.specs.Bits.{bit_file, bit_page}

@@ -1,7 +1,7 @@
 -- Words, slots and hits: what is read of a page, what a weight of one page counts, volumes that agree off some pages. Assumes nothing.
 use Rattle.std.specs.Prelude.{◌≡◌, refl, ◌≢◌}
 use Rattle.std.proofs.Common.{sym, ap₂, ◌∙◌, subst, not-suc-le-zero, arith}
-use Prim.Native.Nat.{ℕ, zero, suc, ◌+◌, ◌-◌, ◌*◌, ◌≤◌, ◌<◌, zero-le}
+use Prim.Native.Nat.{ℕ, zero, suc, ◌+◌, ◌*◌, ◌≤◌, ◌<◌, zero-le}
 use Rattle.sums.specs.Sum.{sum, is_same, is-other, is_le, is_eq, sum-none, sum_is, is-sym}
 use Rattle.book.specs.Holders.{hit, some}
 use Rattle.book.specs.Pointers.{slot, set_slot}

@@ -1,9 +1,9 @@
 -- Give and take: the image stays sound, four words at most differ, and what stands beside the user's entry stays. Assumes nothing.
-use Rattle.std.specs.Prelude.{◌≡◌, ◌≢◌, List, ℕ, ◌≤◌, ◌<◌}
+use Rattle.std.specs.Prelude.{◌≡◌, ◌≢◌, List, ℕ, ◌<◌}
 use Rattle.std.proofs.Common.{ap, arith}
 use Rattle.book.specs.Answers.{Numbers}
 use Rattle.book.specs.Calls.{give_call, take_call}
-use Rattle.book.specs.Entries.{Table, user, object, user_page, unreserved, spare}
+use Rattle.book.specs.Entries.{Table, user, object, user_page, spare}
 use Rattle.book.specs.Files.{file_at}
 use Rattle.book.specs.Image.{pages}
 use Rattle.book.specs.Outcome.{Outcome}

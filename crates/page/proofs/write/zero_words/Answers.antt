@@ -1,0 +1,20 @@
+-- `page::write::zero_words` meets its contract. Assumes nothing.
+use mathlib.Core.Path.{refl}
+use native.Mathlib.Omega.{arith}
+use lib.ListN.{length-set}
+use borrow.Author.Count.{below_none}
+use Rattle.book.specs.Words.{zeros}
+use Rattle.page.proofs.Parts.{begins-more}
+use Rattle.page.proofs.write.zero_words.Goals as goal
+
+pub loop-i-init : goal.loop-i-init
+loop-i-init c = (omega arith, refl, below_none _)
+
+pub loop-i-preserved : goal.loop-i-preserved
+loop-i-preserved c = (omega arith, simp length-set c.loop-i.invariant.1, begins-more c.loop-i.i c.loop-i.part 0 zeros (omega arith) c.loop-i.invariant.2 refl)
+
+pub shape_of-part : goal.shape_of-part
+shape_of-part c = c.loop-i.invariant.1
+
+pub returns : goal.returns
+returns c k h = c.loop-i.invariant.2 k (omega arith)
