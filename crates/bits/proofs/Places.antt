@@ -27,20 +27,20 @@ module _ (P : ℕ) (v : Vol) (b : ℕ) (f : BitsAt P v b) where
       let e : 1 - (suc (bit_page_of p) - bit_pages P) ≡ 1 = omega arith in
       ap (λ (x : ℕ). x * (page (v 0) bit_pointer + bit_page_of p)) e ∙ omega (arith, f.at)
 
-  bit_word : (p : ℕ) → bit_word p ≡ p / 16 % 1024
-  bit_word p = omega arith
+  bit_word_lem : (p : ℕ) → bit_word p ≡ p / 16 % 1024
+  bit_word_lem p = omega arith
 
   word-there : (i : ℕ) → word v (b + i / 1024) (i % 1024) ≡ word_from v b i
   word-there i = word-pos v (b + i / 1024) (i % 1024) (omega (arith, f.some))
 
   pub bit_at : (p : ℕ) → p < P → bit P v p ≡ digit (p % 16) (word_from v b (p / 16))
   unfolding bit
-  bit_at p h = ap (digit (p % 16)) (ap₂ (word v) (bit-page p h) (bit_word p) ∙ word-there (p / 16))
+  bit_at p h = ap (digit (p % 16)) (ap₂ (word v) (bit-page p h) (bit_word_lem p) ∙ word-there (p / 16))
 
   pub mark-at : (p x : ℕ) → p < P → mark P v p x ≡ put v (b + p / 16 / 1024) (p / 16 % 1024) (to_digit (p % 16) (word_from v b (p / 16)) x)
   unfolding mark
   mark-at p x h =
-      ap₂ (λ (q k : ℕ). put v q k (to_digit (p % 16) (word v q k) x)) (bit-page p h) (bit_word p)
+      ap₂ (λ (q k : ℕ). put v q k (to_digit (p % 16) (word v q k) x)) (bit-page p h) (bit_word_lem p)
       ∙ ap (λ (w : ℕ). put v (b + p / 16 / 1024) (p / 16 % 1024) (to_digit (p % 16) w x)) (word-there (p / 16))
 
   -- bit n of word i

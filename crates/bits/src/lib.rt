@@ -1,4 +1,6 @@
 // The bit file, the run of pages from page b on, read as one part: page p is bit p % 16, from the right, of its word p / 16; 1 is reserved.
+#![tactic(auto)]
+
 pub mod marks;
 pub mod pair;
 pub mod run;
