@@ -1,6 +1,7 @@
 // The words of one page of an image: numbers, pointers, entries and names in it. Contracts speak of the volume, `vol (now img)`.
 #![tactic(auto)]
 
+// The words of one page of an image: numbers, pointers, entries and names in it. Contracts speak of the volume, `vol img.now`.
 pub mod entry;
 pub mod names;
 pub mod read;
