@@ -1,4 +1,6 @@
 // Rule 7, the shapes of files, and rule 10, the counts.
+#![tactic(auto)]
+
 pub mod block;
 pub mod counts;
 pub mod file;
