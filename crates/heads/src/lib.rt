@@ -1,4 +1,6 @@
 // Rules 1 to 6 of a sound image, each judged by a function of its own that may assume those it names.
+#![tactic(auto)]
+
 mod block;
 pub mod master;
 pub mod objects;

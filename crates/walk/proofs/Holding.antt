@@ -11,7 +11,7 @@ use Rattle.book.specs.Trees.{Root, run, weigh_r}
 use Rattle.book.specs.Bits.{bit_pages, bit_file}
 use Rattle.book.specs.Entries.{user_file, object_file}
 use Rattle.book.specs.Files.{file_at}
-use Rattle.book.specs.Holders.{hit, some, mine, system, all, holders}
+use Rattle.book.specs.Holders.{hit, mine, system, all, holders}
 use Rattle.book.specs.Image.{pages}
 use Rattle.laws.specs.Count.Good.{sys-count}
 use Rattle.laws.specs.Tree.Weigh.{BelowR}

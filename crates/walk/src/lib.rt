@@ -1,4 +1,6 @@
 // Marking: which pages are held, each counted as it is visited. A page that is met twice ends the walk.
+#![tactic(auto)]
+
 pub mod files;
 pub mod pages;
 pub mod roots;

@@ -1,0 +1,37 @@
+use Rattle.sums.specs.Sum.{sum}
+use Rattle.book.specs.Holders.{mine}
+use mathlib.Core.Path.{refl}
+use native.Mathlib.Omega.{arith}
+use Rattle.book.specs.Image.{pages}
+use Rattle.book.specs.Words.{vol}
+use Rattle.walk.specs.declared.Walk.TheVariants.{Met}
+use Rattle.walk.proofs.Walks.{marked-on, then-on, then-met, walking_on}
+use Rattle.walk.proofs.Holding.{system-counts, files-fit, objects-reach, first-mark, first-walking, held}
+use Rattle.walk.proofs.volume.mark_all.Goals as goal
+
+pub mark-requires : goal.mark-requires
+mark-requires c = omega (arith, c.requires.0.room, c.requires.1.whole.least)
+
+pub mark_system-requires : goal.mark_system-requires
+mark_system-requires c = let P = pages c.args.img.now in
+    (first-walking P c.args.marks.now c.requires.0 _ (first-mark P c.args.marks.now c.requires.0 _ c.mark.result c.mark.ensures) c.args.img.now refl c.requires.1, c.requires.1, c.requires.2, c.requires.3)
+
+pub mark_files-requires : goal.mark_files-requires
+mark_files-requires c = let P = pages c.args.img.now in
+    let d = first-mark P c.args.marks.now c.requires.0 _ c.mark.result c.mark.ensures in (
+      walking_on c.args.img.now _ 1 _ _ _ (first-walking P c.args.marks.now c.requires.0 _ d c.args.img.now refl c.requires.1) (system-counts c.args.img.now c.requires.1)
+          (marked-on P _ 1 _ c.mark_system.new.marks c.mark_system.result c.mark_system.ensures _ c.in-On.is),
+      objects-reach c.args.img.now c.requires.1,
+      files-fit c.args.img.now c.requires.1,
+      c.requires.3,
+    )
+
+pub returns-in-On : goal.returns-in-On
+returns-in-On c = let v = vol c.args.img.now in let P = pages c.args.img.now in
+    held P c.args.marks.now c.requires.0 _ (first-mark P c.args.marks.now c.requires.0 _ c.mark.result c.mark.ensures) v c.mark_files.new.marks c.mark_files.result
+    (then-on P _ 1 _ c.mark_system.new.marks c.mark_system.result c.mark_system.ensures _ c.in-On.is _ c.mark_files.new.marks c.mark_files.result c.mark_files.ensures)
+
+pub returns-in-Met : goal.returns-in-Met
+returns-in-Met c = let v = vol c.args.img.now in let P = pages c.args.img.now in
+    held P c.args.marks.now c.requires.0 _ (first-mark P c.args.marks.now c.requires.0 _ c.mark.result c.mark.ensures) v c.args.marks.now Met
+    (then-met P _ 1 _ c.mark_system.new.marks c.mark_system.result c.mark_system.ensures c.in-Met.is (λ g. sum 256 (λ u. mine v u g)) c.args.marks.now)
