@@ -2,7 +2,7 @@
 #![tactic(auto)]
 
 // Which page of a file a page is. A position counts the index blocks, or the data pages, from 0.
-#[derive(Drop)]
+#[derive(Clone, Copy)]
 pub enum Role {
     Subindex,
     Index { position: u32 },
@@ -10,7 +10,7 @@ pub enum Role {
 }
 
 // A page of a file: the file's user and number, and which of its pages.
-#[derive(Drop)]
+#[derive(Clone, Copy)]
 pub struct FileHolder {
     pub user: u16,
     pub file: u16,
@@ -18,7 +18,7 @@ pub struct FileHolder {
 }
 
 // Who holds a page.
-#[derive(Drop)]
+#[derive(Clone, Copy)]
 pub enum Holder {
     Free,
     Master,
@@ -32,7 +32,7 @@ pub enum Holder {
 }
 
 // A page, and a word of it.
-#[derive(Drop)]
+#[derive(Clone, Copy)]
 pub struct Place {
     pub page: u32,
     pub word: u32,
@@ -40,7 +40,7 @@ pub struct Place {
 
 // One changed word: word 0 to 1,023 of a page, its old and its new value.
 #[repr(C)]
-#[derive(Drop)]
+#[derive(Clone, Copy)]
 pub struct Change {
     pub page: u32,
     pub word: u32,
@@ -49,7 +49,7 @@ pub struct Change {
 }
 
 // What refusal 3 tells: the lowest broken rule, its first place, and with rule 8 the first two holders of that page.
-#[derive(Drop)]
+#[derive(Clone, Copy)]
 pub struct Break {
     pub rule: u32,
     pub place: Place,
@@ -58,14 +58,14 @@ pub struct Break {
 }
 
 // What the rules judged say of an image.
-#[derive(Drop)]
+#[derive(Clone, Copy)]
 pub enum Verdict {
     Sound { visits: u32 },
     Broken { rule: u32 },
 }
 
 // Why a call was refused, in the order of the numbers 1 to 14.
-#[derive(Drop)]
+#[derive(Clone, Copy)]
 pub enum Refusal {
     Size,
     Argument,
@@ -84,21 +84,21 @@ pub enum Refusal {
 }
 
 // The answer of every call but who-holds and read.
-#[derive(Drop)]
+#[derive(Clone, Copy)]
 pub enum Answer {
     Done { value: u32 },
     Refused { why: Refusal },
 }
 
 // The answer of who-holds.
-#[derive(Drop)]
+#[derive(Clone, Copy)]
 pub enum Holding {
     By { holder: Holder },
     Refused { why: Refusal },
 }
 
 // Numbers 1 to 3, which every call but format asks alike: refused, or open to the call's own numbers.
-#[derive(Drop)]
+#[derive(Clone, Copy)]
 pub enum Gate {
     Shut { why: Refusal },
     Open { visits: u32 },

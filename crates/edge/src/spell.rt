@@ -10,7 +10,7 @@ use sound::numbers::{HolderNumbers, broken_of, holder_of, number_of};
 
 // A page, and a word of it.
 #[repr(C)]
-#[derive(Drop)]
+#[derive(Clone, Copy)]
 pub struct Place {
     pub page: u32,
     pub word: u32,
@@ -18,7 +18,7 @@ pub struct Place {
 
 // The answer of every call but who-holds and read.
 #[repr(C)]
-#[derive(Drop)]
+#[derive(Clone, Copy)]
 pub struct Reply {
     pub number: u32,
     pub rule: u32,
@@ -30,7 +30,7 @@ pub struct Reply {
 
 // The answer of who-holds.
 #[repr(C)]
-#[derive(Drop)]
+#[derive(Clone, Copy)]
 pub struct HolderReply {
     pub number: u32,
     pub rule: u32,
@@ -42,7 +42,7 @@ pub struct HolderReply {
 
 // Words of the image: so many from that word on.
 #[repr(C)]
-#[derive(Drop)]
+#[derive(Clone, Copy)]
 pub struct Part {
     pub offset: usize,
     pub length: usize,

@@ -16,7 +16,7 @@ use tree::entry::{entry_flags, entry_page, entry_two};
 use tree::root::{object_page, user_page};
 
 // What a step knows of its file: the pages of the two entries, where the bit file begins, the flags and the page of the file's pointer, the file's pages and its owner's used pages.
-#[derive(Drop)]
+#[derive(Clone, Copy)]
 pub struct Head {
     pub owner: usize,
     pub entry: usize,

@@ -36,7 +36,7 @@ pub const POINTER: usize = 30;
 pub const PAGE_BYTES: u32 = 2048;
 
 // The page of an entry, counted in its file, and its first word there.
-#[derive(Drop)]
+#[derive(Clone, Copy)]
 pub struct EntryPlace {
     pub page: usize,
     pub word: usize,

@@ -17,7 +17,7 @@ pub mod users;
 use book::Place;
 
 // What looking through a row of places finds: the first that does not hold, or that all do.
-#[derive(Drop)]
+#[derive(Clone, Copy)]
 pub enum Fault {
     Nowhere,
     At { place: Place },

@@ -19,7 +19,7 @@ use shape::tally::{count_of, users_sum};
 use tree::root::user_page;
 
 // What the counts say: that a user holds more than he was given or the sum is below zero, or what is left as unreserved.
-#[derive(Drop)]
+#[derive(Clone, Copy)]
 pub enum Rest {
     Overdrawn,
     Left { pages: u32 },

@@ -10,7 +10,7 @@ pub mod positions;
 pub mod users;
 
 // What a search by name answers: an index, or that there is none.
-#[derive(Drop)]
+#[derive(Clone, Copy)]
 pub enum Found {
     At { index: u32 },
     Nothing,

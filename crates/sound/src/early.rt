@@ -4,7 +4,7 @@ ghost use Rattle.book.specs.Image.{Whole};
 ghost use Rattle.sound.specs.Late.{JudgedEarly};
 
 // What they say of an image: the lowest broken one, or where the object file ends.
-#[derive(Drop)]
+#[derive(Clone, Copy)]
 pub enum Said {
     Broken { rule: u32 },
     Kept { ends: usize },

@@ -63,7 +63,7 @@ pub fn broken_of(why: Refusal) -> Break
 
 // Who holds a page, in numbers.
 #[repr(C)]
-#[derive(Drop)]
+#[derive(Clone, Copy)]
 pub struct HolderNumbers {
     pub kind: u32,
     pub user: u32,

@@ -9,7 +9,7 @@ pub mod same;
 pub mod volume;
 
 // What a walk answers: the pages visited so far, or that it met a page that is marked already.
-#[derive(Drop)]
+#[derive(Clone, Copy)]
 pub enum Walk {
     On { visited: u32 },
     Met,

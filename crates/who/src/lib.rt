@@ -9,7 +9,7 @@ pub mod tell;
 use book::Holder;
 
 // The first two holders of a page.
-#[derive(Drop)]
+#[derive(Clone, Copy)]
 pub struct TwoHolders {
     pub first: Holder,
     pub second: Holder,
