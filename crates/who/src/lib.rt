@@ -1,5 +1,7 @@
 // The holders of a page in their order: kind, user, file, position. One search finds the first from a turn on: a page of a sound image has one
 // holder at most, and one that is held twice has a first and a second.
+#![tactic(auto)]
+
 pub mod blocks;
 pub mod files;
 pub mod kinds;
