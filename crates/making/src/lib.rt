@@ -1,4 +1,6 @@
 // Creating users and files on an image that is known to be sound: system pages in the order written, then the entry.
+#![tactic(auto)]
+
 pub mod entry;
 pub mod file;
 pub mod place;

@@ -2,7 +2,7 @@
 use Rattle.std.proofs.Common.{◌≡◌, ℕ, ◌+◌, ◌-◌, List, get_or, ap, ◌∙◌, ap₂}
 use Rattle.book.specs.Words.{Words, Vol, put, put2, put_words, zeros}
 use Rattle.book.specs.Trees.{page_at}
-use Rattle.book.specs.Entries.{user, object, given, unreserved, user_page, object_page, entry_word, one_more}
+use Rattle.book.specs.Entries.{user, given, unreserved, user_page, object_page, entry_word, one_more}
 use Rattle.book.specs.Files.{file_at}
 use Rattle.book.specs.Steps.{moved, give_step, take_step, write_step, open_step}
 use Rattle.book.specs.Delete.{delete_user}
