@@ -3,11 +3,11 @@ use mathlib.Core.Path.{◌≡◌, sym, ap, ◌∙◌, subst, subst₂}
 use mathlib.Core.Logic.{◌⊎◌, inl, inr}
 use mathlib.Core.Bool.{Bool}
 use mathlib.Core.List.{List}
-use Prim.Native.Nat.{ℕ, zero, suc, ◌+◌, ◌-◌, ◌*◌, ◌≤◌, ◌<◌}
+use Prim.Native.Nat.{ℕ, zero, suc, ◌+◌, ◌≤◌, ◌<◌}
 use native.Mathlib.Omega.{arith}
 use Rattle.book.specs.Words.{Words, Vol, vol, two}
 use Rattle.book.specs.Pointers.{flags, page, slot}
-use Rattle.book.specs.Entries.{object, object_page, entry_word, page_count, file_pointer}
+use Rattle.book.specs.Entries.{object, entry_word, page_count, file_pointer}
 use Rattle.book.specs.Files.{Empty, Contiguous, BytesRight, bytes_of}
 use Rattle.book.specs.Image.{pages}
 use Rattle.book.specs.Decides.{Decides}
@@ -16,7 +16,7 @@ use Rattle.tree.proofs.Entries.{object-in}
 use Rattle.book.specs.declared.Place.{Place}
 use Rattle.places.specs.declared.Fault.{Fault}
 use Rattle.places.specs.declared.Fault.TheVariants.{Nowhere, At}
-use Rattle.book.specs.Spots.{Spots, ◌then◌, at, AllHold, First}
+use Rattle.book.specs.Spots.{Spots, spot, ◌then◌, at, AllHold, First}
 use Rattle.book.specs.Places.{in_object, Must, pointers, PointerRight, block_spots, file_spots}
 use Rattle.places.specs.Found.{Finds, ObjectAt}
 
@@ -136,5 +136,7 @@ module _ (img : List ℕ) (total q e : ℕ) (d : ObjectAt img total q e) (x t n 
   pub file-found : b ≡ bytes_of n → PointerRight total x t n → (r : Fault) → Finds (block_spots (pages img) v x t n) r → Finds S r
   unfolding AllHold file_spots
   file-found i k r f =
-      then_found _ _ r (bytes-right i) (then_found _ _ r (pointer-there k)
+      let pointed = spot (in_object v e file_pointer) (PointerRight (pages img) (flags w 30) (page w 30) (two w 26)) in
+      let blocks = block_spots (pages img) v (flags w 30) (page w 30) (two w 26) in
+      then_found (spot (in_object v e 28) (BytesRight w)) (pointed then blocks) r (bytes-right i) (then_found pointed blocks r (pointer-there k)
       (subst (λ (m : ℕ). Finds (block_spots (pages img) v (flags w 30) (page w 30) m) r) gn (subst₂ (λ (y z : ℕ). Finds (block_spots (pages img) v y z n) r) gx gt f)))

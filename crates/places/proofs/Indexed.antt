@@ -7,7 +7,7 @@ use Rattle.book.specs.Words.{Vol}
 use Rattle.book.specs.Pointers.{flags, page, slot, object_pointer}
 use Rattle.book.specs.Entries.{user}
 use Rattle.book.specs.declared.Place.{Place}
-use Rattle.book.specs.Spots.{each, AllHold, First}
+use Rattle.book.specs.Spots.{spot, each, AllHold, First}
 use Rattle.book.specs.Places.{in_master, May, pointers, spots5_by, spots5}
 use Rattle.heads.specs.Span.{Span}
 use Rattle.heads.specs.Fine.{Unused}
@@ -24,7 +24,7 @@ module _ (P : ℕ) (v : Vol) (t : ℕ) where
 
   pub index-found : (r : Fault) → Span (Unused (user v)) 64 256 → Finds (pointers v t (May P 512)) r → Finds (spots5_by P v 1 t) r
   unfolding AllHold spots5_by Span
-  index-found r s d = then_found _ _ r s d
+  index-found r s d = then_found (spot (in_master object_pointer) (Span (Unused (user v)) 64 256)) (pointers v t (May P 512)) r s d
 
   -- ---- subindexed: the subindex block, the index blocks
 

@@ -1,4 +1,6 @@
 // Where an image is broken: the first place that breaks a rule, for refusal 3. Each rule has its finder, which is asked only after the rule was judged broken.
+#![tactic(auto)]
+
 mod block;
 pub mod counts;
 mod entry;

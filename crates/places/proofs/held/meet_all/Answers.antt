@@ -1,0 +1,13 @@
+use Rattle.places.proofs.All.{meeting-on, all-met}
+use Rattle.book.specs.Image.{pages}
+use Rattle.book.specs.Words.{vol}
+use native.Mathlib.Omega.{arith}
+use Rattle.places.proofs.held.meet_all.Goals as goal
+
+pub meet_files-requires : goal.meet_files-requires
+meet_files-requires c = let P = pages c.args.img.now in let v = vol c.args.img.now in
+    (meeting-on _ _ _ _ _ c.requires.0 P v _ _ _ _ _ c.meet_system-low.ensures, omega (arith, c.requires.2.most))
+
+pub returns : goal.returns
+returns c = let P = pages c.args.img.now in let v = vol c.args.img.now in
+    all-met _ c.args.ends c.requires.2 P _ _ _ _ c.requires.0.index c.requires.0.subindex _ _ _ _ _ _ _ _ c.meet_system-low.ensures c.meet_files.ensures
