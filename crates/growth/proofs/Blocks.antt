@@ -1,6 +1,6 @@
 -- The index block that holds a position of an indexed file, and the page there: both are pages of the volume. Assumes nothing.
 use mathlib.Core.Path.{◌≡◌, refl, subst}
-use Prim.Native.Nat.{ℕ, zero, suc, ◌-◌, ◌/◌, ◌%◌, ◌<◌}
+use Prim.Native.Nat.{ℕ, zero, suc, ◌/◌, ◌%◌, ◌<◌}
 use native.Mathlib.Omega.{arith}
 use Rattle.book.specs.Words.{Vol}
 use Rattle.book.specs.Pointers.{slot}

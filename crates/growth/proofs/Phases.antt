@@ -9,7 +9,7 @@ use Rattle.book.specs.Words.{Vol, vol}
 use Rattle.book.specs.Pointers.{flags, page, pointer, set_slot, bit_pointer}
 use Rattle.book.specs.Trees.{Root, weigh_r, root_by, weigh}
 use Rattle.book.specs.Bits.{bit_page, lowest_free}
-use Rattle.book.specs.Entries.{Table, object, user, used, user_page, object_page, used_pages, page_count, file_entry}
+use Rattle.book.specs.Entries.{Table, object, user, user_page, object_page, used_pages, page_count, file_entry}
 use Rattle.book.specs.Files.{Shape, need}
 use Rattle.book.specs.Holders.{hit}
 use Rattle.book.specs.Image.{pages, IndexArg}
