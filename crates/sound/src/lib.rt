@@ -1,4 +1,6 @@
 // The check: the ten rules judged in order, each where all lower ones hold; and the gate that every call but format goes through.
+#![tactic(auto)]
+
 pub mod early;
 pub mod numbers;
 

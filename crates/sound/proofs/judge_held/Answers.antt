@@ -1,0 +1,10 @@
+-- `sound::judge_held` meets its contract. Assumes nothing.
+use native.Mathlib.Omega.{arith}
+use Rattle.bits.proofs.Marked.{unmarked-for}
+use Rattle.sound.proofs.judge_held.Goals as goal
+
+pub judge_marked-requires : goal.judge_marked-requires
+judge_marked-requires c = (c.requires.0, c.requires.1, c.requires.2, c.requires.3, unmarked-for _ 16384 (omega (arith, c.requires.1)) _ c.few_marks-marks.ensures)
+
+pub judge_marked-requires-2 : goal.judge_marked-requires-2
+judge_marked-requires-2 c = (c.requires.0, c.requires.1, c.requires.2, c.requires.3, unmarked-for _ 140733 c.requires.0.most _ c.most_marks-marks.ensures)
