@@ -6,56 +6,49 @@ ghost use Rattle.book.specs.Calls.{create_indexed_call, create_contiguous_call, 
 use crate::spell::{Reply, reply_of};
 
 // Makes a new volume whose bit file begins at page `at`.
-#[unsafe(no_mangle)]
-pub extern "C" fn nord_format(img: &mut [u16], name: &[u8], at: usize) -> Reply
+pub fn nord_format(img: &mut [u16], name: &[u8], at: usize) -> Reply
     ensures { Replied (format_call img.old name.now at) img.old result img.new }
 {
     reply_of(nord::change::format(img, name, at))
 }
 
 // The same with the bit file from the middle page on.
-#[unsafe(no_mangle)]
-pub extern "C" fn nord_format_default(img: &mut [u16], name: &[u8]) -> Reply
+pub fn nord_format_default(img: &mut [u16], name: &[u8]) -> Reply
     ensures { Replied (format_default_call img.old name.now) img.old result img.new }
 {
     reply_of(nord::change::format_default(img, name))
 }
 
 // Creates a user of that name.
-#[unsafe(no_mangle)]
-pub extern "C" fn nord_create_user(img: &mut [u16], name: &[u8]) -> Reply
+pub fn nord_create_user(img: &mut [u16], name: &[u8]) -> Reply
     ensures { Replied (create_user_call img.old name.now) img.old result img.new }
 {
     reply_of(nord::users::create_user(img, false, name))
 }
 
 // Deletes a user that has no file.
-#[unsafe(no_mangle)]
-pub extern "C" fn nord_delete_user(img: &mut [u16], user: usize) -> Reply
+pub fn nord_delete_user(img: &mut [u16], user: usize) -> Reply
     ensures { Replied (delete_user_call img.old user) img.old result img.new }
 {
     reply_of(nord::change::delete_user(img, false, user))
 }
 
 // Moves pages from unreserved to the user's given pages.
-#[unsafe(no_mangle)]
-pub extern "C" fn nord_give(img: &mut [u16], user: usize, count: usize) -> Reply
+pub fn nord_give(img: &mut [u16], user: usize, count: usize) -> Reply
     ensures { Replied (give_call img.old user count) img.old result img.new }
 {
     reply_of(nord::change::give(img, false, user, count))
 }
 
 // Moves them back.
-#[unsafe(no_mangle)]
-pub extern "C" fn nord_take(img: &mut [u16], user: usize, count: usize) -> Reply
+pub fn nord_take(img: &mut [u16], user: usize, count: usize) -> Reply
     ensures { Replied (take_call img.old user count) img.old result img.new }
 {
     reply_of(nord::change::take(img, false, user, count))
 }
 
 // Creates an empty indexed file.
-#[unsafe(no_mangle)]
-pub extern "C" fn nord_create_indexed(
+pub fn nord_create_indexed(
     img: &mut [u16],
     user: usize,
     name: &[u8],
@@ -68,8 +61,7 @@ pub extern "C" fn nord_create_indexed(
 }
 
 // Creates a contiguous file of that many pages.
-#[unsafe(no_mangle)]
-pub extern "C" fn nord_create_contiguous(
+pub fn nord_create_contiguous(
     img: &mut [u16],
     user: usize,
     name: &[u8],
@@ -83,32 +75,28 @@ pub extern "C" fn nord_create_contiguous(
 }
 
 // Grows an indexed file by one page: done with the page's number.
-#[unsafe(no_mangle)]
-pub extern "C" fn nord_grow(img: &mut [u16], user: usize, file: usize) -> Reply
+pub fn nord_grow(img: &mut [u16], user: usize, file: usize) -> Reply
     ensures { Replied (grow_call img.old user file) img.old result img.new }
 {
     reply_of(nord::files::grow(img, false, user, file))
 }
 
 // Shrinks an indexed file by its last page.
-#[unsafe(no_mangle)]
-pub extern "C" fn nord_shrink(img: &mut [u16], user: usize, file: usize) -> Reply
+pub fn nord_shrink(img: &mut [u16], user: usize, file: usize) -> Reply
     ensures { Replied (shrink_call img.old user file) img.old result img.new }
 {
     reply_of(nord::files::shrink(img, false, user, file))
 }
 
 // Deletes a file.
-#[unsafe(no_mangle)]
-pub extern "C" fn nord_delete_file(img: &mut [u16], user: usize, file: usize) -> Reply
+pub fn nord_delete_file(img: &mut [u16], user: usize, file: usize) -> Reply
     ensures { Replied (delete_file_call img.old user file) img.old result img.new }
 {
     reply_of(nord::files::delete_file(img, false, user, file))
 }
 
 // Writes the page at that position of the user's file.
-#[unsafe(no_mangle)]
-pub extern "C" fn nord_write_page(
+pub fn nord_write_page(
     img: &mut [u16],
     user: usize,
     file: usize,
@@ -121,24 +109,21 @@ pub extern "C" fn nord_write_page(
 }
 
 // Notes an open of the user's file.
-#[unsafe(no_mangle)]
-pub extern "C" fn nord_note_open(img: &mut [u16], user: usize, file: usize) -> Reply
+pub fn nord_note_open(img: &mut [u16], user: usize, file: usize) -> Reply
     ensures { Replied (open_call img.old user file) img.old result img.new }
 {
     reply_of(nord::change::note_open(img, false, user, file))
 }
 
 // Converts names and types from zeros behind a short one to an apostrophe and then zeros.
-#[unsafe(no_mangle)]
-pub extern "C" fn nord_convert_to_apostrophe(img: &mut [u16]) -> Reply
+pub fn nord_convert_to_apostrophe(img: &mut [u16]) -> Reply
     ensures { Replied (to_apostrophe_call img.old) img.old result img.new }
 {
     reply_of(convert::to_apostrophe(img, false))
 }
 
 // And back to zeros.
-#[unsafe(no_mangle)]
-pub extern "C" fn nord_convert_to_zeros(img: &mut [u16]) -> Reply
+pub fn nord_convert_to_zeros(img: &mut [u16]) -> Reply
     ensures { Replied (to_zeros_call img.old) img.old result img.new }
 {
     reply_of(convert::to_zeros(img, false))

@@ -1,4 +1,7 @@
-// The calls of crate nord, and crate run's list of calls, for C: numbers and lent slices in, structs of numbers out. host/include/nord.h declares them.
+// The calls of crate nord, and crate run's list of calls, as C has them: numbers and lent slices in, structs of numbers out. Crate edge_c exports each
+// under its name.
+#![tactic(auto)]
+
 pub mod ask;
 pub mod change;
 pub mod mend;

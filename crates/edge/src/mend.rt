@@ -25,8 +25,7 @@ fn told(r: Reply) -> usize
 
 // Makes bits, used counts and unreserved anew from what the pointers hold: each changed word in the list, in ascending place, and their number as the
 // value.
-#[unsafe(no_mangle)]
-pub extern "C" fn nord_salvage(img: &mut [u16], list: &mut [Change]) -> Reply
+pub fn nord_salvage(img: &mut [u16], list: &mut [Change]) -> Reply
     ensures { Salvages img.old list.old result img.new list.new }
 {
     let room = list.len();

@@ -3,8 +3,7 @@ ghost use Rattle.book.specs.Run.{Ran};
 
 // Makes the steps in order, each as its own call would, up to the first that is refused: one reply for each, and how many there are. The changes of a
 // salvage are told in the list, four numbers each.
-#[unsafe(no_mangle)]
-pub extern "C" fn nord_run(
+pub fn nord_run(
     img: &mut [u16],
     steps: &[u32],
     text: &[u8],

@@ -1,4 +1,6 @@
 // The searches of the bit file by themselves, for the benchmarks. They are no calls of the library: host/probe/probe.h declares them, and nord.h does not.
+#![tactic(auto)]
+
 ghost use Rattle.std.specs.Prelude.{◌≡◌, ◌<◌};
 ghost use Rattle.book.specs.Words.{vol};
 ghost use Rattle.book.specs.Bits.{highest_run};
