@@ -1,9 +1,12 @@
 // Reads an image of at most 32 pages from standard input, high byte first, and lists it.
-ghost use Rattle.std.specs.Prelude.{◌≡◌, ◌+◌, ◌*◌, ◌≤◌, ◌<◌, length, get_or, set};
+#![tactic(auto)]
+
+ghost use Rattle.std.specs.Prelude.{◌≡◌, ◌+◌, ◌*◌, ◌≤◌, ◌<◌, IfOk, length, get_or, set};
 ghost use Rattle.book.specs.Names.{words_of};
 ghost use Rattle.lister.specs.Input.{WordsOf, Answered};
 
-use libc::STDOUT_FILENO;
+use std::io;
+use std::io::Read;
 
 // The bytes of 32 pages; the text for an image of so many is no longer.
 const MOST: usize = 65536;
@@ -55,25 +58,38 @@ fn text_room() -> [u8; 65536]
     [0; 65536]
 }
 
-// What is no image of at most 32 pages of words.
-fn refuse() {
-    io::write_all(STDOUT_FILENO, b"REFUSED 1\n");
+// Reads until the buffer is full or the input ends; the count of bytes that stand at its front.
+fn read_full<R: Read>(from: &mut R, buf: &mut [u8]) -> io::Result<usize>
+    ensures { IfOk result (λ n. n ≤ length buf.new) }
+{
+    let mut done: usize = 0;
+    while done < buf.len() {
+        let n = from.read(&mut buf[done..])?;
+        if n == 0 {
+            break;
+        }
+        done += n;
+    }
+    Ok(done)
 }
 
-fn main() {
+// What is no image of at most 32 pages of words.
+fn refuse(rt: &impl Print) -> io::Result<()> {
+    rt.write_all(b"REFUSED 1\n")
+}
+
+fn main(rt: HostRuntime) -> io::Result<()> {
     let mut bytes = [0u8; 65537];
-    let n = io::read_full(0, &mut bytes);
+    let n = read_full(&mut rt.stdin(), &mut bytes)?;
     if MOST < n {
-        refuse();
-        return;
+        return refuse(&rt);
     }
     if n % 2 != 0 {
-        refuse();
-        return;
+        return refuse(&rt);
     }
     let mut image = image_room();
     let mut text = text_room();
     let count = n / 2;
     let length = answer(&bytes[..n], &mut image[..count], &mut text);
-    io::write_all(STDOUT_FILENO, &text[..length]);
+    rt.write_all(&text[..length])
 }

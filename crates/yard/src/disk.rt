@@ -6,103 +6,119 @@ use edge::change::{
     nord_create_contiguous, nord_create_indexed, nord_create_user, nord_format_default, nord_give,
     nord_grow,
 };
+use std::io;
 
 // 8 pages pass shape.
-pub fn passes(img: &mut [u16]) {
+pub fn passes(rt: &impl Print, img: &mut [u16]) -> io::Result<()> {
     case(
+        rt,
         b"8 pages pass shape",
         done(nord_format_default(img, b"YARD"), 0),
-    );
-    case(b"8 pages are sound", done(nord_check(img), 2));
+    )?;
+    case(rt, b"8 pages are sound", done(nord_check(img), 2))
 }
 
 // 7 pages get 1, and so does a length that is no whole number of pages.
-pub fn too_small(img: &mut [u16]) {
+pub fn too_small(rt: &impl Print, img: &mut [u16]) -> io::Result<()> {
     case(
+        rt,
         b"no volume: 1",
         refused(nord_format_default(img, b"YARD"), 1),
-    );
-    case(b"nothing to check: 1", refused(nord_check(img), 1));
+    )?;
+    case(rt, b"nothing to check: 1", refused(nord_check(img), 1))
 }
 
 // Formatted, a first user, 100 pages given, an indexed file grown once, a contiguous one of 10.
-pub fn first_day(img: &mut [u16]) {
-    formatted(img);
-    first_user(img);
-    first_file(img);
-    first_run(img);
+pub fn first_day(rt: &impl Print, img: &mut [u16]) -> io::Result<()> {
+    formatted(rt, img)?;
+    first_user(rt, img)?;
+    first_file(rt, img)?;
+    first_run(rt, img)
 }
 
-fn formatted(img: &mut [u16]) {
+fn formatted(rt: &impl Print, img: &mut [u16]) -> io::Result<()> {
     case(
+        rt,
         b"154 pages by default",
         done(nord_format_default(img, b"YARD"), 0),
-    );
-    case(b"bit page 77", two(img, 0, 1020, 77));
-    case(b"unreserved 152", two(img, 0, 1022, 152));
+    )?;
+    case(rt, b"bit page 77", two(img, 0, 1020, 77))?;
+    case(rt, b"unreserved 152", two(img, 0, 1022, 152))
 }
 
-fn first_user(img: &mut [u16]) {
-    case(b"first user is 0", done(nord_create_user(img, b"DOCK"), 0));
-    case(b"pages 1, 2, 3", first_pages(img));
-    case(b"unreserved 149", two(img, 0, 1022, 149));
-    broken(img);
-    given(img);
+fn first_user(rt: &impl Print, img: &mut [u16]) -> io::Result<()> {
+    case(
+        rt,
+        b"first user is 0",
+        done(nord_create_user(img, b"DOCK"), 0),
+    )?;
+    case(rt, b"pages 1, 2, 3", first_pages(img))?;
+    case(rt, b"unreserved 149", two(img, 0, 1022, 149))?;
+    broken(rt, img)?;
+    given(rt, img)
 }
 
 // One word wrong, and where check says it is.
-fn broken(img: &mut [u16]) {
-    case(b"used 1: page 2, word 16", breaks(img, 2, 17, 1, 4, 16));
+fn broken(rt: &impl Print, img: &mut [u16]) -> io::Result<()> {
+    case(rt, b"used 1: page 2, word 16", breaks(img, 2, 17, 1, 4, 16))?;
     case(
+        rt,
         b"unreserved 150: page 0, word 1022",
         breaks(img, 0, 1023, 150, 10, 1022),
-    );
+    )?;
     case(
+        rt,
         b"bit of page 100: page 77, word 6",
         breaks(img, 77, 6, 16, 9, 6),
-    );
+    )
 }
 
-fn given(img: &mut [u16]) {
-    case(b"give 100", done(nord_give(img, 0, 100), 0));
-    case(b"unreserved 49", two(img, 0, 1022, 49));
+fn given(rt: &impl Print, img: &mut [u16]) -> io::Result<()> {
+    case(rt, b"give 100", done(nord_give(img, 0, 100), 0))?;
+    case(rt, b"unreserved 49", two(img, 0, 1022, 49))
 }
 
-fn first_file(img: &mut [u16]) {
+fn first_file(rt: &impl Print, img: &mut [u16]) -> io::Result<()> {
     let made = nord_create_indexed(img, 0, b"READS", b"DATA", 1980);
-    case(b"indexed file 0", done(made, 0));
-    file_page(img);
-    case(b"grow: data 5", done(nord_grow(img, 0, 0), 5));
-    file_blocks(img);
+    case(rt, b"indexed file 0", done(made, 0))?;
+    file_page(rt, img)?;
+    case(rt, b"grow: data 5", done(nord_grow(img, 0, 0), 5))?;
+    file_blocks(rt, img)
 }
 
-fn file_page(img: &[u16]) {
-    case(b"object page 4", two(img, 3, 0, 4));
-    case(b"unreserved 48", two(img, 0, 1022, 48));
+fn file_page(rt: &impl Print, img: &[u16]) -> io::Result<()> {
+    case(rt, b"object page 4", two(img, 3, 0, 4))?;
+    case(rt, b"unreserved 48", two(img, 0, 1022, 48))
 }
 
-fn file_blocks(img: &[u16]) {
-    case(b"data page 5", held(img, 5, 10));
-    case(b"index 6", held(img, 6, 9));
+fn file_blocks(rt: &impl Print, img: &[u16]) -> io::Result<()> {
+    case(rt, b"data page 5", held(img, 5, 10))?;
+    case(rt, b"index 6", held(img, 6, 9))
 }
 
-fn first_run(img: &mut [u16]) {
+fn first_run(rt: &impl Print, img: &mut [u16]) -> io::Result<()> {
     let run = nord_create_contiguous(img, 0, b"WEIGHTS", b"DATA", 1980, 10);
-    case(b"contiguous 10: file 1", done(run, 1));
-    run_pages(img);
+    case(rt, b"contiguous 10: file 1", done(run, 1))?;
+    run_pages(rt, img)
 }
 
-fn run_pages(img: &[u16]) {
+fn run_pages(rt: &impl Print, img: &[u16]) -> io::Result<()> {
     case(
+        rt,
         b"its first page is 144",
         done(nord_address(img, 0, 1, 0), 144),
-    );
+    )?;
     case(
+        rt,
         b"its last page is 153",
         done(nord_address(img, 0, 1, 9), 153),
-    );
-    case(b"position 10: 4", refused(nord_address(img, 0, 1, 10), 4));
-    case(b"18 pages are visited", done(nord_check(img), 18));
+    )?;
+    case(
+        rt,
+        b"position 10: 4",
+        refused(nord_address(img, 0, 1, 10), 4),
+    )?;
+    case(rt, b"18 pages are visited", done(nord_check(img), 18))
 }
 
 // The user index is page 1, the user page 2, the object index 3.

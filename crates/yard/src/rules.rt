@@ -6,6 +6,7 @@ use edge::change::{nord_create_indexed, nord_grow};
 use edge::mend::mended;
 use edge::spell::Reply;
 use salvage::row::no_changes;
+use std::io;
 
 // Whether check gives this rule and word `first` of page p with word k of page p set to x; the word is put back.
 pub fn breaks(img: &mut [u16], p: u16, k: u16, x: u16, rule: u32, first: u32) -> bool {
@@ -26,80 +27,116 @@ fn shares(img: &mut [u16]) -> bool {
 
 // Each rule. Page 1 is the user index, 2 the user page, 3 the object index, 4 the object page, 5 the file's page, 6 its index block, 8 the
 // bit file.
-pub fn rules(img: &mut [u16]) {
+pub fn rules(rt: &impl Print, img: &mut [u16]) -> io::Result<()> {
     small_yard(img);
-    one_page(img);
-    heads(img);
-    entries(img);
-    files(img);
-    counts(img);
-    sound(img, b"sound again");
-    stale(img);
-    mends(img);
-    sound(img, b"sound after salvage");
+    one_page(rt, img)?;
+    heads(rt, img)?;
+    entries(rt, img)?;
+    files(rt, img)?;
+    counts(rt, img)?;
+    sound(rt, img, b"sound again")?;
+    stale(rt, img)?;
+    mends(rt, img)?;
+    sound(rt, img, b"sound after salvage")
 }
 
-fn one_page(img: &mut [u16]) {
+fn one_page(rt: &impl Print, img: &mut [u16]) -> io::Result<()> {
     nord_create_indexed(img, 0, b"READS", b"DATA", 0);
-    case(b"one file, one page", done(nord_grow(img, 0, 0), 5));
-    case(b"sound: 8 pages", done(nord_check(img), 8));
+    case(rt, b"one file, one page", done(nord_grow(img, 0, 0), 5))?;
+    case(rt, b"sound: 8 pages", done(nord_check(img), 8))
 }
 
-fn heads(img: &mut [u16]) {
+fn heads(rt: &impl Print, img: &mut [u16]) -> io::Result<()> {
     case(
+        rt,
         b"rule 1: a name with a gap",
         breaks(img, 0, 1008, 89, 1, 1008),
-    );
+    )?;
     case(
+        rt,
         b"rule 1: bit page 16 of 16",
         breaks(img, 0, 1021, 16, 1, 1020),
-    );
-    case(b"rule 2: both flags", breaks(img, 0, 1018, 49152, 2, 1018));
+    )?;
     case(
+        rt,
+        b"rule 2: both flags",
+        breaks(img, 0, 1018, 49152, 2, 1018),
+    )?;
+    case(
+        rt,
         b"rule 2: no object pointer",
         breaks(img, 0, 1016, 0, 2, 1016),
-    );
+    )
 }
 
-fn entries(img: &mut [u16]) {
+fn entries(rt: &impl Print, img: &mut [u16]) -> io::Result<()> {
     case(
+        rt,
         b"rule 3: slot 8 of the user index",
         breaks(img, 1, 17, 9, 3, 16),
-    );
-    case(b"rule 4: not his own index", breaks(img, 2, 18, 1, 4, 18));
-    case(b"rule 4: used above given", breaks(img, 2, 17, 9, 4, 16));
-    case(b"rule 5: object page 16 of 16", breaks(img, 3, 1, 16, 5, 0));
+    )?;
+    case(
+        rt,
+        b"rule 4: not his own index",
+        breaks(img, 2, 18, 1, 4, 18),
+    )?;
+    case(
+        rt,
+        b"rule 4: used above given",
+        breaks(img, 2, 17, 9, 4, 16),
+    )?;
+    case(
+        rt,
+        b"rule 5: object page 16 of 16",
+        breaks(img, 3, 1, 16, 5, 0),
+    )
 }
 
-fn files(img: &mut [u16]) {
+fn files(rt: &impl Print, img: &mut [u16]) -> io::Result<()> {
     case(
+        rt,
         b"rule 6: another entry number",
         breaks(img, 4, 17, 1, 6, 17),
-    );
+    )?;
     case(
+        rt,
         b"rule 6: a type in small letters",
         breaks(img, 4, 9, 25697, 6, 9),
-    );
+    )?;
     case(
+        rt,
         b"rule 7: a slot past the last page",
         breaks(img, 6, 3, 7, 7, 2),
-    );
+    )?;
     case(
+        rt,
         b"rule 7: bytes of two pages",
         breaks(img, 4, 29, 4096, 7, 28),
-    );
-    case(b"rule 8: the object page is a file's page", shares(img));
+    )?;
+    case(rt, b"rule 8: the object page is a file's page", shares(img))
 }
 
-fn counts(img: &mut [u16]) {
-    case(b"rule 9: a free page's bit", breaks(img, 8, 0, 895, 9, 0));
-    case(b"rule 9: a held page's bit", breaks(img, 8, 0, 375, 9, 0));
-    case(b"rule 10: used count", breaks(img, 2, 17, 3, 10, 16));
-    case(b"rule 10: unreserved", breaks(img, 0, 1023, 3, 10, 1022));
+fn counts(rt: &impl Print, img: &mut [u16]) -> io::Result<()> {
+    case(
+        rt,
+        b"rule 9: a free page's bit",
+        breaks(img, 8, 0, 895, 9, 0),
+    )?;
+    case(
+        rt,
+        b"rule 9: a held page's bit",
+        breaks(img, 8, 0, 375, 9, 0),
+    )?;
+    case(rt, b"rule 10: used count", breaks(img, 2, 17, 3, 10, 16))?;
+    case(
+        rt,
+        b"rule 10: unreserved",
+        breaks(img, 0, 1023, 3, 10, 1022),
+    )
 }
 
-fn sound(img: &[u16], name: &[u8]) {
-    case(name, done(nord_check(img), 8));
+fn sound(rt: &impl Print, img: &[u16], name: &[u8]) -> io::Result<()> {
+    case(rt, name, done(nord_check(img), 8))
 }
 
 // A salvage with room for so many changes.
@@ -117,14 +154,18 @@ fn overdrawn(img: &mut [u16]) -> bool {
 }
 
 // A used count of 3 for 2: no room for the change, then pages given that are too few.
-fn stale(img: &mut [u16]) {
+fn stale(rt: &impl Print, img: &mut [u16]) -> io::Result<()> {
     put(img, 2, 17, 3);
-    case(b"14: no room for a change", refused(salvage(img, 0), 14));
-    case(b"13: holds two, was given one", overdrawn(img));
+    case(
+        rt,
+        b"14: no room for a change",
+        refused(salvage(img, 0), 14),
+    )?;
+    case(rt, b"13: holds two, was given one", overdrawn(img))
 }
 
 // With room the count is mended, and a second salvage has nothing to do.
-fn mends(img: &mut [u16]) {
-    case(b"salvage: the used count", done(salvage(img, 1), 1));
-    case(b"salvage: nothing to mend", done(salvage(img, 0), 0));
+fn mends(rt: &impl Print, img: &mut [u16]) -> io::Result<()> {
+    case(rt, b"salvage: the used count", done(salvage(img, 1), 1))?;
+    case(rt, b"salvage: nothing to mend", done(salvage(img, 0), 0))
 }

@@ -1,24 +1,24 @@
 // What is written for a case, and how answers and words are compared.
 use edge::spell::Reply;
-use libc::STDOUT_FILENO;
+use std::io;
 
 // The words of a page.
 const WORDS: usize = 1024;
 
 // A line for a case: its name, after `ok` or `WRONG`.
-pub fn case(name: &[u8], ok: bool) {
+pub fn case(rt: &impl Print, name: &[u8], ok: bool) -> io::Result<()> {
     if ok {
-        io::write_all(STDOUT_FILENO, b"ok    ");
+        rt.write_all(b"ok    ")?;
     } else {
-        io::write_all(STDOUT_FILENO, b"WRONG ");
+        rt.write_all(b"WRONG ")?;
     }
-    io::write_all(STDOUT_FILENO, name);
-    io::write_all(STDOUT_FILENO, b"\n");
+    rt.write_all(name)?;
+    rt.write_all(b"\n")
 }
 
 // The last line: all cases were run.
-pub fn end() {
-    io::write_all(STDOUT_FILENO, b"end\n");
+pub fn end(rt: &impl Print) -> io::Result<()> {
+    rt.write_all(b"end\n")
 }
 
 // Whether these three are zeros.
