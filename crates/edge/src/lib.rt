@@ -4,6 +4,6 @@
 
 pub mod ask;
 pub mod change;
+pub mod many;
 pub mod mend;
 pub mod spell;
-pub mod steps;

@@ -4,5 +4,5 @@
 
 pub mod ask;
 pub mod change;
+pub mod many;
 pub mod mend;
-pub mod steps;

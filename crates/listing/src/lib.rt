@@ -1,9 +1,9 @@
 // The listing of an image, as bytes in a lent buffer.
 mod lines;
 mod name;
+mod order;
 mod put;
 mod refusal;
-mod walk;
 
 ghost use Rattle.book.specs.Listing.{Reported};
 
@@ -16,6 +16,6 @@ pub fn list(img: &[u16], out: &mut [u8]) -> usize
     let g = sound::gate(img, true);
     match g {
         Gate::Shut { why } => refusal::put_refusal(out, why),
-        Gate::Open { visits: _ } => walk::put_listing(img, out),
+        Gate::Open { visits: _ } => order::put_listing(img, out),
     }
 }

@@ -1,4 +1,4 @@
--- `listing::walk::put_page` meets its contract. Assumes nothing.
+-- `listing::order::put_page` meets its contract. Assumes nothing.
 use mathlib.Core.Path.{◌≡◌, ap}
 use Prim.Native.Nat.{ℕ, ◌+◌, ◌-◌, ◌*◌, ◌≤◌}
 use native.Mathlib.Omega.{arith}
@@ -8,8 +8,8 @@ use Rattle.book.specs.Listing.{Bytes, joined, file_of}
 use Rattle.listing.specs.Wrote.{Wrote}
 use Rattle.listing.proofs.Writing.{wrote_none, wrote_as, wrote_then, wrote-size}
 use Rattle.listing.proofs.Texts.{joined-zero, joined-one, file-on, page-none}
-use Rattle.listing.proofs.walk.put_page.Statement.{statement}
-use Rattle.listing.proofs.walk.put_page.Tie as tie
+use Rattle.listing.proofs.order.put_page.Statement.{statement}
+use Rattle.listing.proofs.order.put_page.Tie as tie
 
 abbrev invariant-loop : tie.invariant-loop
 invariant-loop img out₀ at u i b q z₀ k₀ out z k = (k ≤ 32) × (z ≤ at + 128 * k) × Wrote (joined (λ (j : ℕ). file_of (vol img) u (32 * i + j)) k) out₀ at out z

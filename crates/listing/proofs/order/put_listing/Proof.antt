@@ -1,4 +1,4 @@
--- `listing::walk::put_listing` meets its contract. Assumes nothing.
+-- `listing::order::put_listing` meets its contract. Assumes nothing.
 use mathlib.Core.Path.{◌≡◌, ap, ◌∙◌}
 use Prim.Native.Nat.{◌+◌, ◌-◌, ◌*◌, ◌≤◌}
 use native.Mathlib.Omega.{arith}
@@ -7,8 +7,8 @@ use Rattle.book.specs.Listing.{joined, user_lines, listing}
 use Rattle.listing.specs.Wrote.{Wrote}
 use Rattle.listing.proofs.Writing.{wrote_none, wrote_as, wrote_then, wrote-size}
 use Rattle.listing.proofs.Texts.{joined-zero, joined-one}
-use Rattle.listing.proofs.walk.put_listing.Statement.{statement}
-use Rattle.listing.proofs.walk.put_listing.Tie as tie
+use Rattle.listing.proofs.order.put_listing.Statement.{statement}
+use Rattle.listing.proofs.order.put_listing.Tie as tie
 
 abbrev invariant-loop : tie.invariant-loop
 invariant-loop img out₀ z₀ u₀ out z u = (u ≤ 256) × (z ≤ z₀ + 40000 * u) × Wrote (joined (user_lines (vol img)) u) out₀ z₀ out z

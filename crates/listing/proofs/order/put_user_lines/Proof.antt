@@ -1,12 +1,12 @@
--- `listing::walk::put_user_lines` meets its contract. Assumes nothing.
+-- `listing::order::put_user_lines` meets its contract. Assumes nothing.
 use native.Mathlib.Omega.{arith}
 use Rattle.book.specs.Words.{vol}
 use Rattle.book.specs.Decides.{holds, fails}
 use Rattle.listing.proofs.Writing.{wrote_none, wrote_as, wrote_then}
 use Rattle.listing.proofs.Texts.{user-none, user-one}
 use borrow.Author.Rules.{rules}
-use Rattle.listing.proofs.walk.put_user_lines.Statement.{statement}
-use Rattle.listing.proofs.walk.put_user_lines.Tie as tie
+use Rattle.listing.proofs.order.put_user_lines.Statement.{statement}
+use Rattle.listing.proofs.order.put_user_lines.Tie as tie
 
 returns : tie.Need-returns
 returns c = let a = c.before.before.before.before.args in

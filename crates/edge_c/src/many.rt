@@ -14,5 +14,5 @@ pub extern "C" fn nord_run(
 ) -> usize
     ensures { Ran steps.now text.now words.now img.old list.old out.old result img.new list.new out.new }
 {
-    edge::steps::nord_run(img, steps, text, words, list, out)
+    edge::many::nord_run(img, steps, text, words, list, out)
 }

@@ -1,4 +1,4 @@
--- `listing::walk::put_files` meets its contract. Assumes nothing.
+-- `listing::order::put_files` meets its contract. Assumes nothing.
 use mathlib.Core.Path.{◌≡◌, ap, ◌∙◌}
 use Prim.Native.Nat.{◌+◌, ◌-◌, ◌*◌, ◌≤◌}
 use native.Mathlib.Omega.{arith}
@@ -7,8 +7,8 @@ use Rattle.book.specs.Listing.{joined, file_of}
 use Rattle.listing.specs.Wrote.{Wrote}
 use Rattle.listing.proofs.Writing.{wrote_none, wrote_as, wrote_then, wrote-size}
 use Rattle.listing.proofs.Texts.{joined-zero, joined-add}
-use Rattle.listing.proofs.walk.put_files.Statement.{statement}
-use Rattle.listing.proofs.walk.put_files.Tie as tie
+use Rattle.listing.proofs.order.put_files.Statement.{statement}
+use Rattle.listing.proofs.order.put_files.Tie as tie
 
 abbrev invariant-loop : tie.invariant-loop
 invariant-loop img out₀ at u z₀ i₀ out z i = (i ≤ 8) × (z ≤ at + 4096 * i) × Wrote (joined (file_of (vol img) u) (32 * i)) out₀ at out z
