@@ -1,4 +1,6 @@
 // The listing of an image, as bytes in a lent buffer.
+#![tactic(auto)]
+
 mod lines;
 mod name;
 mod order;
