@@ -1,5 +1,7 @@
 // Salvage (T-05): where the pointers are good, bits, used counts and unreserved are made anew from them. A first pass judges, counts and tells of
 // each word that changes as a plain number; only then a second pass writes.
+#![tactic(auto)]
+
 pub mod apply;
 pub mod collect;
 pub mod counts;
