@@ -1,5 +1,7 @@
 // The two conversions (T-04): what stands behind short names, from zeros alone to an apostrophe and then zeros, and back. All names and types
 // are looked at before the first word is written.
+#![tactic(auto)]
+
 pub mod all;
 pub mod entry;
 pub mod field;

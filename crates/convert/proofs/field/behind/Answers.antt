@@ -5,8 +5,7 @@ use Prim.Native.Nat.{ℕ, zero, suc, ◌-◌, ◌<◌}
 use native.Mathlib.Nat.{not-suc-le-zero}
 use native.Mathlib.Omega.{arith}
 use lib.ListN.{get_or, get_or-eq_default}
-use Rattle.convert.proofs.field.behind.Statement.{statement}
-use Rattle.convert.proofs.field.behind.Tie as tie
+use Rattle.convert.proofs.field.behind.Goals as goal
 
 at-end : (c d : ℕ) → d ≡ 0 → c ≡ get_or (c ∷ []) d 0
 at-end c d e = sym (ap (λ (i : ℕ). get_or (c ∷ []) i 0) e)
@@ -15,11 +14,8 @@ past_end : (c d : ℕ) → 0 < d → ◌≡◌ {A = ℕ} 0 (get_or (c ∷ []) d 
 past_end c zero h = absurd (not-suc-le-zero h)
 past_end c (suc d) h = sym (get_or-eq_default {A = ℕ} [] 0 {n = d} (omega arith))
 
-returns : tie.Need-returns
-returns c = let a = c.before.args in at-end a.mark (a.i - a.l) (omega arith)
+pub returns-then-i-l : goal.returns-then-i-l
+returns-then-i-l c = at-end c.args.mark (c.args.i - c.args.l) (omega arith)
 
-returns-2 : tie.Need-returns-2
-returns-2 c = let a = c.before.args in past_end a.mark (a.i - a.l) (omega arith)
-
-pub behind-spec : {M : Type 1} → statement M
-behind-spec = tie.close (tie.spec returns returns-2)
+pub returns : goal.returns
+returns c = past_end c.args.mark (c.args.i - c.args.l) (omega arith)
