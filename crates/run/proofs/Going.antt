@@ -2,17 +2,15 @@
 use mathlib.Core.Path.{◌≡◌, refl, sym, subst, ◌∙◌}
 use mathlib.Core.Bool.{Bool, true, false}
 use mathlib.Core.List.{List}
-use Prim.Native.Nat.{ℕ, suc, ◌+◌, ◌*◌, ◌/◌, ◌<◌}
+use Prim.Native.Nat.{ℕ, suc, ◌+◌, ◌/◌, ◌<◌}
 use native.Mathlib.Numerals.{add-one}
 use native.Mathlib.Omega.{arith}
 use lib.Dec.{eqb}
-use lib.ListN.{length, get_or, take, drop, length-take, length-drop}
+use lib.ListN.{length, get_or, length-take, length-drop}
 use borrow.Author.Tests.{ne_eqb}
 use Rattle.book.specs.Answers.{Numbers}
-use Rattle.book.specs.Decides.{Decides}
 use Rattle.book.specs.Image.{Ready}
-use Rattle.book.specs.Outcome.{Outcome}
-use Rattle.book.specs.Run.{step_of, step_call, Result, NumberResult, HolderResult, ChangesResult, pick_result, StepResult, put_reply, limit, Made, more, Ran, stopped}
+use Rattle.book.specs.Run.{step_of, step_call, Result, NumberResult, HolderResult, ChangesResult, pick_result, StepResult, limit, Made, more, Ran, stopped}
 use Rattle.run.specs.Fair.{lawful-step}
 use Rattle.run.specs.StepMade.{StepMade}
 

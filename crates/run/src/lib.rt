@@ -1,4 +1,6 @@
 // A list of calls by one run: one check, then each call on the image that the one before left.
+#![tactic(auto)]
+
 mod ask;
 mod make;
 mod mend;
