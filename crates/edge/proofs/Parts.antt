@@ -1,6 +1,6 @@
 -- The part that reading a page tells a C caller of is the part that the read call gives. Assumes nothing.
 use native.Mathlib.Omega.{arith}
-use mathlib.Core.Path.{◌≡◌, refl, sym, ap, subst, ◌∙◌}
+use mathlib.Core.Path.{◌≡◌, refl, sym, ap, ◌∙◌}
 use mathlib.Core.Logic.{inl, inr}
 use mathlib.Core.List.{List, []}
 use Prim.Native.Nat.{ℕ, ◌*◌, ◌<◌}
@@ -10,10 +10,10 @@ use Rattle.book.specs.Trees.{page_at}
 use Rattle.book.specs.Entries.{file_entry}
 use Rattle.book.specs.Files.{file_at}
 use Rattle.book.specs.Rows.{Lowest, Counted, lowest-counted}
-use Rattle.book.specs.Answers.{Numbers, unbroken}
-use Rattle.book.specs.Outcome.{asking, call, judged, Outcome, RefusedAs, DoneAs, Gives}
+use Rattle.book.specs.Answers.{unbroken}
+use Rattle.book.specs.Outcome.{asking, call, judged, Outcome, Gives}
 use Rattle.book.specs.Calls.{address_call, read_call, position_rows, part_at}
-use Rattle.edge.specs.Replied.{Placed, Lies}
+use Rattle.edge.specs.Replied.{Lies}
 use Rattle.edge.specs.declared.spell.Part.{Part}
 
 -- the words of a part of an image
