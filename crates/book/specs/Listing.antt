@@ -1,6 +1,5 @@
 -- The listing: a line for the volume, for each user and for each of his files, in bytes; or why there is none. Assumes nothing.
 use Rattle.std.specs.Prelude.{◌≡◌, List, [], ◌∷◌, ◌++◌, ℕ, zero, suc, ◌+◌, ◌/◌, ◌%◌, ◌<◌, length, get_or}
-use Rattle.std.proofs.Common.{sym, ap, subst, ◌∙◌, arith, ext_get_or}
 use Rattle.sums.specs.Sum.{is}
 use Rattle.sums.specs.Search.{pick}
 use Rattle.book.specs.Words.{Words, Vol, vol}
@@ -10,8 +9,7 @@ use Rattle.book.specs.Entries.{Table, user, object, used, given, used_pages, fil
 use Rattle.book.specs.Names.{stored}
 use Rattle.book.specs.Image.{pages}
 use Rattle.book.specs.Answers.{Numbers}
-use Rattle.book.specs.Outcome.{Outcome, Single}
-use Rattle.book.specs.Coincide.{one-outcome, single-call}
+use Rattle.book.specs.Outcome.{Outcome}
 use Rattle.book.specs.Calls.{check_call}
 
 abbrev pub Bytes : Type 0
@@ -156,24 +154,3 @@ pub record Shown (t o out : Bytes) (n : ℕ) : Type 0 where
 -- the text for an image in a lent buffer
 abbrev pub Reported : List ℕ → Bytes → Bytes → ℕ → Type 0
 Reported img o out n = (t : Bytes) × Listed img t × Shown t o out n
-
--- ---- laws
-
-single-check : (img : List ℕ) → Single (check_call img)
-unfolding check_call
-single-check img = single-call img _ _ _ _
-
--- an image has one text
-pub one-text : (img : List ℕ) (s t : Bytes) → Listed img s → Listed img t → s ≡ t
-unfolding Listed
-one-text img s t (a, x, e) (b, y, f) = e ∙ ap (report img) (one-outcome (check_call img) (single-check img) img a b img img x y).0 ∙ sym f
-
--- and a buffer shows it in one way
-pub one-shown : (t o a b : Bytes) (m n : ℕ) → Shown t o a m → Shown t o b n → (a ≡ b) × (m ≡ n)
-one-shown t o a b m n x y = (
-  ext_get_or 0 a b (x.size ∙ sym y.size) (λ i h. x.bytes i (omega (arith, x.size)) ∙ sym (y.bytes i (omega (arith, x.size)))),
-  x.whole ∙ sym y.whole,
-)
-
-pub one-report : (img o a b : List ℕ) (m n : ℕ) → Reported img o a m → Reported img o b n → (a ≡ b) × (m ≡ n)
-one-report img o a b m n (s, x, p) (t, y, q) = one-shown t o a b m n (subst (λ (r : Bytes). Shown r o a m) (one-text img s t x y) p) q

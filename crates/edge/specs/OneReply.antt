@@ -4,7 +4,7 @@ use Rattle.std.proofs.Common.{sym, ap, subst, ◌∙◌}
 use Rattle.std.proofs.Math.Decide.{ℕ_discrete}
 use Rattle.book.specs.Answers.{Numbers}
 use Rattle.book.specs.Outcome.{Call, Single}
-use Rattle.book.specs.Coincide.{one-outcome}
+use Rattle.book.proofs.Coincide.{one-outcome}
 use Rattle.book.specs.Calls.{check_call, find_user_call, find_file_call, address_call, who_call, format_call, format_default_call, create_user_call, delete_user_call, give_call, take_call}
 use Rattle.book.specs.Calls.{create_indexed_call, create_contiguous_call, grow_call, shrink_call, delete_file_call, write_call, open_call, to_apostrophe_call, to_zeros_call}
 use Rattle.book.specs.Format.{middle}

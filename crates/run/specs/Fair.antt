@@ -8,7 +8,8 @@ use Rattle.book.specs.Rows.{Rows, Clear, Counted}
 use Rattle.book.specs.Answers.{Numbers}
 use Rattle.book.specs.Image.{pages, Whole, Ready}
 use Rattle.book.specs.Outcome.{Call, call, asking, judged, Outcome, DoneAs, Single}
-use Rattle.book.specs.Coincide.{one-outcome, single-call}
+use Rattle.book.specs.Coincide.{single-call}
+use Rattle.book.proofs.Coincide.{one-outcome}
 use Rattle.book.specs.Calls.{check_call, find_user_call, find_file_call, address_call, format_call, create_user_call, delete_user_call, position_rows}
 use Rattle.book.specs.Calls.{give_call, take_call, create_indexed_call, create_contiguous_call, grow_call, shrink_call, delete_file_call, write_call, open_call, convert_call, who_call, salvage_call}
 use Rattle.book.specs.Format.{middle}

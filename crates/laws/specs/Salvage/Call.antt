@@ -10,7 +10,8 @@ use Rattle.std.proofs.Math.ListN.{drop, get_or-eq_default}
 use Rattle.std.proofs.Math.Seq.{take-append_seam, drop-append_seam}
 use Rattle.book.specs.Answers.{Numbers}
 use Rattle.book.specs.Calls.{salvaged, repairs, repaired, salvage_call, Listed, Salvaged}
-use Rattle.book.specs.Coincide.{one-outcome, vol-ext}
+use Rattle.book.specs.Coincide.{vol-ext}
+use Rattle.book.proofs.Coincide.{one-outcome}
 use Rattle.book.specs.Files.{file_at}
 use Rattle.book.specs.Image.{pages, Sixteen, Whole}
 use Rattle.book.specs.Outcome.{Outcome, Single, RefusedAs, DoneAs}
