@@ -1,4 +1,4 @@
--- What refusal 3 tells, and that it is one thing. Assumes nothing.
+-- What refusal 3 tells. That it is one thing is proved in proofs/Broken.antt. Assumes nothing.
 use Rattle.std.specs.Prelude.{◌≡◌, Bool, true, ℕ}
 use Rattle.book.specs.Words.{Vol}
 use Rattle.book.specs.Rows.{Lowest}

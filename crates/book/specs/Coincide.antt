@@ -1,4 +1,4 @@
--- Two outcomes that meet a call's table are the same: proved once, for any call. Assumes nothing.
+-- Equal volumes are equal images, and the rules judged are their table. That two outcomes of a call are the same is proved in proofs/Coincide.antt. Assumes nothing.
 use Rattle.std.specs.Prelude.{◌≡◌, Bool, List, ℕ, ◌+◌, ◌*◌, ◌/◌, ◌%◌, ◌<◌, length, get_or}
 use Rattle.std.proofs.Common.{sym, ◌∙◌, ap, arith, ext_get_or}
 use Rattle.book.specs.Words.{Vol, vol}

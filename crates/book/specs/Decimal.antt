@@ -1,4 +1,4 @@
--- Numbers in decimal, read back: decimal n is the one text of digits, without zeros in front, that stands for n. Assumes nothing.
+-- Numbers in decimal, read back, and what a numeral is. That decimal n is the one numeral that stands for n is proved in proofs/Decimal.antt. Assumes nothing.
 use Rattle.std.specs.Prelude.{[], ◌∷◌, ℕ, ◌+◌, ◌-◌, ◌*◌, ◌≤◌, ◌<◌, length, get_or}
 use Rattle.book.specs.Listing.{Bytes}
 

@@ -8,7 +8,8 @@ use crate::promises::{self, Row};
 use std::io;
 use std::path::Path;
 
-const BOOK: &str = "crates/book/specs/";
+/// The definitions, and the theorems that edits of definitions must break.
+const BOOK: [&str; 2] = ["crates/book/specs/", "crates/book/proofs/"];
 pub const PROMISES: &str = "docs/PROMISES.md";
 
 /// The definitions of a side are all there are: `pub` ones, and those that only the book itself uses.
@@ -34,7 +35,8 @@ pub struct Landing {
 /// The definitions of the book; each stands in the module that its file is.
 fn book(texts: &Texts, wanted: impl Fn(&Definition) -> bool) -> Vec<Item> {
     let modules = texts.iter().filter_map(|(path, text)| {
-        let module = path.strip_prefix(BOOK)?.strip_suffix(".antt")?;
+        let inner = BOOK.iter().find_map(|folder| path.strip_prefix(folder))?;
+        let module = inner.strip_suffix(".antt")?;
         Some((module.to_string(), text))
     });
     let items = modules.flat_map(|(module, text)| {

@@ -82,9 +82,11 @@ pub fn promises(told: &[Told], landing: &Landing) -> String {
 fn unit(path: &str) -> (String, String) {
     let inner = path.strip_prefix("crates/").unwrap_or(path);
     let inner = inner.strip_suffix(".antt").unwrap_or(inner);
-    let inner = inner.strip_suffix("/Proof").unwrap_or(inner);
+    let parts = [("/Proof", ""), ("/Answers", ""), ("/Invariants", ", invariants")];
+    let part = parts.iter().find_map(|(file, said)| Some((inner.strip_suffix(file)?, *said)));
+    let (inner, said) = part.unwrap_or((inner, ""));
     let (folder, name) = inner.rsplit_once('/').unwrap_or(("", inner));
-    (folder.to_string(), name.to_string())
+    (folder.to_string(), format!("{name}{said}"))
 }
 
 /// The folder and the name of a file; both, where it moved.
