@@ -1,5 +1,5 @@
 -- The numbers of document 01 that each answer stands for. Assumes nothing.
-use Rattle.std.specs.Prelude.{ℕ}
+use Rattle.std.specs.Prelude.{ℕ, Result, Ok, Err}
 use Rattle.book.specs.declared.Role.{Role}
 use Rattle.book.specs.declared.Role.TheVariants.{Subindex, Index, Data}
 use Rattle.book.specs.declared.Holder.{Holder}
@@ -7,10 +7,6 @@ use Rattle.book.specs.declared.Holder.TheVariants.{Free, Master, BitFile, UserIn
 use Rattle.book.specs.declared.Break.{Break}
 use Rattle.book.specs.declared.Refusal.{Refusal}
 use Rattle.book.specs.declared.Refusal.TheVariants.{Size, Argument, Unsound, Missing, Taken, Kind, HasFiles, Full, Allowance, Unreserved, NoRun, Fill, Overdrawn, ShortList}
-use Rattle.book.specs.declared.Answer.{Answer}
-use Rattle.book.specs.declared.Answer.TheVariants.{Done, Refused}
-use Rattle.book.specs.declared.Holding.{Holding}
-use Rattle.book.specs.declared.Holding.TheVariants.{By, Refused as Denied}
 
 -- what comes back: the number, the value, and with 3 what is broken
 pub record Numbers (A : Type 0) : Type 0 where
@@ -61,13 +57,13 @@ done_with x = record { number = 0; value = x; broken = unbroken }
 abbrev pub refused_with : {A : Type 0} → A → Refusal → Numbers A
 refused_with none w = record { number = number_of w; value = none; broken = broken_of w }
 
-abbrev pub numbers : Answer → Numbers ℕ
-numbers (Done x) = done_with x
-numbers (Refused w) = refused_with 0 w
+abbrev pub numbers : Result ℕ Refusal → Numbers ℕ
+numbers (Ok x) = done_with x
+numbers (Err w) = refused_with 0 w
 
-abbrev pub holding : Holding → Numbers Holder
-holding (By h) = done_with h
-holding (Denied w) = refused_with Free w
+abbrev pub holding : Result Holder Refusal → Numbers Holder
+holding (Ok h) = done_with h
+holding (Err w) = refused_with Free w
 
 -- a holder in numbers: its kind, its user and file, its position; a system page's user and file are 0
 pub record HolderNumbers : Type 0 where

@@ -1,5 +1,5 @@
 -- What check says, and numbers 1 to 3, which every call but format asks alike. Assumes nothing.
-use Rattle.std.specs.Prelude.{◌≡◌, Bool, true, List, ℕ}
+use Rattle.std.specs.Prelude.{◌≡◌, Bool, true, List, ℕ, Result, Ok, Err}
 use Rattle.book.specs.Words.{Vol, vol}
 use Rattle.book.specs.Holders.{visits}
 use Rattle.book.specs.Rows.{Lowest}
@@ -7,17 +7,14 @@ use Rattle.book.specs.Rules.{SoundOver, rules_of}
 use Rattle.book.specs.Broken.{BrokenAt}
 use Rattle.book.specs.Names.{stored}
 use Rattle.book.specs.Image.{pages, Whole, Ready}
-use Rattle.book.specs.declared.Verdict.{Verdict}
-use Rattle.book.specs.declared.Verdict.TheVariants.{Sound as Right, Broken}
+use Rattle.book.specs.declared.BrokenRule.{BrokenRule}
 use Rattle.book.specs.declared.Refusal.{Refusal}
 use Rattle.book.specs.declared.Refusal.TheVariants.{Size, Argument, Unsound, Missing, Taken, Kind, HasFiles, Full, Allowance, Unreserved, NoRun, Fill, Overdrawn, ShortList}
-use Rattle.book.specs.declared.Gate.{Gate}
-use Rattle.book.specs.declared.Gate.TheVariants.{Shut, Open}
 
 -- sound by the rules judged, with the pages visited; or the lowest broken one of them
-abbrev pub Judged : Bool → ℕ → Vol → Verdict → Type 0
-Judged ten P v (Right n) = SoundOver stored ten P v × (n ≡ visits P v)
-Judged ten P v (Broken r) = Lowest (rules_of ten P v) r
+abbrev pub Judged : Bool → ℕ → Vol → Result ℕ BrokenRule → Type 0
+Judged ten P v (Ok n) = SoundOver stored ten P v × (n ≡ visits P v)
+Judged ten P v (Err b) = Lowest (rules_of ten P v) b.rule
 
 -- the gate is shut by 1, 2 or 3, and by no other number; with 3 what is broken, and where
 abbrev pub Shuts : List ℕ → Type 0 → Refusal → Type 0
@@ -37,6 +34,6 @@ Shuts img args Overdrawn = ⊥
 Shuts img args ShortList = ⊥
 
 -- open: the arguments are right, as `ok` tells, and the image is whole and sound
-abbrev pub Gated : List ℕ → Bool → Gate → Type 0
-Gated img ok (Shut w) = Shuts img (ok ≡ true) w
-Gated img ok (Open n) = Ready img × (ok ≡ true) × (n ≡ visits (pages img) (vol img))
+abbrev pub Gated : List ℕ → Bool → Result ℕ Refusal → Type 0
+Gated img ok (Err w) = Shuts img (ok ≡ true) w
+Gated img ok (Ok n) = Ready img × (ok ≡ true) × (n ≡ visits (pages img) (vol img))

@@ -1,5 +1,5 @@
 -- How a call comes back: from a shut gate, from its own row that fails, or from all its rows, to its outcome. Assumes nothing.
-use Rattle.std.specs.Prelude.{◌≡◌, Bool, List, ℕ, ◌<◌, length}
+use Rattle.std.specs.Prelude.{◌≡◌, Bool, List, ℕ, Result, Ok, Err, ◌<◌, length}
 use Rattle.std.proofs.Math.Path.{refl}
 use Rattle.std.proofs.Common.{subst}
 use Rattle.std.proofs.Math.Bool.{true}
@@ -16,8 +16,6 @@ use Rattle.book.specs.Gate.{Shuts, Gated}
 use Rattle.book.specs.Enter.{Fit, Enters, Entered}
 use Rattle.book.specs.declared.Refusal.{Refusal}
 use Rattle.book.specs.declared.Refusal.TheVariants.{Size, Argument, Unsound, Missing, Taken, Kind, HasFiles, Full, Allowance, Unreserved, NoRun, Fill, Overdrawn, ShortList}
-use Rattle.book.specs.declared.Gate.{Gate}
-use Rattle.book.specs.declared.Gate.TheVariants.{Shut, Open}
 
 -- every refusal has a number
 pub number-pos : (w : Refusal) → 0 < number_of w
@@ -102,8 +100,8 @@ module _ {A : Type 0} (img : List ℕ) (args : Type 0) (rest : Rows) (none : A) 
   shuts ShortList h = absurd h
 
   -- the gate is shut: that is the call's outcome
-  pub shut : {g : Gate} {w : Refusal} → Entered img args g → g ≡ Shut w → Outcome C img (refused_with none w) img
-  shut {g} {w} h e = shuts w (subst (λ (x : Gate). Enters img args x) e h.enters)
+  pub shut : {g : Result ℕ Refusal} {w : Refusal} → Entered img args g → g ≡ Err w → Outcome C img (refused_with none w) img
+  shut {g} {w} h e = shuts w (subst (λ (x : Result ℕ Refusal). Enters img args x) e h.enters)
 
   -- one of the call's own rows fails
   pub refused : Fit img args → (w : Refusal) → Own w → Lowest rest (number_of w) → Outcome C img (refused_with none w) img
@@ -116,5 +114,5 @@ module _ {A : Type 0} (img : List ℕ) (args : Type 0) (rest : Rows) (none : A) 
   finished f c x g img' e l = inr record { number = refl; clear = (f.ready.whole, (f.right, (f.ready.sound, c))); value = g; broken = refl; image = e; size = l }
 
 -- an open gate of the check counts the volume's visits
-pub gate-visits : (img : List ℕ) (ok : Bool) (g : Gate) (n : ℕ) → Gated img ok g → g ≡ Open n → n ≡ visits (pages img) (vol img)
-gate-visits img ok g n h e = (subst (λ (x : Gate). Gated img ok x) e h).2
+pub gate-visits : (img : List ℕ) (ok : Bool) (g : Result ℕ Refusal) (n : ℕ) → Gated img ok g → g ≡ Ok n → n ≡ visits (pages img) (vol img)
+gate-visits img ok g n h e = (subst (λ (x : Result ℕ Refusal). Gated img ok x) e h).2

@@ -2,7 +2,7 @@
 #![tactic(auto)]
 
 // Which page of a file a page is. A position counts the index blocks, or the data pages, from 0.
-#[derive(Clone, Copy)]
+#[derive(Clone, Copy, Debug, PartialEq, Eq)]
 pub enum Role {
     Subindex,
     Index { position: u32 },
@@ -10,7 +10,7 @@ pub enum Role {
 }
 
 // A page of a file: the file's user and number, and which of its pages.
-#[derive(Clone, Copy)]
+#[derive(Clone, Copy, Debug, PartialEq, Eq)]
 pub struct FileHolder {
     pub user: u16,
     pub file: u16,
@@ -18,7 +18,7 @@ pub struct FileHolder {
 }
 
 // Who holds a page.
-#[derive(Clone, Copy)]
+#[derive(Clone, Copy, Debug, PartialEq, Eq)]
 pub enum Holder {
     Free,
     Master,
@@ -32,7 +32,7 @@ pub enum Holder {
 }
 
 // A page, and a word of it.
-#[derive(Clone, Copy)]
+#[derive(Clone, Copy, Debug, PartialEq, Eq)]
 pub struct Place {
     pub page: u32,
     pub word: u32,
@@ -40,7 +40,7 @@ pub struct Place {
 
 // One changed word: word 0 to 1,023 of a page, its old and its new value.
 #[repr(C)]
-#[derive(Clone, Copy)]
+#[derive(Clone, Copy, Debug, PartialEq, Eq)]
 pub struct Change {
     pub page: u32,
     pub word: u32,
@@ -49,7 +49,7 @@ pub struct Change {
 }
 
 // What refusal 3 tells: the lowest broken rule, its first place, and with rule 8 the first two holders of that page.
-#[derive(Clone, Copy)]
+#[derive(Clone, Copy, Debug, PartialEq, Eq)]
 pub struct Break {
     pub rule: u32,
     pub place: Place,
@@ -57,15 +57,17 @@ pub struct Break {
     pub second: Holder,
 }
 
-// What the rules judged say of an image.
-#[derive(Clone, Copy)]
-pub enum Verdict {
-    Sound { visits: u32 },
-    Broken { rule: u32 },
+// The lowest broken rule, of those judged. Rules go by their numbers in the book, which are compared.
+#[derive(Clone, Copy, Debug, PartialEq, Eq)]
+pub struct BrokenRule {
+    pub rule: u32,
 }
 
+// What the rules judged say of an image: sound, with the pages visited, or the lowest broken one.
+pub type Verdict = Result<u32, BrokenRule>;
+
 // Why a call was refused, in the order of the numbers 1 to 14.
-#[derive(Clone, Copy)]
+#[derive(Clone, Copy, Debug, PartialEq, Eq)]
 pub enum Refusal {
     Size,
     Argument,
@@ -83,23 +85,11 @@ pub enum Refusal {
     ShortList,
 }
 
-// The answer of every call but who-holds and read.
-#[derive(Clone, Copy)]
-pub enum Answer {
-    Done { value: u32 },
-    Refused { why: Refusal },
-}
+// The answer of every call but who-holds and read: done with a value, or refused.
+pub type Answer = Result<u32, Refusal>;
 
 // The answer of who-holds.
-#[derive(Clone, Copy)]
-pub enum Holding {
-    By { holder: Holder },
-    Refused { why: Refusal },
-}
+pub type Holding = Result<Holder, Refusal>;
 
-// Numbers 1 to 3, which every call but format asks alike: refused, or open to the call's own numbers.
-#[derive(Clone, Copy)]
-pub enum Gate {
-    Shut { why: Refusal },
-    Open { visits: u32 },
-}
+// Numbers 1 to 3, which every call but format asks alike: refused, or open to the call's own numbers, with the pages visited.
+pub type Gate = Result<u32, Refusal>;
