@@ -34,10 +34,7 @@ pub fn has_file(img: &[u16], u: usize, f: usize) -> bool
     requires { Ready img.now × (u < 256) × (f < 256) }
     ensures { Decides result (HasFile (vol img.now) u f) }
 {
-    if !has_user(img, u) {
-        return false;
-    }
-    object_used(img, entry_number(u, f))
+    has_user(img, u) && object_used(img, entry_number(u, f))
 }
 
 // The pages of the file in object entry e.
@@ -63,13 +60,7 @@ pub fn grows(img: &[u16], e: usize) -> bool
     requires { Ready img.now }
     ensures { Decides result (Grows (vol img.now) e) }
 {
-    if file_flags(img, e) != 0 {
-        return true;
-    }
-    if page_count(img, e) == 0 {
-        return true;
-    }
-    false
+    file_flags(img, e) != 0 || page_count(img, e) == 0
 }
 
 // It can shrink: it can grow, and has a page.
@@ -77,11 +68,5 @@ pub fn shrinks(img: &[u16], e: usize) -> bool
     requires { Ready img.now }
     ensures { Decides result (Shrinks (vol img.now) e) }
 {
-    if !grows(img, e) {
-        return false;
-    }
-    if page_count(img, e) == 0 {
-        return false;
-    }
-    true
+    grows(img, e) && page_count(img, e) != 0
 }

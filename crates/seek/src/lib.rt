@@ -8,10 +8,3 @@ pub mod needs;
 pub mod part;
 pub mod positions;
 pub mod users;
-
-// What a search by name answers: an index, or that there is none.
-#[derive(Clone, Copy)]
-pub enum Found {
-    At { index: u32 },
-    Nothing,
-}

@@ -15,22 +15,19 @@ pub fn need(n: u32) -> u32
     ensures { (result ≡ need_of n) × (result ≤ 3) }
 {
     if n == 512 {
-        return 3;
+        3
+    } else if n % 512 == 0 {
+        2
+    } else {
+        1
     }
-    if n % 512 == 0 {
-        return 2;
-    }
-    1
 }
 
 // 1 for a page that is absent.
 fn absent(q: usize) -> u32
     ensures { result ≡ 1 - q }
 {
-    if q == 0 {
-        return 1;
-    }
-    0
+    u32::from(q == 0)
 }
 
 // 1 if user u asks for a subindex block.
@@ -38,13 +35,7 @@ pub fn raises(img: &[u16], u: usize) -> u32
     requires { Ready img.now }
     ensures { (result ≡ raisesFor (vol img.now) u) × (result ≤ 1) }
 {
-    if flags_at(img, 0, OBJECTS) != 1 {
-        return 0;
-    }
-    if u < 64 {
-        return 0;
-    }
-    1
+    u32::from(flags_at(img, 0, OBJECTS) == 1 && u >= 64)
 }
 
 // The system pages that a new user u asks for: three the first time ever.
@@ -63,17 +54,12 @@ pub fn object_index(img: &[u16], e: usize) -> usize
     requires { Ready img.now × (e < 65536) }
     ensures { (result ≡ object_index (vol img.now) e) × (result < pages img.now) }
 {
-    let flags = flags_at(img, 0, OBJECTS);
     let top = page_at(img, 0, OBJECTS) as usize;
-    if flags == 0 {
-        return 0;
+    match flags_at(img, 0, OBJECTS) {
+        0 => 0,
+        1 => top,
+        _ => slot_at(img, top, EntryPlace::of(e).page / 512),
     }
-    if flags == 1 {
-        return top;
-    }
-    let place = EntryPlace::of(e);
-    let n = place.page;
-    slot_at(img, top, n / 512)
 }
 
 // The system pages that a new file in object entry e asks for.

@@ -19,6 +19,5 @@ pub fn page_part(img: &[u16], p: usize) -> &[u16]
 pub fn empty(img: &[u16]) -> &[u16]
     ensures { result.now ≡ [] }
 {
-    let a: usize = 0;
-    &img[a..a]
+    &img[..0]
 }

@@ -16,14 +16,7 @@ pub fn has_position(img: &[u16], u: usize, f: usize, n: usize) -> bool
     requires { Ready img.now × (u < 256) × (f < 256) }
     ensures { Decides result (HasPosition (vol img.now) u f n) }
 {
-    if !has_file(img, u, f) {
-        return false;
-    }
-    let count = page_count(img, entry_number(u, f)) as usize;
-    if count <= n {
-        return false;
-    }
-    true
+    has_file(img, u, f) && n < page_count(img, entry_number(u, f)) as usize
 }
 
 // The page at position n of file f of user u.

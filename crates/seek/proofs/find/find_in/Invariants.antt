@@ -1,5 +1,5 @@
 -- `seek::find::find_in` meets its contract. Assumes nothing.
-use Prim.Native.Nat.{ℕ, ◌+◌, ◌-◌, ◌*◌, ◌≤◌, ◌<◌}
+use Rattle.std.proofs.Common.{ℕ, ◌+◌, ◌*◌, ◌<◌, option_copied}
 use Rattle.book.specs.Words.{vol}
 use Rattle.book.specs.Trees.{root_by}
 use Rattle.book.specs.Entries.{entry}
@@ -7,7 +7,4 @@ use Rattle.seek.specs.Search.{Fits}
 use Rattle.seek.proofs.find.find_in.Given as goal
 
 abbrev pub invariant-loop-i : goal.invariant-loop-i
-invariant-loop-i l = (l.i ≤ 8) × ((n : ℕ) → n < 32 * l.i → Fits l.typed l.name l.kind (entry (vol l.img) (root_by l.flags l.top 0) (32 * l.b + n)) → ⊥)
-
-abbrev pub decreases-loop-i : goal.decreases-loop-i
-decreases-loop-i l = 8 - l.i
+invariant-loop-i l = (n : ℕ) → n < 32 * l.i → Fits l.name (option_copied l.kind) (entry (vol l.img) (root_by l.flags l.top 0) (32 * l.b + n)) → ⊥

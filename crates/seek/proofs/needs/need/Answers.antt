@@ -1,9 +1,7 @@
 -- `seek::needs::need` meets its contract. Assumes nothing.
-use mathlib.Core.Path.{◌≡◌, ap, ◌∙◌}
-use Prim.Native.Nat.{ℕ, ◌%◌}
+use Rattle.std.proofs.Common.{◌≡◌, ℕ, ◌%◌, ap, ◌∙◌, arith}
 use Rattle.sums.specs.Sum.{is, is_same, is-other}
 use Rattle.book.specs.Files.{need}
-use native.Mathlib.Omega.{arith}
 use Rattle.seek.proofs.needs.need.Goals as goal
 
 pub returns-then-n-eq512 : goal.returns-then-n-eq512
@@ -16,7 +14,7 @@ returns-then-n-eq0 c = let n : ℕ = c.args.n in
     let z : n % 512 ≡ 0 = omega arith in
     omega (arith, is-other n 512 c.if-n-eq512.false, ap (λ (x : ℕ). is x 0) z ∙ is_same 0)
 
-pub returns : goal.returns
+pub returns-else-n-eq0 : goal.returns-else-n-eq0
 unfolding need
-returns c = let n : ℕ = c.args.n in
+returns-else-n-eq0 c = let n : ℕ = c.args.n in
     omega (arith, is-other n 512 c.if-n-eq512.false, is-other (n % 512) 0 c.if-n-eq0.false)
