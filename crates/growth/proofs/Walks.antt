@@ -165,16 +165,18 @@ module _ (P : ℕ) (v : Vol) (b x t n : ℕ) (R : RootApart P v b x t n) where
   unfolding BelowR
   run-below z = subst (λ (r : Root). BelowR v P r) (root-run x t n z) R.below
 
-  pub tree_apart : x ≢ 0 → Apart P v b x t
-  unfolding BelowR blocks_r
-  tree_apart z =
-      let e : root_by x t n ≡ tree x t = root-tree x t n (omega arith) R.known in
-      record { below = subst (λ (r : Root). BelowR v P r) e R.below; apart = subst (λ (r : Root). blocks_r v r (bit_hits P b) ≡ 0) e R.apart }
+  -- its tree's level, which code has as l
+  module _ (l : ℕ) (q : l ≡ x) where
+    pub tree_apart : x ≢ 0 → Apart P v b l t
+    unfolding BelowR blocks_r
+    tree_apart z =
+        let e : root_by x t n ≡ tree l t = root-tree x t n (omega arith) R.known ∙ ap (λ (y : ℕ). tree y t) (sym q) in
+        record { below = subst (λ (r : Root). BelowR v P r) e R.below; apart = subst (λ (r : Root). blocks_r v r (bit_hits P b) ≡ 0) e R.apart }
+
+    pub tree_is : x ≢ 0 → (w : Vol) → w ≡ freed P v (λ p. weigh v l t (hit p)) → w ≡ freed P v (λ p. weigh_r v (root_by x t n) (hit p))
+    unfolding weigh_r
+    tree_is z w e = e ∙ ap (λ (r : Root). freed P v (λ p. weigh_r v r (hit p))) (ap (λ (y : ℕ). tree y t) q ∙ sym (root-tree x t n (omega arith) R.known))
 
   pub run_is : x ≡ 0 → (w : Vol) → w ≡ freed P v (run_of t n) → w ≡ freed P v (λ p. weigh_r v (root_by x t n) (hit p))
   unfolding weigh_r
   run_is z w e = e ∙ ap (λ (r : Root). freed P v (λ p. weigh_r v r (hit p))) (sym (root-run x t n z))
-
-  pub tree_is : x ≢ 0 → (w : Vol) → w ≡ freed P v (λ p. weigh v x t (hit p)) → w ≡ freed P v (λ p. weigh_r v (root_by x t n) (hit p))
-  unfolding weigh_r
-  tree_is z w e = e ∙ ap (λ (r : Root). freed P v (λ p. weigh_r v r (hit p))) (sym (root-tree x t n (omega arith) R.known))

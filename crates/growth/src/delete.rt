@@ -17,7 +17,7 @@ fn held(flags: u16, n: usize) -> usize
     if flags == 0 {
         return n;
     }
-    let indexes = (n + 511) / 512;
+    let indexes = n.div_ceil(512);
     if n <= 512 {
         return n + indexes;
     }

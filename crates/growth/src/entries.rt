@@ -16,6 +16,7 @@ use tree::entry::{entry_flags, entry_page, entry_two};
 use tree::root::{object_page, user_page};
 
 // What a step knows of its file: the pages of the two entries, where the bit file begins, the flags and the page of the file's pointer, the file's pages and its owner's used pages.
+// The flags stay the number of the paper: `HeadOf`, `held_by` and `index_of` speak of it.
 #[derive(Clone, Copy)]
 pub struct Head {
     pub owner: usize,
@@ -63,35 +64,12 @@ pub(crate) fn index_of(img: &[u16], flags: u16, top: usize, n: usize) -> usize
 }
 
 // Pointer n of the block in page b becomes d.
+// Here and below `as` between usize and u32: there is no `From`, and `try_from` would want an answer where the contract leaves none to give.
 pub(crate) fn set_slot(img: &mut [u16], b: usize, n: usize, d: usize)
     requires { (b < pages img.old) × (n < 512) × (d < 4294967296) }
     ensures { vol img.new ≡ set_slot (vol img.old) b n d }
 {
     put_two(img, b, 2 * n, d as u32);
-}
-
-// The file in entry e, on page `entry`, has n pages and this pointer; user u, on page `owner`, has used so many.
-pub(crate) fn finish(
-    img: &mut [u16],
-    owner: usize,
-    entry: usize,
-    u: usize,
-    e: usize,
-    n: u32,
-    pointer: u32,
-    used: u32,
-)
-    requires { (owner < pages img.old) × (entry < pages img.old) × (n < 2097152) }
-    ensures { vol img.new ≡ finishOf (vol img.old) owner entry u e n pointer used }
-{
-    let file = EntryPlace::of(e);
-    let w = file.word;
-    let user = EntryPlace::of(u);
-    let z = user.word;
-    put_two(img, entry, w + PAGES, n);
-    put_two(img, entry, w + BYTES, PAGE_BYTES * n);
-    put_two(img, entry, w + POINTER, pointer);
-    put_two(img, owner, z + USED, used);
 }
 
 // The entries of file f of user u become those of a file of n pages, with these flags and this page in its pointer, and an owner who has used so many.
@@ -108,9 +86,13 @@ pub(crate) fn enter(
     requires { (u < 256) × (f < 256) × (h.owner < pages img.old) × (h.entry < pages img.old) × (n < 2097152) × (flags < 4) × (top < 1073741824) × (used < 4294967296) }
     ensures { vol img.new ≡ finishOf (vol img.old) h.owner h.entry u (file_entry u f) n (pointer flags top) used }
 {
-    let e = entry_number(u, f);
-    let p = pointer_to(flags, top);
-    finish(img, h.owner, h.entry, u, e, n as u32, p, used as u32);
+    let file = EntryPlace::of(entry_number(u, f)).word;
+    let user = EntryPlace::of(u).word;
+    let count = n as u32;
+    put_two(img, h.entry, file + PAGES, count);
+    put_two(img, h.entry, file + BYTES, PAGE_BYTES * count);
+    put_two(img, h.entry, file + POINTER, pointer_to(flags, top));
+    put_two(img, h.owner, user + USED, used as u32);
 }
 
 // The entry of file f of user u becomes zeros, and its owner has used so many.
@@ -118,10 +100,8 @@ pub(crate) fn erase(img: &mut [u16], u: usize, f: usize, h: Head, used: usize)
     requires { (u < 256) × (f < 256) × (h.owner < pages img.old) × (h.entry < pages img.old) × (used < 4294967296) }
     ensures { vol img.new ≡ put2 (put_entry (vol img.old) h.entry (file_entry u f) zeros) h.owner (entry_word u + 16) used }
 {
-    let file = EntryPlace::of(entry_number(u, f));
-    let w = file.word;
-    let user = EntryPlace::of(u);
-    let z = user.word;
-    clear_entry(img, h.entry, w);
-    put_two(img, h.owner, z + USED, used as u32);
+    let file = EntryPlace::of(entry_number(u, f)).word;
+    let user = EntryPlace::of(u).word;
+    clear_entry(img, h.entry, file);
+    put_two(img, h.owner, user + USED, used as u32);
 }

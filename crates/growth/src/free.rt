@@ -33,11 +33,9 @@ fn free_block(img: &mut [u16], b: usize, t: usize, level: usize)
     requires { Freeing img.old b × Apart (pages img.old) (vol img.old) b (suc level) t }
     ensures { vol img.new ≡ freed (pages img.old) (vol img.old) (λ p. sum 512 (λ k. weigh (vol img.old) level (slot (vol img.old) t k) (hit p))) }
 {
-    let mut i: usize = 0;
-    while i < 512 {
+    for i in 0..512 {
         let d = slot_at(img, t, i);
         free_pointer(img, b, d, level);
-        i += 1;
     }
 }
 
@@ -46,10 +44,8 @@ fn free_run(img: &mut [u16], b: usize, s: usize, n: usize)
     requires { Freeing img.old b × (s + n ≤ pages img.old) × (0 < n → 0 < s) }
     ensures { vol img.new ≡ freed (pages img.old) (vol img.old) (λ p. sum n (λ i. hit p (s + i))) }
 {
-    let mut i: usize = 0;
-    while i < n {
+    for i in 0..n {
         bits::clear(img, b, s + i);
-        i += 1;
     }
 }
 
@@ -61,5 +57,5 @@ pub(crate) fn free_root(img: &mut [u16], b: usize, flags: u16, t: usize, n: usiz
     if flags == 0 {
         return free_run(img, b, t, n);
     }
-    free_pointer(img, b, t, flags as usize)
+    free_pointer(img, b, t, usize::from(flags))
 }

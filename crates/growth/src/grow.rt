@@ -66,22 +66,17 @@ fn block(img: &mut [u16], u: usize, f: usize, h: Head) -> usize
     d
 }
 
-// By the number of pages.
+// By the number of pages. One function for each phase, here and in shrinking: `grow_to` and `shrink_to` of the book have one volume for each, and no two differ in a number alone.
 fn grow_head(img: &mut [u16], u: usize, f: usize, h: Head) -> usize
     requires { Growing img.old u f h }
     ensures { (result ≡ lowest_free (pages img.old) (vol img.old)) × (result < pages img.old) × (vol img.new ≡ grow (lowest_free (pages img.old)) (pages img.old) (vol img.old) u f) }
 {
-    let n = h.count;
-    if n % 512 != 0 {
-        return onward(img, u, f, h);
+    match h.count {
+        0 => first(img, u, f, h),
+        512 => raise(img, u, f, h),
+        n if n % 512 == 0 => block(img, u, f, h),
+        _ => onward(img, u, f, h),
     }
-    if n == 0 {
-        return first(img, u, f, h);
-    }
-    if n == 512 {
-        return raise(img, u, f, h);
-    }
-    block(img, u, f, h)
 }
 
 // File f of user u grows by one page; its number comes back.

@@ -73,17 +73,12 @@ fn shrink_head(img: &mut [u16], u: usize, f: usize, h: Head)
     requires { Shrinking img.old u f h }
     ensures { vol img.new ≡ shrink (pages img.old) (vol img.old) u f }
 {
-    let last = h.count - 1;
-    if last % 512 != 0 {
-        return back(img, u, f, h);
+    match h.count - 1 {
+        0 => empty(img, u, f, h),
+        512 => lower(img, u, f, h),
+        last if last % 512 == 0 => block(img, u, f, h),
+        _ => back(img, u, f, h),
     }
-    if last == 0 {
-        return empty(img, u, f, h);
-    }
-    if last == 512 {
-        return lower(img, u, f, h);
-    }
-    block(img, u, f, h)
 }
 
 // File f of user u shrinks by one page.

@@ -7,13 +7,13 @@ use Rattle.growth.proofs.Deletes.{erased-freeing, erased-apart, delete-is}
 use Rattle.growth.proofs.delete.delete_head.Goals as goal
 
 pub held-gone-requires : goal.held-gone-requires
-held-gone-requires c = omega (arith, file-count-lt c.requires, c.requires.ready.whole.most)
+held-gone-requires c = omega (arith, file-count-lt c.requires)
 
 pub overflow_sub-h : goal.overflow_sub-h
-overflow_sub-h c = omega (arith, file-charged c.requires, c.held-gone.ensures)
+overflow_sub-h c = omega (arith, file-charged c.requires)
 
 pub erase-requires : goal.erase-requires
-erase-requires c = (c.requires.user, c.requires.file, c.requires.head.owner_in, c.requires.head.entry_in, omega (arith, file-used-lt c.requires, c.requires.ready.whole.most))
+erase-requires c = (c.requires.user, c.requires.file, c.requires.head.owner_in, c.requires.head.entry_in, omega (arith, file-used-lt c.requires))
 
 pub free_root-requires : goal.free_root-requires
 free_root-requires c = (erased-freeing c.requires _ _ c.erase.auto.img c.erase.ensures, erased-apart c.requires _ _ c.erase.auto.img c.erase.ensures)

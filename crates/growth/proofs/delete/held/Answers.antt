@@ -7,7 +7,7 @@ pub returns-then-flags-eq0 : goal.returns-then-flags-eq0
 returns-then-flags-eq0 c = held-run _ _ c.if-flags-eq0.true
 
 pub returns-then-n-le512 : goal.returns-then-n-le512
-returns-then-n-le512 c = held_low _ _ c.if-flags-eq0.false c.if-n-le512.true
+returns-then-n-le512 c = omega (arith, held_low _ c.args.n c.if-flags-eq0.false c.if-n-le512.true)
 
 pub returns : goal.returns
-returns c = held_high _ _ c.if-flags-eq0.false (omega arith)
+returns c = omega (arith, held_high _ c.args.n c.if-flags-eq0.false (omega arith))

@@ -1,6 +1,6 @@
 -- `growth::free::free_block`, `growth::free::free_pointer` meet their contracts. Assumes nothing.
 use mathlib.Core.Path.{◌≡◌}
-use Prim.Native.Nat.{◌+◌, ◌-◌, ◌*◌, ◌≤◌}
+use Prim.Native.Nat.{◌+◌, ◌*◌}
 use lib.ListN.{length}
 use Rattle.book.specs.Words.{vol}
 use Rattle.book.specs.Bits.{freed}
@@ -17,7 +17,4 @@ decreases-free_pointer l = 2 * l.level
 
 -- what the pointers passed name is freed
 abbrev pub invariant-free_block-loop-i : goal.invariant-free_block-loop-i
-invariant-free_block-loop-i l = (l.i ≤ 512) × (length l.img ≡ length l.initial.img) × (vol l.img ≡ freed (pages l.initial.img) (vol l.initial.img) (slots_of (vol l.initial.img) l.level l.t l.i))
-
-abbrev pub decreases-free_block-loop-i : goal.decreases-free_block-loop-i
-decreases-free_block-loop-i l = 512 - l.i
+invariant-free_block-loop-i l = (length l.img ≡ length l.initial.img) × (vol l.img ≡ freed (pages l.initial.img) (vol l.initial.img) (slots_of (vol l.initial.img) l.level l.t l.i))

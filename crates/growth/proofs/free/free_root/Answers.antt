@@ -10,7 +10,7 @@ pub returns-then-flags-eq0 : goal.returns-then-flags-eq0
 returns-then-flags-eq0 c = run_is _ (vol c.args.img.now) c.args.b c.args.flags c.args.t c.args.n c.requires.1 c.if-flags-eq0.true _ c.free_run.ensures
 
 pub free_pointer-requires : goal.free_pointer-requires
-free_pointer-requires c = (c.requires.0, tree_apart _ (vol c.args.img.now) c.args.b c.args.flags c.args.t c.args.n c.requires.1 c.if-flags-eq0.false)
+free_pointer-requires c = (c.requires.0, tree_apart _ (vol c.args.img.now) c.args.b c.args.flags c.args.t c.args.n c.requires.1 _ c.from.ensures c.if-flags-eq0.false)
 
 pub returns : goal.returns
-returns c = tree_is _ (vol c.args.img.now) c.args.b c.args.flags c.args.t c.args.n c.requires.1 c.if-flags-eq0.false _ c.free_pointer.ensures
+returns c = tree_is _ (vol c.args.img.now) c.args.b c.args.flags c.args.t c.args.n c.requires.1 _ c.from.ensures c.if-flags-eq0.false _ c.free_pointer.ensures

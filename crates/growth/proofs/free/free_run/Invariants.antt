@@ -1,6 +1,5 @@
 -- `growth::free::free_run` meets its contract. Assumes nothing.
 use mathlib.Core.Path.{◌≡◌}
-use Prim.Native.Nat.{◌-◌, ◌≤◌}
 use lib.ListN.{length}
 use Rattle.book.specs.Words.{vol}
 use Rattle.book.specs.Bits.{freed}
@@ -10,7 +9,4 @@ use Rattle.growth.proofs.free.free_run.Given as goal
 
 -- the pages passed are freed
 abbrev pub invariant-loop-i : goal.invariant-loop-i
-invariant-loop-i l = (l.i ≤ l.n) × (length l.img ≡ length l.initial.img) × (vol l.img ≡ freed (pages l.initial.img) (vol l.initial.img) (run_of l.s l.i))
-
-abbrev pub decreases-loop-i : goal.decreases-loop-i
-decreases-loop-i l = l.n - l.i
+invariant-loop-i l = (length l.img ≡ length l.initial.img) × (vol l.img ≡ freed (pages l.initial.img) (vol l.initial.img) (run_of l.s l.i))

@@ -13,16 +13,16 @@ take-b-requires c = can-take₂ c.requires.0 (need-more c.requires.0 c.requires.
 
 pub set_slot-requires : goal.set_slot-requires
 set_slot-requires c =
-    let some : 0 < c.args.h.count = omega (arith, c.requires.2) in
-    (omega (arith, (file-top c.requires.0.at c.requires.0.kind some).1), omega (arith, file-count-lt c.requires.0.at, c.requires.0.at.ready.whole.most), omega (arith, c.take-b.ensures.1, c.requires.0.at.ready.whole.most))
+    let some : 0 < c.args.h.count = omega arith in
+    (omega (arith, (file-top c.requires.0.at c.requires.0.kind some).1), omega (arith, file-count-lt c.requires.0.at), omega arith)
 
 pub overflow_add-h : goal.overflow_add-h
-overflow_add-h c = record { fits = omega (arith, file-used-lt c.requires.0.at, c.requires.0.at.ready.whole.most) }
+overflow_add-h c = record { fits = omega (arith, file-used-lt c.requires.0.at) }
 
 pub enter-requires : goal.enter-requires
 enter-requires c =
-    let some : 0 < c.args.h.count = omega (arith, c.requires.2) in
-    can-enter c.requires.0.at _ _ _ _ _ (omega (arith, c.img-4-1.given, c.img-3-1.given, c.img-2-1.given, c.img-1.given)) (omega (arith, file-count-lt c.requires.0.at, c.requires.0.at.ready.whole.most)) (omega arith) (file-top c.requires.0.at c.requires.0.kind some).1 (omega (arith, file-used-lt c.requires.0.at))
+    let some : 0 < c.args.h.count = omega arith in
+    can-enter c.requires.0.at _ _ _ _ _ (omega arith) (omega (arith, file-count-lt c.requires.0.at)) (omega arith) (file-top c.requires.0.at c.requires.0.kind some).1 (omega (arith, file-used-lt c.requires.0.at))
 
 pub returns : goal.returns
-returns c = block-is c.requires.0 _ _ c.take-d.ensures _ _ _ (omega (arith, c.img-1.given)) c.take-b.ensures c.requires.1 c.requires.2 _ _ _ c.set_slot.ensures c.set_slot-2.ensures c.enter.ensures
+returns c = block-is c.requires.0 _ _ c.take-d.ensures _ _ _ (omega arith) c.take-b.ensures c.requires.1 c.requires.2 _ _ _ c.set_slot.ensures c.set_slot-2.ensures c.enter.ensures

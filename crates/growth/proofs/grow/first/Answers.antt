@@ -11,10 +11,10 @@ pub take-b-requires : goal.take-b-requires
 take-b-requires c = can-take₂ c.requires.0 (need-first c.requires.0 c.requires.1) _ _ _ c.take-d.ensures (omega arith)
 
 pub overflow_add-h : goal.overflow_add-h
-overflow_add-h c = record { fits = omega (arith, file-used-lt c.requires.0.at, c.requires.0.at.ready.whole.most) }
+overflow_add-h c = record { fits = omega (arith, file-used-lt c.requires.0.at) }
 
 pub enter-requires : goal.enter-requires
-enter-requires c = can-enter c.requires.0.at _ _ _ _ _ (omega arith) (omega arith) (omega arith) (omega (arith, c.take-b.ensures.1)) (omega (arith, file-used-lt c.requires.0.at))
+enter-requires c = can-enter c.requires.0.at _ _ _ _ _ (omega arith) (omega arith) (omega arith) (omega arith) (omega (arith, file-used-lt c.requires.0.at))
 
 pub returns : goal.returns
-returns c = first-is c.requires.0 _ _ c.take-d.ensures _ _ _ (omega (arith, c.img-1.given)) c.take-b.ensures c.requires.1 _ _ c.set_slot.ensures c.enter.ensures
+returns c = first-is c.requires.0 _ _ c.take-d.ensures _ _ _ (omega arith) c.take-b.ensures c.requires.1 _ _ c.set_slot.ensures c.enter.ensures

@@ -16,14 +16,14 @@ take-s-requires c = can-take₃ c.requires.0 (need-top c.requires.0 c.requires.1
 
 pub set_slot-requires : goal.set_slot-requires
 set_slot-requires c =
-    let some : 0 < c.args.h.count = omega (arith, c.requires.1) in
-    (omega (arith, c.take-s.ensures.1), omega arith, omega (arith, (file-top c.requires.0.at c.requires.0.kind some).1, c.requires.0.at.ready.whole.most))
+    let some : 0 < c.args.h.count = omega arith in
+    (omega arith, omega arith, omega (arith, (file-top c.requires.0.at c.requires.0.kind some).1))
 
 pub overflow_add-h : goal.overflow_add-h
-overflow_add-h c = record { fits = omega (arith, file-used-lt c.requires.0.at, c.requires.0.at.ready.whole.most) }
+overflow_add-h c = record { fits = omega (arith, file-used-lt c.requires.0.at) }
 
 pub enter-requires : goal.enter-requires
-enter-requires c = can-enter c.requires.0.at _ _ _ _ _ (omega (arith, c.img-6-1.given, c.img-5-1.given, c.img-4-1.given, c.img-3-1.given, c.img-2-1.given, c.img-1.given)) (omega arith) (omega arith) (omega (arith, c.take-s.ensures.1, c.img-2-1.given, c.img-1.given)) (omega (arith, file-used-lt c.requires.0.at))
+enter-requires c = can-enter c.requires.0.at _ _ _ _ _ (omega arith) (omega arith) (omega arith) (omega arith) (omega (arith, file-used-lt c.requires.0.at))
 
 pub returns : goal.returns
-returns c = raise-is c.requires.0 _ _ c.take-d.ensures _ _ _ (omega (arith, c.img-1.given)) c.take-b.ensures _ _ _ (omega (arith, c.img-1.given, c.img-2-1.given)) c.take-s.ensures c.requires.1 _ _ _ _ c.set_slot.ensures c.set_slot-2.ensures c.set_slot-3.ensures c.enter.ensures
+returns c = raise-is c.requires.0 _ _ c.take-d.ensures _ _ _ (omega arith) c.take-b.ensures _ _ _ (omega arith) c.take-s.ensures c.requires.1 _ _ _ _ c.set_slot.ensures c.set_slot-2.ensures c.set_slot-3.ensures c.enter.ensures

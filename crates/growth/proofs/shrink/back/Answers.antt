@@ -18,12 +18,12 @@ pub overflow_sub-h : goal.overflow_sub-h
 overflow_sub-h c = omega (arith, file-paid c.requires.0.at c.requires.0.kind.0 (some c.requires.0))
 
 pub enter-requires : goal.enter-requires
-enter-requires c = can-enter c.requires.0.at _ _ _ _ _ (omega (arith, c.img-1.given)) (omega (arith, last-small c.requires.0)) (flags-in c.requires.0.at c.requires.0.kind.0 (some c.requires.0)).1 (top_lt c.requires.0) (omega (arith, file-used-lt c.requires.0.at))
+enter-requires c = can-enter c.requires.0.at _ _ _ _ _ (omega arith) (omega (arith, last-small c.requires.0)) (flags-in c.requires.0.at c.requires.0.kind.0 (some c.requires.0)).1 (top_lt c.requires.0) (omega (arith, file-used-lt c.requires.0.at))
 
 pub clear-requires : goal.clear-requires
 clear-requires c =
     let lt = back-lt c.requires.0 _ _ c.index_of-i.ensures c.slot_at-d.ensures.0 in
-    omega (arith, c.requires.0.at.head.bits_at.fits, c.img-2-1.given, c.img-1.given, lt.1)
+    omega (arith, lt.1)
 
 pub returns : goal.returns
 returns c = back_is c.requires.0 _ _ _ _ _ c.index_of-i.ensures c.slot_at-d.ensures.0 c.set_slot.ensures c.enter.ensures c.clear.ensures

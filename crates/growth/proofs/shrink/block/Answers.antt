@@ -9,26 +9,26 @@ pub slot_at-b-requires : goal.slot_at-b-requires
 slot_at-b-requires c = (omega (arith, top_lt c.requires.0), omega (arith, last-small c.requires.0))
 
 pub slot_at-d-requires : goal.slot_at-d-requires
-slot_at-d-requires c = (omega (arith, (block-lt c.requires.0 (omega (arith, c.requires.2)) _ _ _ (omega (arith, last-small c.requires.0)) c.slot_at-b.ensures.0 refl).0), omega arith)
+slot_at-d-requires c = (omega (arith, (block-lt c.requires.0 (omega arith) _ _ _ (omega (arith, last-small c.requires.0)) c.slot_at-b.ensures.0 refl).0), omega arith)
 
 pub set_slot-requires : goal.set_slot-requires
 set_slot-requires c = (omega (arith, top_lt c.requires.0), omega (arith, last-small c.requires.0), omega arith)
 
 pub overflow_sub-h : goal.overflow_sub-h
-overflow_sub-h c = omega (arith, file-paid c.requires.0.at c.requires.0.kind.0 (some c.requires.0), c.requires.2)
+overflow_sub-h c = omega (arith, file-paid c.requires.0.at c.requires.0.kind.0 (some c.requires.0))
 
 pub enter-requires : goal.enter-requires
-enter-requires c = can-enter c.requires.0.at _ _ _ _ _ (omega (arith, c.img-1.given)) (omega (arith, last-small c.requires.0)) (omega arith) (top_lt c.requires.0) (omega (arith, file-used-lt c.requires.0.at))
+enter-requires c = can-enter c.requires.0.at _ _ _ _ _ (omega arith) (omega (arith, last-small c.requires.0)) (omega arith) (top_lt c.requires.0) (omega (arith, file-used-lt c.requires.0.at))
 
 pub clear-requires : goal.clear-requires
 clear-requires c =
-    let lt = block-lt c.requires.0 (omega (arith, c.requires.2)) _ _ _ (omega (arith, last-small c.requires.0)) c.slot_at-b.ensures.0 c.slot_at-d.ensures.0 in
-    omega (arith, c.requires.0.at.head.bits_at.fits, c.img-2-1.given, c.img-1.given, lt.1)
+    let lt = block-lt c.requires.0 (omega arith) _ _ _ (omega (arith, last-small c.requires.0)) c.slot_at-b.ensures.0 c.slot_at-d.ensures.0 in
+    omega (arith, lt.1)
 
 pub clear-requires-2 : goal.clear-requires-2
 clear-requires-2 c =
-    let lt = block-lt c.requires.0 (omega (arith, c.requires.2)) _ _ _ (omega (arith, last-small c.requires.0)) c.slot_at-b.ensures.0 c.slot_at-d.ensures.0 in
-    omega (arith, c.requires.0.at.head.bits_at.fits, c.img-3-1.given, c.img-2-1.given, c.img-1.given, lt.0)
+    let lt = block-lt c.requires.0 (omega arith) _ _ _ (omega (arith, last-small c.requires.0)) c.slot_at-b.ensures.0 c.slot_at-d.ensures.0 in
+    omega (arith, lt.0)
 
 pub returns : goal.returns
 returns c = block-is c.requires.0 c.requires.1 c.requires.2 _ _ _ _ _ _ c.slot_at-b.ensures.0 c.slot_at-d.ensures.0 c.set_slot.ensures c.enter.ensures c.clear.ensures c.clear-2.ensures
