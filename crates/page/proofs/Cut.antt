@@ -144,9 +144,6 @@ module _ (n : ℕ) (even : n % 2 ≡ 0) (w : Words) (k : ℕ) (x : Words) (j : �
   one : end_of n w k ≡ end_of n x j → ((b : ℕ) → b < end_of n w k → get_or (stored n w k) b 0 ≡ get_or (stored n x j) b 0) → stored n w k ≡ stored n x j
   one e f = ext_get_or 0 (stored n w k) (stored n x j) (stored-length n w k ∙ e ∙ sym (stored-length n x j)) (λ b h. f b (omega (arith, stored-length n w k)))
 
-  pub alike-none : Alike n w k x j 0
-  alike-none = record { first = omega arith; second = omega arith; same = λ b h. absurd (let r : ⊥ = omega arith in r) }
-
   module _ (i : ℕ) (a : Alike n w k x j i) where
     -- all words passed
     pub alike_all : n ≤ 2 * i → stored n w k ≡ stored n x j

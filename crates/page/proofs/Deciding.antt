@@ -1,7 +1,7 @@
 -- Tests that decide a fact, beside those of the book. Assumes nothing.
 use mathlib.Core.Path.{◌≡◌, refl}
 use mathlib.Core.Bool.{Bool, true, false}
-use Prim.Native.Nat.{ℕ, ◌≤◌}
+use Prim.Native.Nat.{ℕ, ◌≤◌, ◌<◌}
 use native.Mathlib.Omega.{arith}
 use lib.Dec.{eqb, leb}
 use borrow.Author.Tests.{eqb-true, eqb-false, leb-true, leb-false}
@@ -36,3 +36,10 @@ decides_eq m n = decides-by (eqb m n) _ (eqb-true m n) (eqb-false m n)
 
 pub decides-le : (m n : ℕ) → Decides (leb m n) (m ≤ n)
 decides-le m n = decides-by (leb m n) _ (leb-true m n) (λ e h. omega (arith, leb-false m n e))
+
+-- what a comparison that is known decides
+pub decides_le-yes : (m n : ℕ) (A : Type 0) → m ≤ n → A → Decides (leb m n) A
+decides_le-yes m n A l a = decides-iff (leb m n) (m ≤ n) A (λ h. a) (λ h. l) (decides-le m n)
+
+pub decides_le-no : (m n : ℕ) (A : Type 0) → n < m → (A → ⊥) → Decides (leb m n) A
+decides_le-no m n A l f = decides-iff (leb m n) (m ≤ n) A (λ h. absurd (let r : ⊥ = omega arith in r)) (λ a. absurd (f a)) (decides-le m n)

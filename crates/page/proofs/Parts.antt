@@ -5,19 +5,12 @@ use Prim.Native.Nat.{ℕ, ◌+◌, ◌-◌, ◌*◌, ◌≤◌, ◌<◌}
 use native.Mathlib.Nat.{add-sub_cancel_left}
 use native.Mathlib.Decide.{ℕ_discrete, dec_lt}
 use native.Mathlib.Omega.{arith}
-use lib.ListN.{length, get_or, take, drop, set, get_or-append}
-use lib.Seq.{length-take-le, get_or-take, get_or-drop, get_or-append-add, get_or-set_same, get_or-set_other}
+use lib.ListN.{length, get_or, take, drop, get_or-append}
+use lib.Seq.{length-take-le, get_or-take, get_or-drop, get_or-append-add}
 use borrow.Rule.Slice.PartMut.{mid_of, post_of, put_mid, mid_len}
 use Rattle.book.specs.Words.{Words, vol, put_words, wipe, zeros}
 use Rattle.book.specs.Written.{vol-in, vol-out, put_words-here, put_words-page, put_words-low, put_words-high, wipe-here, wipe-page}
 use Rattle.page.specs.Parts.{Begins}
-
--- one word more
-pub begins-more : (n : ℕ) (xs : List ℕ) (x : ℕ) (w : Words) → n < length xs → Begins n xs w → x ≡ w n → Begins (n + 1) (set xs n x) w
-begins-more n xs x w l h e k m = elim (ℕ_discrete k n) [
-  | yes q ↦ ap (λ (i : ℕ). get_or (set xs n x) i 0) q ∙ get_or-set_same xs n x 0 l ∙ e ∙ ap w (sym q)
-  | no q ↦ get_or-set_other xs n k x 0 q ∙ h k (omega arith)
-]
 
 -- ---- words of a list whose n words from a on came back as ys
 

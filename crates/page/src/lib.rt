@@ -1,7 +1,6 @@
-// The words of one page of an image: numbers, pointers, entries and names in it. Contracts speak of the volume, `vol (now img)`.
+// The words of one page of an image: numbers, pointers, entries and names in it. Contracts speak of the volume, `vol img.now`.
 #![tactic(auto)]
 
-// The words of one page of an image: numbers, pointers, entries and names in it. Contracts speak of the volume, `vol img.now`.
 pub mod entry;
 pub mod names;
 pub mod read;
@@ -21,7 +20,7 @@ pub const BITS: usize = 1020;
 
 pub const UNRESERVED: usize = 1022;
 
-// The flags of a pointer to an index block, and to a subindex block.
+// The flags of a pointer to an index block, and to a subindex block. Numbers: a disk's flags may be any, and the book's rules judge them.
 pub const INDEXED: u16 = 1;
 
 pub const SUBINDEXED: u16 = 2;

@@ -16,43 +16,14 @@ const APOSTROPHE: u8 = b'\'';
 pub fn letter(b: u8) -> bool
     ensures { Decides result (Letter b) }
 {
-    match b {
-        b'A'..=b'Z' | b'0'..=b'9' | b'-' => true,
-        _ => false,
-    }
+    matches!(b, b'A'..=b'Z' | b'0'..=b'9' | b'-')
 }
 
 // Whether s is m to n such bytes.
 pub fn text(s: &[u8], m: usize, n: usize) -> bool
     ensures { Decides result (Text m n s.now) }
 {
-    if s.len() < m {
-        return false;
-    }
-    if n < s.len() {
-        return false;
-    }
-    let mut i: usize = 0;
-    while i < s.len() {
-        if !letter(s[i]) {
-            return false;
-        }
-        i += 1;
-    }
-    true
-}
-
-// The two bytes of a word.
-fn high(w: u16) -> u8
-    ensures { result ≡ w / 256 }
-{
-    (w / 256) as u8
-}
-
-fn low(w: u16) -> u8
-    ensures { result ≡ w % 256 }
-{
-    (w % 256) as u8
+    (m..=n).contains(&s.len()) && s.iter().all(|&b| letter(b))
 }
 
 // How many of the n bytes from word k of page p on are letters, up to the first that is not.
@@ -60,16 +31,14 @@ fn letters_at(img: &[u16], p: usize, k: usize, n: usize) -> usize
     requires { (1024 * p + 1024 ≤ length img.now) × (n % 2 ≡ 0) × (k + n / 2 ≤ 1024) }
     ensures { Letters n (vol img.now p) k result }
 {
-    let mut i: usize = 0;
-    while i < n / 2 {
-        let w = word_at(img, p, k + i);
-        if !letter(high(w)) {
+    for i in 0..n / 2 {
+        let [high, low] = word_at(img, p, k + i).to_be_bytes();
+        if !letter(high) {
             return 2 * i;
         }
-        if !letter(low(w)) {
+        if !letter(low) {
             return 2 * i + 1;
         }
-        i += 1;
     }
     n
 }
@@ -78,10 +47,7 @@ fn letters_at(img: &[u16], p: usize, k: usize, n: usize) -> usize
 fn ends_name(b: u8) -> bool
     ensures { Decides result (0 < ends b) }
 {
-    if b == APOSTROPHE {
-        return true;
-    }
-    b == 0
+    b == APOSTROPHE || b == 0
 }
 
 // Byte i of those from word k of page p on.
@@ -89,11 +55,7 @@ pub fn byte_at(img: &[u16], p: usize, k: usize, i: usize) -> u8
     requires { (1024 * p + 1024 ≤ length img.now) × (k + i / 2 < 1024) }
     ensures { result ≡ byte_at (vol img.now p) k i }
 {
-    let w = word_at(img, p, k + i / 2);
-    if i % 2 == 0 {
-        return high(w);
-    }
-    low(w)
+    word_at(img, p, k + i / 2).to_be_bytes()[i % 2]
 }
 
 // Whether the name in the n bytes from word k of page p on is m or more letters: what follows the letters ends it.
@@ -102,13 +64,7 @@ pub fn legal_at(img: &[u16], p: usize, k: usize, m: usize, n: usize) -> bool
     ensures { Decides result (Text m n (stored n (vol img.now p) k)) }
 {
     let l = letters_at(img, p, k, n);
-    if l < m {
-        return false;
-    }
-    if n <= l {
-        return true;
-    }
-    ends_name(byte_at(img, p, k, l))
+    m <= l && (n <= l || ends_name(byte_at(img, p, k, l)))
 }
 
 // Where the name in the n bytes from word k of page p on ends.
@@ -116,12 +72,10 @@ pub fn end_at(img: &[u16], p: usize, k: usize, n: usize) -> usize
     requires { (1024 * p + 1024 ≤ length img.now) × (n % 2 ≡ 0) × (k + n / 2 ≤ 1024) }
     ensures { result ≡ end_of n (vol img.now p) k }
 {
-    let mut i: usize = 0;
-    while i < n {
+    for i in 0..n {
         if ends_name(byte_at(img, p, k, i)) {
             return i;
         }
-        i += 1;
     }
     n
 }
@@ -130,10 +84,11 @@ pub fn end_at(img: &[u16], p: usize, k: usize, n: usize) -> usize
 pub fn cut(w: u16) -> u16
     ensures { result ≡ cut_word w }
 {
-    if ends_name(high(w)) {
+    let [high, low] = w.to_be_bytes();
+    if ends_name(high) {
         return 0;
     }
-    if ends_name(low(w)) {
+    if ends_name(low) {
         return w / 256 * 256;
     }
     w
@@ -143,10 +98,8 @@ pub fn cut(w: u16) -> u16
 pub fn ends_in(w: u16) -> bool
     ensures { Decides result (cut_word w % 256 ≡ 0) × (result ≡ false → cut_word w ≡ w) }
 {
-    if ends_name(high(w)) {
-        return true;
-    }
-    ends_name(low(w))
+    let [high, low] = w.to_be_bytes();
+    ends_name(high) || ends_name(low)
 }
 
 // Whether the name in the n bytes from word j of page p on is the one from word k of page q on, which ends at byte l.
@@ -154,17 +107,13 @@ pub fn same_at(img: &[u16], p: usize, j: usize, q: usize, k: usize, n: usize, l:
     requires { (1024 * p + 1024 ≤ length img.now) × (1024 * q + 1024 ≤ length img.now) × (n % 2 ≡ 0) × (j + n / 2 ≤ 1024) × (k + n / 2 ≤ 1024) × (l ≡ end_of n (vol img.now q) k) }
     ensures { Decides result (stored n (vol img.now p) j ≡ stored n (vol img.now q) k) }
 {
-    let mut i: usize = 0;
-    while i < l / 2 {
+    let whole = l / 2;
+    for i in 0..whole {
         if word_at(img, p, j + i) != word_at(img, q, k + i) {
             return false;
         }
-        i += 1;
     }
-    if n <= l {
-        return true;
-    }
-    cut(word_at(img, p, j + i)) == cut(word_at(img, q, k + i))
+    n <= l || cut(word_at(img, p, j + whole)) == cut(word_at(img, q, k + whole))
 }
 
 // Whether the name in the n bytes from word k of page p on is s.
@@ -176,25 +125,23 @@ pub fn named_at(img: &[u16], p: usize, k: usize, n: usize, s: &[u8]) -> bool
     if l != s.len() {
         return false;
     }
-    let mut i: usize = 0;
-    while i < l {
-        if byte_at(img, p, k, i) != s[i] {
+    for (i, &b) in s.iter().enumerate() {
+        if byte_at(img, p, k, i) != b {
             return false;
         }
-        i += 1;
     }
     true
 }
 
 // Byte i of s as it is written: an apostrophe at its end, and zeros after that.
-fn written_byte(s: &[u8], i: usize) -> u16
-    ensures { (result ≡ get_or (s.now ++ (apostrophe ∷ [])) i 0) × (result < 256) }
+fn written_byte(s: &[u8], i: usize) -> u8
+    ensures { result ≡ get_or (s.now ++ (apostrophe ∷ [])) i 0 }
 {
     if i < s.len() {
-        return s[i] as u16;
+        return s[i];
     }
     if i == s.len() {
-        return APOSTROPHE as u16;
+        return APOSTROPHE;
     }
     0
 }
@@ -204,7 +151,7 @@ fn packed_word(s: &[u8], i: usize) -> u16
     requires { i < 1024 }
     ensures { result ≡ packed s.now i }
 {
-    written_byte(s, 2 * i) * 256 + written_byte(s, 2 * i + 1)
+    u16::from_be_bytes([written_byte(s, 2 * i), written_byte(s, 2 * i + 1)])
 }
 
 // All words of a part become those of s as it is written.
@@ -212,10 +159,8 @@ fn pack(part: &mut [u16], s: &[u8])
     requires { length part.old ≤ 1024 }
     ensures { Begins (length part.old) part.new (packed s.now) }
 {
-    let mut i: usize = 0;
-    while i < part.len() {
-        part[i] = packed_word(s, i);
-        i += 1;
+    for (i, w) in part.iter_mut().enumerate() {
+        *w = packed_word(s, i);
     }
 }
 

@@ -6,18 +6,12 @@ ghost use Rattle.page.specs.Parts.{word_from};
 
 use crate::WORDS;
 
-fn wide(x: u16) -> u32
-    ensures { (result ≡ x) × (result < 65536) }
-{
-    x as u32
-}
-
 // The two-word number at word k of a part, the more significant word first.
 pub fn dword(part: &[u16], k: usize) -> u32
     requires { k + 1 < length part.now }
     ensures { (result ≡ get_or part.now k 0 * 65536 + get_or part.now (k + 1) 0) × (result < 4294967296) }
 {
-    wide(part[k]) * 65536 + wide(part[k + 1])
+    u32::from(part[k]) * 65536 + u32::from(part[k + 1])
 }
 
 // The page number of the pointer at word k of a part, without its flags.
@@ -25,7 +19,7 @@ fn dpage(part: &[u16], k: usize) -> u32
     requires { k + 1 < length part.now }
     ensures { (result ≡ get_or part.now k 0 % 16384 * 65536 + get_or part.now (k + 1) 0) × (result < 1073741824) }
 {
-    wide(part[k]) % 16384 * 65536 + wide(part[k + 1])
+    u32::from(part[k]) % 16384 * 65536 + u32::from(part[k + 1])
 }
 
 // Word k of page p.
@@ -72,7 +66,7 @@ pub fn flags_at(img: &[u16], p: usize, k: usize) -> u16
     word_at(img, p, k) / 16384
 }
 
-// Pointer n of the block in page b; a block that is absent, b = 0, has only zeros.
+// Pointer n of the block in page b; a block that is absent, b = 0, has only zeros. An `as`: a u32 becomes a usize by no `From`.
 pub fn slot_at(img: &[u16], b: usize, n: usize) -> usize
     requires { (1024 * b + 1024 ≤ length img.now) × (n < 512) }
     ensures { (result ≡ slot (vol img.now) b n) × (result < 4294967296) }

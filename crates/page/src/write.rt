@@ -6,18 +6,6 @@ ghost use Rattle.page.specs.Parts.{Begins};
 
 use crate::WORDS;
 
-fn high(x: u32) -> u16
-    ensures { result ≡ x / 65536 }
-{
-    (x / 65536) as u16
-}
-
-fn low(x: u32) -> u16
-    ensures { result ≡ x % 65536 }
-{
-    (x % 65536) as u16
-}
-
 // Word k of page p becomes x.
 pub fn put_word(img: &mut [u16], p: usize, k: usize, x: u16)
     requires { (1024 * p + 1024 ≤ length img.old) × (k < 1024) }
@@ -39,39 +27,16 @@ pub fn put_two(img: &mut [u16], p: usize, k: usize, x: u32)
     requires { (1024 * p + 1024 ≤ length img.old) × (k < 1023) }
     ensures { vol img.new ≡ put2 (vol img.old) p k x }
 {
-    put_word(img, p, k, high(x));
-    put_word(img, p, k + 1, low(x));
+    put_word(img, p, k, (x / 65536) as u16);
+    put_word(img, p, k + 1, (x % 65536) as u16);
 }
 
-// The pointer with these flags to page t.
+// The pointer with these flags to page t. An `as`: a usize becomes a u32 by no `From`, and a `try_from` would ask again what is required.
 pub fn pointer_to(flags: u16, t: usize) -> u32
     requires { (flags < 4) × (t < 1073741824) }
     ensures { result ≡ pointer flags t }
 {
-    flags as u32 * 1073741824 + t as u32
-}
-
-// All words of a part become 0.
-fn zero_words(part: &mut [u16])
-    ensures { Begins (length part.old) part.new zeros }
-{
-    let mut i: usize = 0;
-    while i < part.len() {
-        part[i] = 0;
-        i += 1;
-    }
-}
-
-// All words of a part become those of another.
-fn copy_words(part: &mut [u16], from: &[u16])
-    requires { length part.old ≤ length from.now }
-    ensures { Begins (length part.old) part.new (λ k. get_or from.now k 0) }
-{
-    let mut i: usize = 0;
-    while i < part.len() {
-        part[i] = from[i];
-        i += 1;
-    }
+    u32::from(flags) * 1073741824 + t as u32
 }
 
 // The n words from word k of page p on become zeros.
@@ -81,7 +46,7 @@ pub(crate) fn zero_at(img: &mut [u16], p: usize, k: usize, n: usize)
 {
     let a = WORDS * p + k;
     let z = a + n;
-    zero_words(&mut img[a..z]);
+    img[a..z].fill(0);
 }
 
 // Page p becomes zeros.
@@ -99,5 +64,5 @@ pub fn copy_page(img: &mut [u16], p: usize, data: &[u16])
 {
     let a = WORDS * p;
     let z = a + WORDS;
-    copy_words(&mut img[a..z], data);
+    img[a..z].copy_from_slice(data);
 }

@@ -19,10 +19,10 @@ unfolding ends
 zero-ends b e = omega (arith, ap ends e, is_same 0)
 
 pub returns-then-b-eq-APOSTROPHE : goal.returns-then-b-eq-APOSTROPHE
-returns-then-b-eq-APOSTROPHE c = apostrophe-ends _ c.if-b-eq-APOSTROPHE.true
+returns-then-b-eq-APOSTROPHE c = decides-iff (eqb c.args.b 39) (c.args.b ≡ 39) (0 < ends c.args.b) (apostrophe-ends c.args.b) (λ h. c.if-b-eq-APOSTROPHE.true) (decides_eq c.args.b 39)
 
-pub returns : goal.returns
-returns c =
+pub returns-else-b-eq-APOSTROPHE : goal.returns-else-b-eq-APOSTROPHE
+returns-else-b-eq-APOSTROPHE c =
     decides-iff (eqb c.args.b 0) (c.args.b ≡ 0) (0 < ends c.args.b) (zero-ends c.args.b) (λ h. elim (ℕ_discrete c.args.b 0) [
       | yes e ↦ e
       | no n ↦ absurd (let r : ⊥ = omega (arith, h, ends-not c.args.b c.if-b-eq-APOSTROPHE.false n) in r)

@@ -1,12 +1,9 @@
 -- `page::names::letters_at` meets its contract. Assumes nothing.
-use Prim.Native.Nat.{ℕ, ◌*◌, ◌/◌, ◌≤◌, ◌<◌, ◌-◌}
+use Prim.Native.Nat.{ℕ, ◌*◌, ◌<◌}
 use Rattle.book.specs.Words.{vol}
 use Rattle.book.specs.Names.{Letter, byte_at}
 use Rattle.page.proofs.names.letters_at.Given as goal
 
 -- both bytes of each word passed are letters
 abbrev pub invariant-loop-i : goal.invariant-loop-i
-invariant-loop-i l = (l.i ≤ l.n / 2) × ((j : ℕ) → j < 2 * l.i → Letter (byte_at (vol l.img l.p) l.k j))
-
-abbrev pub decreases-loop-i : goal.decreases-loop-i
-decreases-loop-i l = l.n / 2 - l.i
+invariant-loop-i l = (j : ℕ) → j < 2 * l.i → Letter (byte_at (vol l.img l.p) l.k j)

@@ -5,7 +5,6 @@ use Prim.Native.Nat.{ℕ, ◌<◌}
 use native.Mathlib.Omega.{arith}
 use lib.ListN.{length, get_or}
 use lib.Seq.{ext_get_or}
-use borrow.Author.Count.{below_none, below_more}
 use Rattle.book.specs.Words.{Words, vol}
 use Rattle.book.specs.Names.{byte_at, end_of, stored}
 use Rattle.laws.specs.File.Stored.{end_is, stored-length, stored_at}
@@ -25,17 +24,11 @@ module _ (n : ℕ) (w : Words) (k l : ℕ) (e : l ≡ end_of n w k) (s : List �
 pub returns-then-l-s : goal.returns-then-l-s
 returns-then-l-s c = other_length c.args.n (vol c.args.img.now c.args.p) c.args.k c.end_at-l.result c.end_at-l.ensures c.args.s.now c.if-l-s.true
 
-pub loop-i-init : goal.loop-i-init
-loop-i-init c = (omega arith, below_none _)
-
 pub byte_at-requires : goal.byte_at-requires
 byte_at-requires c = omega (arith, c.end_at-l.ensures, (end_is c.args.n (vol c.args.img.now c.args.p) c.args.k).most)
 
-pub returns-then-byte_at-s : goal.returns-then-byte_at-s
-returns-then-byte_at-s c = other_byte c.args.n (vol c.args.img.now c.args.p) c.args.k c.end_at-l.result c.end_at-l.ensures c.args.s.now c.loop-i.i c.byte_at.result c.loop-i-test.true c.byte_at.ensures c.if-byte_at-s.true
-
-pub loop-i-preserved : goal.loop-i-preserved
-loop-i-preserved c = (omega arith, below_more _ c.loop-i.i c.loop-i.invariant.1 (sym c.byte_at.ensures ∙ c.if-byte_at-s.false))
+pub returns-then-byte_at-b : goal.returns-then-byte_at-b
+returns-then-byte_at-b c = other_byte c.args.n (vol c.args.img.now c.args.p) c.args.k c.end_at-l.result c.end_at-l.ensures c.args.s.now c.loop-i.i c.byte_at.result (omega arith) c.byte_at.ensures c.if-byte_at-b.true
 
 pub returns : goal.returns
-returns c = all-bytes c.args.n (vol c.args.img.now c.args.p) c.args.k c.end_at-l.result c.end_at-l.ensures c.args.s.now c.if-l-s.false (λ j h. c.loop-i.invariant.1 j (omega arith))
+returns c = all-bytes c.args.n (vol c.args.img.now c.args.p) c.args.k c.end_at-l.result c.end_at-l.ensures c.args.s.now c.if-l-s.false (λ j h. c.loop-i.invariant j (omega arith))

@@ -1,14 +1,8 @@
 -- `page::names::pack` meets its contract. Assumes nothing.
-use mathlib.Core.Path.{◌≡◌}
-use Prim.Native.Nat.{◌≤◌, ◌-◌}
-use lib.ListN.{length}
 use Rattle.book.specs.Names.{packed}
 use Rattle.page.specs.Parts.{Begins}
 use Rattle.page.proofs.names.pack.Given as goal
 
--- the words passed are those of the stored form
+-- the words passed are those of s as it is written
 abbrev pub invariant-loop-i : goal.invariant-loop-i
-invariant-loop-i l = (l.i ≤ length l.initial.part) × (length l.part ≡ length l.initial.part) × Begins l.i l.part (packed l.s)
-
-abbrev pub decreases-loop-i : goal.decreases-loop-i
-decreases-loop-i l = length l.initial.part - l.i
+invariant-loop-i l = Begins l.i l.part (packed l.s)

@@ -1,5 +1,5 @@
 -- `page::names::same_at` meets its contract. Assumes nothing.
-use mathlib.Core.Path.{◌≡◌, sym, ap, ◌∙◌}
+use mathlib.Core.Path.{◌≡◌, sym, ap, ◌∙◌, subst}
 use mathlib.Core.List.{List}
 use Prim.Native.Nat.{ℕ, ◌+◌, ◌*◌, ◌/◌, ◌%◌, ◌≤◌, ◌<◌}
 use native.Mathlib.Decide.{ℕ_discrete}
@@ -11,8 +11,8 @@ use Rattle.book.specs.Names.{end_of, words_of, stored}
 use Rattle.book.specs.Decides.{Decides}
 use Rattle.laws.specs.File.Stored.{end_is, stored-length}
 use Rattle.page.specs.Cut.{Alike, cut_word}
-use Rattle.page.proofs.Cut.{cut-is, word-whole, low-ended, low_goes, alike-none, alike-more, alike_end, alike_all}
-use Rattle.page.proofs.Deciding.{decides-iff, decides_eq}
+use Rattle.page.proofs.Cut.{cut-is, word-whole, low-ended, low_goes, alike-more, alike_end, alike_all}
+use Rattle.page.proofs.Deciding.{decides-iff, decides_eq, decides_le-yes}
 use Rattle.page.proofs.names.same_at.Goals as goal
 
 module _ (n : ℕ) (even : n % 2 ≡ 0) (w : Words) (j : ℕ) (x : Words) (k l : ℕ) (le : l ≡ end_of n x k) where
@@ -60,12 +60,6 @@ module _ (n : ℕ) (even : n % 2 ≡ 0) (w : Words) (j : ℕ) (x : Words) (k l :
             let word : words_of (stored n w j) i ≡ words_of (stored n x k) i = sym (first inside) ∙ ap cut_word e ∙ second inside in
             alike-more n even w j x k i s word (λ z. omega (arith, le, low-ended n even x k i (sym (ap (λ (t : ℕ). t % 256) word) ∙ z)))
 
-pub loop-i-init : goal.loop-i-init
-loop-i-init c = (omega arith, alike-none c.args.n c.requires.2 (vol c.args.img.now c.args.p) c.args.j (vol c.args.img.now c.args.q) c.args.k)
-
-pub overflow_add-j : goal.overflow_add-j
-overflow_add-j c = omega (arith, within c.args.n c.requires.2 (vol c.args.img.now c.args.p) c.args.j (vol c.args.img.now c.args.q) c.args.k c.args.l c.requires.5)
-
 pub word_at-requires : goal.word_at-requires
 word_at-requires c = omega (arith, within c.args.n c.requires.2 (vol c.args.img.now c.args.p) c.args.j (vol c.args.img.now c.args.q) c.args.k c.args.l c.requires.5)
 
@@ -74,20 +68,21 @@ word_at-requires-in-loop-i c = omega (arith, within c.args.n c.requires.2 (vol c
 
 pub returns-then-word_at : goal.returns-then-word_at
 returns-then-word_at c =
-    other c.args.n c.requires.2 (vol c.args.img.now c.args.p) c.args.j (vol c.args.img.now c.args.q) c.args.k c.args.l c.requires.5 c.loop-i.i c.loop-i.invariant.1 c.word_at.result c.word_at-in-loop-i.result c.word_at.ensures c.word_at-in-loop-i.ensures (omega arith) (omega arith)
+    other c.args.n c.requires.2 (vol c.args.img.now c.args.p) c.args.j (vol c.args.img.now c.args.q) c.args.k c.args.l c.requires.5 c.loop-i.i c.loop-i.invariant c.word_at.result c.word_at-in-loop-i.result c.word_at.ensures c.word_at-in-loop-i.ensures (omega arith) (omega arith)
     c.loop-i-test.true c.if-word_at.true
 
 pub loop-i-preserved : goal.loop-i-preserved
-loop-i-preserved c = (
-  omega arith,
-  goes c.args.n c.requires.2 (vol c.args.img.now c.args.p) c.args.j (vol c.args.img.now c.args.q) c.args.k c.args.l c.requires.5 c.loop-i.i c.loop-i.invariant.1 c.word_at.result c.word_at-in-loop-i.result c.word_at.ensures c.word_at-in-loop-i.ensures (omega arith) (omega arith)
-      c.loop-i-test.true c.if-word_at.false,
-)
+loop-i-preserved c =
+    goes c.args.n c.requires.2 (vol c.args.img.now c.args.p) c.args.j (vol c.args.img.now c.args.q) c.args.k c.args.l c.requires.5 c.loop-i.i c.loop-i.invariant c.word_at.result c.word_at-in-loop-i.result c.word_at.ensures c.word_at-in-loop-i.ensures (omega arith) (omega arith)
+    c.loop-i-test.true c.if-word_at.false
 
 pub returns-then-n-l : goal.returns-then-n-l
-returns-then-n-l c = all c.args.n c.requires.2 (vol c.args.img.now c.args.p) c.args.j (vol c.args.img.now c.args.q) c.args.k c.args.l c.requires.5 c.loop-i.i c.loop-i.invariant.1 (omega arith) (omega arith) (omega arith)
+returns-then-n-l c = decides_le-yes c.args.n c.args.l _ (omega arith) (all c.args.n c.requires.2 (vol c.args.img.now c.args.p) c.args.j (vol c.args.img.now c.args.q) c.args.k c.args.l c.requires.5 c.loop-i.i c.loop-i.invariant (omega arith) (omega arith) (omega arith))
 
-pub returns : goal.returns
-returns c =
-    last c.args.n c.requires.2 (vol c.args.img.now c.args.p) c.args.j (vol c.args.img.now c.args.q) c.args.k c.args.l c.requires.5 c.loop-i.i c.loop-i.invariant.1 c.word_at-2.result c.word_at-3.result c.word_at-2.ensures c.word_at-3.ensures (omega arith) (omega arith) (omega arith)
-    c.cut.result c.cut-2.result c.cut.ensures c.cut-2.ensures (omega arith)
+pub returns-else-n-l : goal.returns-else-n-l
+returns-else-n-l c =
+    let i : c.loop-i.i ≡ c.args.l / 2 = omega arith in
+    last c.args.n c.requires.2 (vol c.args.img.now c.args.p) c.args.j (vol c.args.img.now c.args.q) c.args.k c.args.l c.requires.5 (c.args.l / 2)
+    (subst (λ (m : ℕ). Alike c.args.n (vol c.args.img.now c.args.p) c.args.j (vol c.args.img.now c.args.q) c.args.k m) i c.loop-i.invariant)
+    c.word_at-else-n-l.result c.word_at-else-n-l-2.result c.word_at-else-n-l.ensures c.word_at-else-n-l-2.ensures (omega arith) (omega arith) (omega arith)
+    c.cut.result c.cut-else-n-l.result c.cut.ensures c.cut-else-n-l.ensures (omega arith)

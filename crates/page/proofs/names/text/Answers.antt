@@ -1,28 +1,25 @@
 -- `page::names::text` meets its contract. Assumes nothing.
+use Rattle.std.proofs.Common.{ℕ, ◌<◌, ◌≤◌, Bool, true, false, rules, tests}
+use mathlib.Core.List.{List}
 use native.Mathlib.Omega.{arith}
-use borrow.Author.Count.{below_none, below_more}
-use Rattle.book.specs.Names.{Text}
-use Rattle.book.specs.Decides.{holds, fails}
+use lib.ListN.{length}
+use Rattle.std.specs.Bool.{MatchBool}
+use Rattle.std.specs.List.{AllWithin, HoldsAt}
+use Rattle.std.proofs.lemmas.Iterator.{cases_from_all, YieldsList-from_slice}
+use Rattle.book.specs.Decides.{Decides}
+use Rattle.book.specs.Names.{Letter, Text}
 use Rattle.page.proofs.names.text.Goals as goal
 
-pub returns-then-s-m : goal.returns-then-s-m
+text-by : (m n : ℕ) (s : List ℕ) (r : Bool) → m ≤ length s → length s ≤ n → MatchBool r (AllWithin Letter s 0 (length s)) ((k : ℕ) × (k < length s) × HoldsAt (λ b. Letter b → ⊥) s k) → Decides r (Text m n s)
 unfolding Text
-returns-then-s-m c = λ t. omega (arith, t.0)
+text-by m n s true a b h = (a, b, λ i l. h i 0 (omega arith) l)
+text-by m n s false a b h = λ t. h.2 0 (t.2 h.0 h.1)
 
-pub returns-then-n-s : goal.returns-then-n-s
+pub returns-then-contains : goal.returns-then-contains
+returns-then-contains c =
+    let g : (c.args.m ≤ length c.args.s.now) × (length c.args.s.now ≤ c.args.n) = search (rules, tests) in
+    text-by c.args.m c.args.n c.args.s.now c.all.result g.0 g.1 (cases_from_all _ _ _ Letter (λ b. Letter b → ⊥) c.all.ensures.ran (YieldsList-from_slice c.args.s.now cc) (λ x q k. search (rules, tests)) (λ x q k. search (rules, tests)))
+
+pub returns-else-contains : goal.returns-else-contains
 unfolding Text
-returns-then-n-s c = λ t. omega (arith, t.1)
-
-pub loop-i-init : goal.loop-i-init
-loop-i-init c = (omega arith, below_none _)
-
-pub returns-then-not-letter : goal.returns-then-not-letter
-unfolding Text
-returns-then-not-letter c = λ t. fails c.letter.result _ c.letter.ensures c.if-not-letter.true-raw (t.2 c.loop-i.i (omega arith))
-
-pub loop-i-preserved : goal.loop-i-preserved
-loop-i-preserved c = (omega arith, below_more _ c.loop-i.i c.loop-i.invariant.1 (holds c.letter.result _ c.letter.ensures c.if-not-letter.false-raw))
-
-pub returns : goal.returns
-unfolding Text
-returns c = (omega arith, omega arith, λ i h. c.loop-i.invariant.1 i (omega arith))
+returns-else-contains c = search (rules, tests)
