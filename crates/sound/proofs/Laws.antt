@@ -4,14 +4,13 @@ use mathlib.Core.Logic.{inl, inr}
 use mathlib.Core.Bool.{Bool, true}
 use mathlib.Core.List.{List}
 use Prim.Native.Nat.{ℕ, ◌<◌}
+use Rattle.std.specs.Prelude.{Result, Ok, Err}
 use Rattle.book.specs.Words.{Vol, vol}
 use Rattle.book.specs.Bits.{bit}
 use Rattle.book.specs.Pointers.{page, bit_pointer}
 use Rattle.book.specs.Gate.{Judged}
-use Rattle.book.specs.declared.Verdict.{Verdict}
-use Rattle.book.specs.declared.Verdict.TheVariants.{Sound as Right, Broken}
+use Rattle.book.specs.declared.BrokenRule.{BrokenRule}
 use Rattle.book.specs.Entries.{user, object}
-use Rattle.book.specs.Holders.{visits}
 use Rattle.book.specs.Rows.{Lowest}
 use Rattle.book.specs.Rules.{Rule1, Rule2, Rule3, Rule4Over, Rule5, Rule6, Rule7, Rule8, Rule9, Rule10, Sound, rules_of}
 use Rattle.book.specs.Names.{stored}
@@ -25,8 +24,6 @@ use Rattle.walk.specs.Short.{Shorts}
 use Rattle.walk.proofs.Short.{rules-short}
 use Rattle.walk.proofs.Judged.{same-rule9, rule9-same}
 use Rattle.tree.specs.Ends.{Ends}
-use Rattle.sound.specs.declared.early.Said.{Said}
-use Rattle.sound.specs.declared.early.Said.TheVariants.{Broken as Low, Kept as High}
 use Rattle.sound.specs.Late.{Early, Late, late_rules, JudgedEarly, JudgedLate}
 
 -- the trees are within the volume
@@ -101,24 +98,15 @@ module _ (P : ℕ) (v : Vol) where
 
 -- ---- what the early rules say
 
-module _ (img : List ℕ) (ten : Bool) (x : Said) (j : JudgedEarly img ten x) (n : ℕ) where
-  pub early-broken : x ≡ Low n → Lowest (rules_of ten (pages img) (vol img)) n
-  early-broken e = subst (λ (y : Said). JudgedEarly img ten y) e j
-
-  pub early-whole : x ≡ High n → Early ten (pages img) (vol img) × Ends img n
-  early-whole e = subst (λ (y : Said). JudgedEarly img ten y) e j
+module _ (img : List ℕ) (ten : Bool) (x : Result ℕ BrokenRule) (j : JudgedEarly img ten x) where
+  pub early-whole : (n : ℕ) → x ≡ Ok n → Early ten (pages img) (vol img) × Ends img n
+  early-whole n e = subst (λ (y : Result ℕ BrokenRule). JudgedEarly img ten y) e j
 
 -- ---- the verdict of the late rules makes the verdict of all
 
-pub late-judged : (P : ℕ) (v : Vol) → Early true P v → (r : Verdict) → JudgedLate P v r → Judged true P v r
-late-judged P v E (Right n) j = (all-ten P v E j.0, j.1)
-late-judged P v E (Broken r) j = early-low P v E r j
-
-pub judged-right : (P : ℕ) (v : Vol) (r : Verdict) (n : ℕ) → Judged true P v r → r ≡ Right n → Sound P v × (n ≡ visits P v)
-judged-right P v r n j e = subst (λ (x : Verdict). Judged true P v x) e j
-
-pub judged-broken : (P : ℕ) (v : Vol) (r : Verdict) (n : ℕ) → Judged true P v r → r ≡ Broken n → Lowest (rules_of true P v) n
-judged-broken P v r n j e = subst (λ (x : Verdict). Judged true P v x) e j
+pub late-judged : (P : ℕ) (v : Vol) → Early true P v → (r : Result ℕ BrokenRule) → JudgedLate P v r → Judged true P v r
+late-judged P v E (Ok n) j = (all-ten P v E j.0, j.1)
+late-judged P v E (Err b) j = early-low P v E b.rule j
 
 -- ---- the bits against the marks; T is the number of pages, as the code has it
 

@@ -1,5 +1,5 @@
 -- The ten rules in two parts: the first seven, and those that count holders. Assumes nothing.
-use Rattle.std.specs.Prelude.{◌≡◌, Bool, List, ℕ}
+use Rattle.std.specs.Prelude.{◌≡◌, Bool, List, ℕ, Result, Ok, Err}
 use Rattle.book.specs.Words.{Vol, vol}
 use Rattle.book.specs.Entries.{user, object}
 use Rattle.book.specs.Holders.{visits}
@@ -8,10 +8,7 @@ use Rattle.book.specs.Rules.{Rule1, Rule2, Rule3, Rule4Over, Rule5, Rule6, Rule7
 use Rattle.book.specs.Names.{stored}
 use Rattle.book.specs.Image.{pages}
 use Rattle.tree.specs.Ends.{Ends}
-use Rattle.sound.specs.declared.early.Said.{Said}
-use Rattle.sound.specs.declared.early.Said.TheVariants.{Broken as Low, Kept as High}
-use Rattle.book.specs.declared.Verdict.{Verdict}
-use Rattle.book.specs.declared.Verdict.TheVariants.{Sound, Broken}
+use Rattle.book.specs.declared.BrokenRule.{BrokenRule}
 
 pub record Early (ten : Bool) (P : ℕ) (v : Vol) : Type 0 where
   pub r1 : Rule1 P v
@@ -23,9 +20,9 @@ pub record Early (ten : Bool) (P : ℕ) (v : Vol) : Type 0 where
   pub r7 : Rule7 P v
 
 -- the lowest broken of all that are judged, or the first seven, with the object file's end
-abbrev pub JudgedEarly : List ℕ → Bool → Said → Type 0
-JudgedEarly img ten (Low r) = Lowest (rules_of ten (pages img) (vol img)) r
-JudgedEarly img ten (High n) = Early ten (pages img) (vol img) × Ends img n
+abbrev pub JudgedEarly : List ℕ → Bool → Result ℕ BrokenRule → Type 0
+JudgedEarly img ten (Err b) = Lowest (rules_of ten (pages img) (vol img)) b.rule
+JudgedEarly img ten (Ok n) = Early ten (pages img) (vol img) × Ends img n
 
 -- rules 8 to 10
 pub record Late (P : ℕ) (v : Vol) : Type 0 where
@@ -36,6 +33,6 @@ pub record Late (P : ℕ) (v : Vol) : Type 0 where
 unfoldable pub late_rules : ℕ → Vol → Rows
 late_rules P v = row 8 (Rule8 P v) (row 9 (Rule9 P v) (row 10 (Rule10 P v) end))
 
-abbrev pub JudgedLate : ℕ → Vol → Verdict → Type 0
-JudgedLate P v (Sound n) = Late P v × (n ≡ visits P v)
-JudgedLate P v (Broken r) = Lowest (late_rules P v) r
+abbrev pub JudgedLate : ℕ → Vol → Result ℕ BrokenRule → Type 0
+JudgedLate P v (Ok n) = Late P v × (n ≡ visits P v)
+JudgedLate P v (Err b) = Lowest (late_rules P v) b.rule

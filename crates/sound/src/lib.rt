@@ -13,8 +13,8 @@ ghost use Rattle.bits.specs.Marks.{Unmarked};
 ghost use Rattle.tree.specs.Ends.{Ends};
 ghost use Rattle.sound.specs.Late.{Early, JudgedLate};
 
-use book::{Gate, Refusal, Verdict};
-use early::{Said, early};
+use book::{BrokenRule, Gate, Refusal, Verdict};
+use early::early;
 use walk::Walk;
 
 // Rules 8 to 10 of an image that keeps the first seven: the walk marks each held page and counts it. The object file ends at position `ends`.
@@ -24,16 +24,16 @@ fn judge_marked(img: &[u16], marks: &mut [u16], total: usize, ends: usize) -> Ve
 {
     let w = walk::volume::mark_all(img, marks, total, ends);
     let Walk::On { visited } = w else {
-        return Verdict::Broken { rule: 8 };
+        return Err(BrokenRule { rule: 8 });
     };
     let b = page::read::page_at(img, 0, page::BITS) as usize;
     if !walk::same::same_bits(img, b, marks, total) {
-        return Verdict::Broken { rule: 9 };
+        return Err(BrokenRule { rule: 9 });
     }
     if !shape::rule10::rule10(img, total, visited, ends) {
-        return Verdict::Broken { rule: 10 };
+        return Err(BrokenRule { rule: 10 });
     }
-    Verdict::Sound { visits: visited }
+    Ok(visited)
 }
 
 // The same; here the marks are made, as many as the volume asks for.
@@ -54,28 +54,16 @@ pub fn judge(img: &[u16]) -> Verdict
     requires { Whole img.now }
     ensures { Judged true (pages img.now) (vol img.now) result }
 {
-    let found = early(img, true);
-    match found {
-        Said::Broken { rule } => Verdict::Broken { rule },
-        Said::Kept { ends } => judge_held(img, img.len() / page::WORDS, ends),
-    }
+    let ends = early(img, true)?;
+    judge_held(img, img.len() / page::WORDS, ends)
 }
 
 // Whether an image is of whole pages, 8 to 140,733 of them.
 pub fn whole(img: &[u16]) -> bool
     ensures { Decides result (Whole img.now) }
 {
-    let words = img.len();
-    if words % page::WORDS != 0 {
-        return false;
-    }
-    if words / page::WORDS < 8 {
-        return false;
-    }
-    if page::MOST_PAGES < words / page::WORDS {
-        return false;
-    }
-    true
+    let pages = img.len() / page::WORDS;
+    img.len() % page::WORDS == 0 && 8 <= pages && pages <= page::MOST_PAGES
 }
 
 // Numbers 1 to 3, in order; `ok` tells whether the call's arguments are right.
@@ -83,20 +71,12 @@ pub fn gate(img: &[u16], ok: bool) -> Gate
     ensures { Gated img.now ok result }
 {
     if !whole(img) {
-        return Gate::Shut { why: Refusal::Size };
+        return Err(Refusal::Size);
     }
     if !ok {
-        return Gate::Shut {
-            why: Refusal::Argument,
-        };
+        return Err(Refusal::Argument);
     }
-    let verdict = judge(img);
-    match verdict {
-        Verdict::Sound { visits } => Gate::Open { visits },
-        Verdict::Broken { rule } => Gate::Shut {
-            why: Refusal::Unsound {
-                broken: places::tell::tell(img, true, rule),
-            },
-        },
-    }
+    judge(img).map_err(|broken| Refusal::Unsound {
+        broken: places::tell::tell(img, true, broken.rule),
+    })
 }

@@ -45,19 +45,7 @@ pub fn broken_of(why: Refusal) -> Break
 {
     match why {
         Refusal::Unsound { broken } => broken,
-        Refusal::Size => nothing_broken(),
-        Refusal::Argument => nothing_broken(),
-        Refusal::Missing => nothing_broken(),
-        Refusal::Taken => nothing_broken(),
-        Refusal::Kind => nothing_broken(),
-        Refusal::HasFiles => nothing_broken(),
-        Refusal::Full => nothing_broken(),
-        Refusal::Allowance => nothing_broken(),
-        Refusal::Unreserved => nothing_broken(),
-        Refusal::NoRun => nothing_broken(),
-        Refusal::Fill => nothing_broken(),
-        Refusal::Overdrawn => nothing_broken(),
-        Refusal::ShortList => nothing_broken(),
+        _ => nothing_broken(),
     }
 }
 
@@ -89,8 +77,8 @@ fn of_file(kind: u32, user: u16, file: u16, position: u32) -> HolderNumbers
 {
     HolderNumbers {
         kind,
-        user: user as u32,
-        file: file as u32,
+        user: u32::from(user),
+        file: u32::from(file),
         position,
     }
 }
@@ -110,10 +98,7 @@ fn role_of(user: u16, file: u16, role: Role) -> HolderNumbers
 fn file_of(h: FileHolder) -> HolderNumbers
     ensures { Tells result (role_numbers h.user h.file h.role) }
 {
-    let user = h.user;
-    let file = h.file;
-    let role = h.role;
-    role_of(user, file, role)
+    role_of(h.user, h.file, h.role)
 }
 
 // The four numbers of a holder.
