@@ -27,12 +27,12 @@ fn begin_entry(img: &mut [u16], q: usize, k: usize, name: &[u8])
 }
 
 // Entry u of page q becomes that of a new user u.
+// Here and below `as` makes a number from usize narrower: there is no `From`, and `try_from` would want an answer where the contract leaves none to give.
 pub fn user_entry(img: &mut [u16], q: usize, u: usize, name: &[u8])
     requires { (q < pages img.old) × (u < 256) }
     ensures { vol img.new ≡ put_entry (vol img.old) q u (user_entry u name.now) }
 {
-    let place = EntryPlace::of(u);
-    let k = place.word;
+    let k = EntryPlace::of(u).word;
     begin_entry(img, q, k, name);
     put_word(img, q, k + INDEX, u as u16);
 }
@@ -74,8 +74,7 @@ pub fn object_entry(
     requires { (q < pages img.old) × (u < 256) × (e < 65536) × (n ≤ most_pages) }
     ensures { vol img.new ≡ put_entry (vol img.old) q e (object_entry u e name.now kind.now created n ptr) }
 {
-    let place = EntryPlace::of(e);
-    let k = place.word;
+    let k = EntryPlace::of(e).word;
     begin_entry(img, q, k, name);
     put_text(img, q, k + TYPE, 2, kind);
     put_numbers(img, q, k, u, e, created, n, ptr);

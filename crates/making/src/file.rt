@@ -52,8 +52,7 @@ pub fn create_contiguous_step(
     let q = object_page(img, e);
     let o = user_page(img, u);
     let used = used_pages(img, u);
-    let place = EntryPlace::of(u);
-    let k = place.word;
+    let k = EntryPlace::of(u).word;
     bits::claim_run(img, b, s, n as usize);
     object_entry(img, q, u, e, name, kind, created, n, s as u32);
     put_two(img, o, k + USED, used + n);

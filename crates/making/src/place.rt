@@ -16,7 +16,7 @@ use seek::needs::{object_index, raises};
 use seek::users::unreserved;
 use tree::root::{object_page, user_page};
 
-// A new page in slot k of a block.
+// A new page in slot k of a block. This and the next two stay three: `extend`, `started` and `raised` of the book each have their own order of writes.
 fn extend(img: &mut [u16], block: usize, k: usize)
     requires { Ready img.old × Vacant (pages img.old) (vol img.old) block k × (1 ≤ unreservedOf (vol img.old)) }
     ensures { vol img.new ≡ extendOf (lowest_free (pages img.old)) (pages img.old) (vol img.old) block k }
@@ -63,11 +63,10 @@ fn with_user_page(img: &mut [u16], u: usize)
     requires { Ready img.old × (u < 256) × (0 < page (vol img.old 0) user_pointer) × (1 - user_page (vol img.old) u ≤ unreservedOf (vol img.old)) }
     ensures { vol img.new ≡ with_user_page (lowest_free (pages img.old)) (pages img.old) (vol img.old) u }
 {
-    if user_page(img, u) != 0 {
-        return;
+    if user_page(img, u) == 0 {
+        let top = page_at(img, 0, USERS) as usize;
+        extend(img, top, u / EntryPlace::PER_PAGE);
     }
-    let top = page_at(img, 0, USERS) as usize;
-    extend(img, top, u / EntryPlace::PER_PAGE);
 }
 
 // A subindex block, if user u asks for one.
@@ -75,10 +74,9 @@ fn with_subindex(img: &mut [u16], u: usize)
     requires { Ready img.old × (raisesFor (vol img.old) u ≤ unreservedOf (vol img.old)) }
     ensures { vol img.new ≡ with_subindex (lowest_free (pages img.old)) (pages img.old) (vol img.old) u }
 {
-    if raises(img, u) == 0 {
-        return;
+    if raises(img, u) != 0 {
+        raise(img);
     }
-    raise(img);
 }
 
 // The place of user u's entry.
@@ -88,10 +86,10 @@ pub fn user_place(img: &mut [u16], u: usize)
 {
     if page_at(img, 0, USERS) == 0 {
         start(img);
-        return;
+    } else {
+        with_user_page(img, u);
+        with_subindex(img, u);
     }
-    with_user_page(img, u);
-    with_subindex(img, u);
 }
 
 // An object index block for entry e, if absent.
@@ -99,11 +97,10 @@ fn with_index(img: &mut [u16], e: usize)
     requires { Ready img.old × (e < 65536) × Reached (pages img.old) (vol img.old) e × (file_need (vol img.old) e ≤ unreservedOf (vol img.old)) }
     ensures { vol img.new ≡ with_index (lowest_free (pages img.old)) (pages img.old) (vol img.old) e }
 {
-    if object_index(img, e) != 0 {
-        return;
+    if object_index(img, e) == 0 {
+        let top = page_at(img, 0, OBJECTS) as usize;
+        extend(img, top, e / EntryPlace::PER_PAGE / 512);
     }
-    let top = page_at(img, 0, OBJECTS) as usize;
-    extend(img, top, e / EntryPlace::PER_PAGE / 512);
 }
 
 // An object page for entry e, if absent, in an index block that is there.
@@ -111,11 +108,10 @@ fn with_object_page(img: &mut [u16], e: usize)
     requires { Ready img.old × (e < 65536) × Reached (pages img.old) (vol img.old) e × (0 < object_index (vol img.old) e) × (1 - object_page (vol img.old) e ≤ unreservedOf (vol img.old)) }
     ensures { vol img.new ≡ with_object_page (lowest_free (pages img.old)) (pages img.old) (vol img.old) e }
 {
-    if object_page(img, e) != 0 {
-        return;
+    if object_page(img, e) == 0 {
+        let block = object_index(img, e);
+        extend(img, block, e / EntryPlace::PER_PAGE % 512);
     }
-    let block = object_index(img, e);
-    extend(img, block, e / EntryPlace::PER_PAGE % 512);
 }
 
 // The place of object entry e.

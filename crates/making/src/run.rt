@@ -18,16 +18,14 @@ fn after_lowest(img: &[u16], b: usize, count: usize, n: u32) -> usize
     requires { (1024 * count ≤ length img.now) × BitsAt count (vol img.now) b }
     ensures { result ≡ after_lowest count (vol img.now) n }
 {
-    let mut s: usize = 0;
-    let mut k: u32 = 0;
-    while k < n {
+    let mut s = 0;
+    for _ in 0..n {
         s = free_from(img, b, count, s) + 1;
-        k += 1;
     }
     s
 }
 
-// The start of the run that a contiguous file f of user u, of n pages, will have; 0 if there is none.
+// The start of the run that a contiguous file f of user u, of n pages, will have; 0 if there is none, as `highest_run` of the clause has it.
 pub fn find_run(img: &[u16], u: usize, f: usize, n: u32) -> usize
     requires { Ready img.now × (u < 256) × (0 < used (user (vol img.now) u)) × (f < 256) × (file_need (vol img.now) (file_entry u f) ≤ unreserved (vol img.now)) × CountArg n }
     ensures { result ≡ highest_run (pages img.now) (file_place (lowest_free (pages img.now)) (pages img.now) (vol img.now) (file_entry u f)) n }

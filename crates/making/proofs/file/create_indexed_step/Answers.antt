@@ -6,17 +6,11 @@ use Rattle.tree.proofs.Ready.{ready-objects}
 use native.Mathlib.Omega.{arith}
 use Rattle.making.proofs.file.create_indexed_step.Goals as goal
 
-pub entry_number-e-requires : goal.entry_number-e-requires
-entry_number-e-requires c = (c.requires.1, c.requires.4)
-
 pub file_place-requires : goal.file_place-requires
 file_place-requires c = (c.requires.0, c.entry_number-e.ensures.1, entry-reached c.requires.0 c.requires.1 c.requires.4 c.requires.2 c.entry_number-e.ensures.0, entry-room c.requires.0 c.requires.1 c.requires.4 c.requires.2 c.entry_number-e.ensures.0 c.requires.5)
 
 pub object_page-q-requires : goal.object_page-q-requires
 object_page-q-requires c = ready-objects _ (file-ready c.requires.0 c.requires.1 c.requires.4 c.requires.2 c.entry_number-e.ensures.0 c.requires.5 _ c.file_place.ensures (omega arith))
-
-pub object_entry-requires : goal.object_entry-requires
-object_entry-requires c = (omega (arith, c.object_page-q.ensures.1), c.requires.1, c.entry_number-e.ensures.1, omega arith)
 
 pub returns : goal.returns
 returns c =

@@ -1,14 +1,10 @@
 -- `making::place::raise` meets its contract. Assumes nothing.
 use Rattle.making.proofs.Taking.{can-take₁, raise-is}
 use Rattle.tree.proofs.Ready.{ready-some}
-use native.Mathlib.Omega.{arith}
 use Rattle.making.proofs.place.raise.Goals as goal
 
 pub take-d-requires : goal.take-d-requires
 take-d-requires c = can-take₁ c.requires.0.sound (ready-some _ c.requires.0) c.requires.1 _ c.bit_page-b.ensures
-
-pub overflow_sub-s : goal.overflow_sub-s
-overflow_sub-s c = omega (arith, c.requires.1, c.unreserved-s.ensures.0)
 
 pub returns : goal.returns
 returns c =
