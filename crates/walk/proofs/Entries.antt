@@ -3,6 +3,7 @@ use mathlib.Core.Path.{◌≡◌, refl, sym, ap, ◌∙◌, subst₂}
 use mathlib.Core.List.{List}
 use Prim.Native.Nat.{ℕ, ◌+◌, ◌*◌, ◌/◌, ◌≤◌, ◌<◌}
 use native.Mathlib.Omega.{arith}
+use Rattle.std.specs.Prelude.{Option, Some}
 use Rattle.sums.specs.Sum.{sum, sum-none, sum-zero}
 use Rattle.book.specs.Words.{Words, Vol, vol, two}
 use Rattle.book.specs.Pointers.{flags, page}
@@ -15,8 +16,6 @@ use Rattle.laws.specs.Count.Sums.{sum_rows}
 use Rattle.tree.specs.Reach.{entry_in}
 use Rattle.tree.specs.Ends.{Ends}
 use Rattle.tree.proofs.Entries.{object-in, absent-word, file-in, file-in-none}
-use Rattle.walk.specs.declared.Walk.{Walk}
-use Rattle.walk.specs.declared.Walk.TheVariants.{On}
 use Rattle.walk.specs.Files.{FilesFit}
 use Rattle.walk.specs.Short.{ShortR}
 use Rattle.walk.specs.Walked.{Weigher, Walking, WalkedOn, Walked}
@@ -47,13 +46,13 @@ module _ (v : Vol) where
 
 module _ (P : ℕ) (m : List ℕ) (visited : ℕ) (v : Vol) where
   -- a root that code knows by another name
-  pub walked-root : (r s : Root) → r ≡ s → (m' : List ℕ) (w : Walk) → Walked P m visited (weigh_r v s) m' w → Walked P m visited (weigh_r v r) m' w
+  pub walked-root : (r s : Root) → r ≡ s → (m' : List ℕ) (w : Option ℕ) → Walked P m visited (weigh_r v s) m' w → Walked P m visited (weigh_r v r) m' w
   walked-root r s e m' w k = walked_same P m visited (weigh_r v s) (weigh_r v r) (λ g. ap (λ (x : Root). weigh_r v x g) (sym e)) m' w k
 
-  pub walked_empty : (r : Root) → r ≡ run 0 0 → Walked P m visited (weigh_r v r) m (On visited)
+  pub walked_empty : (r : Root) → r ≡ run 0 0 → Walked P m visited (weigh_r v r) m (Some visited)
   walked_empty r e = walked_none P m visited (weigh_r v r) (λ p. empty v r e (hit p)) (empty v r e some)
 
-  pub walked-absent : (n q : ℕ) → q ≡ page_at v (object_file v) n → q ≡ 0 → Walked P m visited (λ g. sum 32 (λ i. weigh_r v (file_at v (32 * n + i)) g)) m (On visited)
+  pub walked-absent : (n q : ℕ) → q ≡ page_at v (object_file v) n → q ≡ 0 → Walked P m visited (λ g. sum 32 (λ i. weigh_r v (file_at v (32 * n + i)) g)) m (Some visited)
   walked-absent n q e z = walked_none P m visited (λ g. sum 32 (λ i. weigh_r v (file_at v (32 * n + i)) g)) (λ p. absent-files v n q e z (hit p)) (absent-files v n q e z some)
 
 -- the file in object entry e, as code reads the entry on page q
@@ -88,7 +87,7 @@ unfolding mine
 regroup img g = let f : ℕ → ℕ = λ e. weigh_r (vol img) (file_at (vol img) e) g in sum_rows 32 object_pages f ∙ sym (sum_rows 256 256 f)
 
 -- those from the object file's end on have no pages
-pub walked-files : (P : ℕ) (m : List ℕ) (v : ℕ) (img : List ℕ) (ends : ℕ) → Ends img ends → (m' : List ℕ) (r : Walk)
+pub walked-files : (P : ℕ) (m : List ℕ) (v : ℕ) (img : List ℕ) (ends : ℕ) → Ends img ends → (m' : List ℕ) (r : Option ℕ)
     → Walked P m v (row_of (positions_of img) ends) m' r → Walked P m v (λ g. sum 256 (λ u. mine (vol img) u g)) m' r
 walked-files P m v img ends d m' r k =
     walked_same P m v (row_of (positions_of img) object_pages) (λ g. sum 256 (λ u. mine (vol img) u g)) (regroup img) m' r

@@ -4,6 +4,7 @@ use mathlib.Core.List.{List}
 use mathlib.Core.Bool.{Bool, true, false}
 use Prim.Native.Nat.{ℕ, ◌+◌, ◌*◌, ◌/◌, ◌%◌, ◌≤◌}
 use native.Mathlib.Omega.{arith}
+use Rattle.std.specs.Prelude.{Option, Some, None}
 use Rattle.sums.specs.Sum.{sum, is, is_same, is-sym}
 use Rattle.book.specs.Words.{Vol, vol}
 use Rattle.book.specs.Pointers.{page, bit_pointer}
@@ -16,8 +17,6 @@ use Rattle.book.specs.Image.{pages}
 use Rattle.laws.specs.Count.Good.{sys-count}
 use Rattle.laws.specs.Tree.Weigh.{BelowR}
 use Rattle.tree.specs.Reach.{Reach}
-use Rattle.walk.specs.declared.Walk.{Walk}
-use Rattle.walk.specs.declared.Walk.TheVariants.{On, Met}
 use Rattle.bits.specs.Marks.{marked, Unmarked, Newly, Marking}
 use Rattle.walk.specs.Walked.{Walking, Walked}
 use Rattle.walk.specs.Files.{FilesFit}
@@ -37,7 +36,7 @@ module _ (P : ℕ) (v : Vol) (s n : ℕ) (es : s ≡ page (v 0) bit_pointer) (en
   unfolding BelowR
   bits_below b = subst (λ (r : Root). BelowR v P r) root b
 
-  pub walked-bits : (m : List ℕ) (x : ℕ) (m' : List ℕ) (r : Walk) → Walked P m x (row_of (run_of s) n) m' r → Walked P m x (weigh_r v (bit_file P v)) m' r
+  pub walked-bits : (m : List ℕ) (x : ℕ) (m' : List ℕ) (r : Option ℕ) → Walked P m x (row_of (run_of s) n) m' r → Walked P m x (weigh_r v (bit_file P v)) m' r
   unfolding weigh_r
   walked-bits m x m' r k = walked_same P m x (row_of (run_of s) n) (weigh_r v (bit_file P v)) (λ g. ap (λ (y : Root). weigh_r v y g) (sym root)) m' r k
 
@@ -48,7 +47,7 @@ below-same v P r s e b = subst (λ (x : Root). BelowR v P x) e b
 
 -- ---- the system pages
 
-pub walked-system : (P : ℕ) (v : Vol) (m : List ℕ) (x : ℕ) (m' : List ℕ) (r : Walk)
+pub walked-system : (P : ℕ) (v : Vol) (m : List ℕ) (x : ℕ) (m' : List ℕ) (r : Option ℕ)
     → Walked P m x (λ g. weigh_r v (bit_file P v) g + (weigh_r v (user_file v) g + weigh_r v (object_file v) g)) m' r → Walked P m x (system P v) m' r
 unfolding system
 walked-system P v m x m' r k =
@@ -86,11 +85,11 @@ module _ (P : ℕ) (m : List ℕ) (u : Unmarked P m) (m' : List ℕ) where
     at_first : (p : ℕ) → marked m' p ≡ is p 0
     at_first p = omega (arith, d.more p, u.none p, is-sym 0 p)
 
-    pub held : (v : Vol) (m'' : List ℕ) (r : Walk) → Walked P m' 1 (λ g. system P v g + sum 256 (λ u. mine v u g)) m'' r → Held P v m'' r
+    pub held : (v : Vol) (m'' : List ℕ) (r : Option ℕ) → Walked P m' 1 (λ g. system P v g + sum 256 (λ u. mine v u g)) m'' r → Held P v m'' r
     unfolding holders all
-    held v m'' (On x) k = record {
+    held v m'' (Some x) k = record {
       held = λ p h. k.more p h ∙ ap (λ (y : ℕ). y + (system P v (hit p) + sum 256 (λ u. mine v u (hit p)))) (at_first p);
       count = k.count;
       room = omega (arith, k.kept, d.kept, u.room);
     }
-    held v m'' Met k = (k.0, k.1, omega (arith, k.2, at_first k.0))
+    held v m'' None k = (k.0, k.1, omega (arith, k.2, at_first k.0))

@@ -5,6 +5,7 @@ use mathlib.Core.List.{List}
 use Prim.Native.Nat.{ℕ, ◌<◌}
 use native.Mathlib.Nat.{eq-zero-or-pos}
 use native.Mathlib.Omega.{arith}
+use Rattle.std.specs.Prelude.{Option, Some, None}
 use Rattle.book.specs.Words.{Vol}
 use Rattle.book.specs.Bits.{bit}
 use Rattle.book.specs.Holders.{holders, visits}
@@ -12,22 +13,20 @@ use Rattle.book.specs.Rules.{Rule8, Rule9}
 use Rattle.laws.specs.Count.Good.{bit_le}
 use Rattle.laws.specs.Count.Pages.{visits-all}
 use Rattle.laws.specs.Count.Reach.{Within}
-use Rattle.walk.specs.declared.Walk.{Walk}
-use Rattle.walk.specs.declared.Walk.TheVariants.{On, Met}
 use Rattle.bits.specs.Marks.{marked}
 use Rattle.walk.specs.Held.{HeldOn, Held}
 use Rattle.bits.proofs.Marked.{marked-le}
 
 -- after a look at the answer
-module _ (P : ℕ) (v : Vol) (m : List ℕ) (r : Walk) (k : Held P v m r) where
-  pub held_on : (x : ℕ) → r ≡ On x → HeldOn P v m x
-  held_on x e = subst (λ (w : Walk). Held P v m w) e k
+module _ (P : ℕ) (v : Vol) (m : List ℕ) (r : Option ℕ) (k : Held P v m r) where
+  pub held_on : (x : ℕ) → r ≡ Some x → HeldOn P v m x
+  held_on x e = subst (λ (w : Option ℕ). Held P v m w) e k
 
-  pub held-met : r ≡ Met → Held P v m Met
-  held-met e = subst (λ (w : Walk). Held P v m w) e k
+  pub held-met : r ≡ None → Held P v m None
+  held-met e = subst (λ (w : Option ℕ). Held P v m w) e k
 
 -- a page that was met is held twice
-pub met-rule8 : (P : ℕ) (v : Vol) (m : List ℕ) → Held P v m Met → Rule8 P v → ⊥
+pub met-rule8 : (P : ℕ) (v : Vol) (m : List ℕ) → Held P v m None → Rule8 P v → ⊥
 unfolding Rule8
 met-rule8 P v m k r = omega (arith, k.2, r k.0 k.1)
 

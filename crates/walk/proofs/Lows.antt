@@ -1,13 +1,8 @@
 -- Rows of bits, word by word: the lowest r bits of two words are the same exactly where the words are, modulo 2^r. Assumes nothing.
-use mathlib.Core.Path.{◌≡◌, sym, ap, ◌∙◌}
-use mathlib.Core.List.{List}
-use mathlib.Core.Bool.{Bool}
-use Prim.Native.Nat.{ℕ, zero, suc, ◌+◌, ◌-◌, ◌*◌, ◌/◌, ◌%◌, ◌^◌, ◌≤◌, ◌<◌}
+use Rattle.std.proofs.Common.{◌≡◌, ℕ, zero, suc, ◌+◌, ◌-◌, ◌*◌, ◌/◌, ◌%◌, ◌^◌, ◌≤◌, ◌<◌, Bool, List, length, get_or, take, drop, sym, ap, ◌∙◌, get_or-take, get_or-drop, length-take-le, arith}
+use Rattle.std.proofs.lemmas.Grind.{same_number_lists}
 use native.Mathlib.Nat.{mod-one, mod-eq_of_lt}
 use native.Mathlib.Decide.{dec_lt}
-use native.Mathlib.Omega.{arith}
-use lib.ListN.{get_or, take, drop}
-use lib.Seq.{get_or-take, get_or-drop}
 use lib.Pow.{mod-pow-add, mod-mod-pow, field}
 use Rattle.book.specs.Words.{vol}
 use Rattle.book.specs.Written.{vol-in}
@@ -47,16 +42,32 @@ module _ (a b : List ℕ) (i r : ℕ) (le : r ≤ 16) where
         rw w (sym (digit_low r (p % 16) (get_or a i 0) j) ∙ ap (digit (p % 16)) e ∙ digit_low r (p % 16) (get_or b i 0) j)
   ]
 
-  -- they differ
-  pub words-differ : (n : ℕ) → 16 * i + r ≤ n → (get_or a i 0 % 2 ^ r ≡ get_or b i 0 % 2 ^ r → ⊥) → ((p : ℕ) → p < n → marked a p ≡ marked b p) → ⊥
+  -- and they are where the bits are
+  pub words-alike : (n : ℕ) → 16 * i + r ≤ n → ((p : ℕ) → p < n → marked a p ≡ marked b p) → get_or a i 0 % 2 ^ r ≡ get_or b i 0 % 2 ^ r
   unfolding marked
-  words-differ n in-n ne same = ne (low_same r (get_or a i 0) (get_or b i 0) same_at)
+  words-alike n in-n same = low_same r (get_or a i 0) (get_or b i 0) same_at
     where
       same_at : (j : ℕ) → j < r → digit j (get_or a i 0) ≡ digit j (get_or b i 0)
       same_at j lt =
           let w : (16 * i + j) / 16 ≡ i = omega arith in
           let z : (16 * i + j) % 16 ≡ j = omega arith in
           rw (w, z) at (same (16 * i + j) (omega arith))
+
+-- the first n words, as `==` on slices compares them
+module _ (a b : List ℕ) (n : ℕ) where
+  pub first_same : take n a ≡ take n b → (p : ℕ) → p < 16 * n → marked a p ≡ marked b p
+  unfolding marked
+  first_same e p h =
+      let l : p / 16 < n = omega arith in
+      ap (digit (p % 16)) (sym (get_or-take n a (p / 16) 0 l) ∙ ap (λ (xs : List ℕ). get_or xs (p / 16) 0) e ∙ get_or-take n b (p / 16) 0 l)
+
+  pub first-alike : n ≤ length a → n ≤ length b → ((k : ℕ) → get_or a k 0 < 65536) → ((k : ℕ) → get_or b k 0 < 65536) → (m : ℕ) → 16 * n ≤ m → ((p : ℕ) → p < m → marked a p ≡ marked b p) → take n a ≡ take n b
+  first-alike la lb fa fb m in-m same =
+      same_number_lists (take n a) (take n b) (length-take-le n a la ∙ sym (length-take-le n b lb))
+      (λ k h. let l : k < n = omega (arith, h, length-take-le n a la) in get_or-take n a k 0 l ∙ word k l ∙ sym (get_or-take n b k 0 l))
+    where
+      word : (k : ℕ) → k < n → get_or a k 0 ≡ get_or b k 0
+      word k l = sym (low-whole (get_or a k 0) (fa k)) ∙ words-alike a b k 16 (omega arith) m (omega arith) same ∙ low-whole (get_or b k 0) (fb k)
 
 -- ---- the bit file's part: its words for the pages below P
 

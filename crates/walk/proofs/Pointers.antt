@@ -5,6 +5,7 @@ use Prim.Native.Nat.{ℕ, zero, suc, ◌+◌, ◌-◌, ◌*◌, ◌^◌, ◌≤�
 use native.Mathlib.Nat.{not-suc-le-zero, le_refl}
 use native.Mathlib.Omega.{arith}
 use lib.ListN.{length, get_or}
+use Rattle.std.specs.Prelude.{Option, Some, None}
 use Rattle.sums.specs.Sum.{sum, sum-ext, is}
 use Rattle.book.specs.Words.{Vol, vol, two}
 use Rattle.book.specs.Pointers.{slot}
@@ -15,8 +16,6 @@ use Rattle.laws.specs.Tree.Slot.{hit-zero, hit_same, some-zero, some-pos}
 use Rattle.laws.specs.Tree.Weigh.{weigh-none, weigh-count}
 use Rattle.tree.specs.Blocks.{pointer_in, share}
 use Rattle.tree.proofs.Blocks.{part_of, part-slot}
-use Rattle.walk.specs.declared.Walk.{Walk}
-use Rattle.walk.specs.declared.Walk.TheVariants.{On, Met}
 use Rattle.bits.specs.Marks.{marked, Newly}
 use Rattle.walk.specs.Walked.{Weigher, Walking, WalkedOn, Walked}
 use Rattle.walk.specs.Short.{Short, PointersBelow, Pointers}
@@ -84,13 +83,13 @@ module _ (img : List ℕ) (t : ℕ) (b : List ℕ) (is-part : b ≡ part_of img 
 -- ---- a pointer
 
 module _ (img : List ℕ) (P : ℕ) (m : List ℕ) (v l t : ℕ) where
-  pub pointer_none : t ≡ 0 → Walked P m v (weigh (vol img) l t) m (On v)
+  pub pointer_none : t ≡ 0 → Walked P m v (weigh (vol img) l t) m (Some v)
   pointer_none z =
       let w : (g : ℕ → ℕ) → g 0 ≡ 0 → weigh (vol img) l t g ≡ 0 = λ g g0. ap (λ (x : ℕ). weigh (vol img) l x g) z ∙ weigh-none (vol img) g g0 l in
       walked_none P m v (weigh (vol img) l t) (λ p. w (hit p) (hit-zero p)) (w some some-zero)
 
   module _ (h : 0 < t) where
-    pub pointer-met : t < P → marked m t ≡ 1 → (m' : List ℕ) → Walked P m v (weigh (vol img) l t) m' Met
+    pub pointer-met : t < P → marked m t ≡ 1 → (m' : List ℕ) → Walked P m v (weigh (vol img) l t) m' None
     pointer-met i e m' = (t, i, omega (arith, e, weigh-top (vol img) l t (hit t), hit_same t h))
 
     module _ (m' : List ℕ) (d : Newly m t m') where
@@ -98,11 +97,11 @@ module _ (img : List ℕ) (P : ℕ) (m : List ℕ) (v l t : ℕ) where
       first : WalkedOn P m v (λ g. g t) m' (v + 1)
       first = record { more = λ p i. d.more p ∙ ap (λ (x : ℕ). marked m p + x) (sym (hit-is t p h)); count = omega (arith, some-pos t h); kept = d.kept }
 
-      pub pointer-page : l ≡ 0 → Walked P m v (weigh (vol img) l t) m' (On (v + 1))
+      pub pointer-page : l ≡ 0 → Walked P m v (weigh (vol img) l t) m' (Some (v + 1))
       unfolding weigh
-      pointer-page z = walked_same P m v (λ g. g t) (weigh (vol img) l t) (λ g. sym (ap (λ (x : ℕ). weigh (vol img) x t g) z)) m' (On (v + 1)) first
+      pointer-page z = walked_same P m v (λ g. g t) (weigh (vol img) l t) (λ g. sym (ap (λ (x : ℕ). weigh (vol img) x t g) z)) m' (Some (v + 1)) first
 
-      pub pointer-block : 0 < l → (b : List ℕ) → b ≡ part_of img t → (m'' : List ℕ) (r : Walk)
+      pub pointer-block : 0 < l → (b : List ℕ) → b ≡ part_of img t → (m'' : List ℕ) (r : Option ℕ)
           → Walked P m' (v + 1) (λ g. sum 512 (λ k. weigh (vol img) (l - 1) (pointer_in b k) g)) m'' r → Walked P m v (weigh (vol img) l t) m'' r
       pointer-block z b e m'' r k =
           walked_same P m v (λ g. g t + sum 512 (λ k. weigh (vol img) (l - 1) (pointer_in b k) g)) (weigh (vol img) l t) (block-weigh img t b e h l z) m'' r
@@ -138,12 +137,12 @@ module _ (img b : List ℕ) (l n : ℕ) (d : Pointers img b l n) where
   slot-short i h p c e f = subst₂ (λ (x y : ℕ). Short (vol img) l x y) (sym e) (sym f) (d.short i h)
 
   -- the pointers that n positions need are all that name something
-  pub block-all : (k : ℕ) → k ≤ 512 → ((i : ℕ) → k ≤ i → i < 512 → n ≤ i * 512 ^ l) → (P : ℕ) (m : List ℕ) (v : ℕ) (m' : List ℕ) (r : Walk)
+  pub block-all : (k : ℕ) → k ≤ 512 → ((i : ℕ) → k ≤ i → i < 512 → n ≤ i * 512 ^ l) → (P : ℕ) (m : List ℕ) (v : ℕ) (m' : List ℕ) (r : Option ℕ)
       → Walked P m v (row_of (slots_of img l b) k) m' r → Walked P m v (row_of (slots_of img l b) 512) m' r
   block-all k h past P m v =
       row-past P m v (slots_of img l b) k 512 h (λ i a c g z. ap (λ (x : ℕ). weigh (vol img) l x g) (d.none i c (past i a c)) ∙ weigh-none (vol img) g z l)
 
 -- pointers of level 0 name pages
-pub row-level : (img b : List ℕ) (l : ℕ) → l ≡ 0 → (n P : ℕ) (m : List ℕ) (v : ℕ) (m' : List ℕ) (r : Walk)
+pub row-level : (img b : List ℕ) (l : ℕ) → l ≡ 0 → (n P : ℕ) (m : List ℕ) (v : ℕ) (m' : List ℕ) (r : Option ℕ)
     → Walked P m v (row_of (slots_of img 0 b) n) m' r → Walked P m v (row_of (slots_of img l b) n) m' r
 row-level img b l e n P m v m' r k = subst (λ (x : ℕ). Walked P m v (row_of (slots_of img x b) n) m' r) (sym e) k

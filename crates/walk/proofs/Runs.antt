@@ -8,6 +8,7 @@ use native.Mathlib.Decide.{ℕ_discrete}
 use native.Mathlib.Omega.{arith}
 use lib.ListN.{length, get_or, set, length-set}
 use lib.Seq.{get_or-set_same, get_or-set_other}
+use Rattle.std.specs.Prelude.{Option, Some, None}
 use Rattle.sums.specs.Sum.{sum, is, is_same, is-other, sum-zero, sum-ext, sum-none, sum-only, sum-le, sum-const}
 use Rattle.book.specs.Bits.{digit}
 use Rattle.book.specs.Words.{Vol}
@@ -18,14 +19,12 @@ use Rattle.laws.specs.Count.Good.{root-count}
 use Rattle.laws.specs.Count.Sums.{sum-cat}
 use Rattle.laws.specs.Tree.Slot.{sum-hit, hit_same, hit_other, some-pos}
 use Rattle.laws.specs.Tree.Weigh.{BelowR}
-use Rattle.walk.specs.declared.Walk.{Walk}
-use Rattle.walk.specs.declared.Walk.TheVariants.{On, Met}
 use Rattle.bits.specs.Marks.{marked}
 use Rattle.bits.proofs.Marked.{marked-le}
 use Rattle.bits.proofs.Digits.{digit-above}
 use Rattle.bits.proofs.Runs.{full-digit}
 use Rattle.walk.specs.Walked.{Weigher, Walking, WalkedOn, Walked, Filling}
-use Rattle.walk.proofs.Walks.{Counts, row_of, row_counts, walking_on, walked_none, walked_same, walked-met, then-on}
+use Rattle.walk.proofs.Walks.{Counts, row_of, row_counts, walking_on, walked_none, walked_same, walked-met, walked_then}
 
 -- ---- a run: the row of its pages
 
@@ -51,14 +50,14 @@ run-parts s a t b n e c g =
     ∙ sym (ap (λ (x : ℕ). row_of (run_of s) x g) c ∙ sum-cat b a (λ i. g (s + i)))
 
 -- the first part was walked over
-module _ (P : ℕ) (m : List ℕ) (v s a : ℕ) (m' : List ℕ) (r : Walk) (k : Walked P m v (row_of (run_of s) a) m' r) where
-  pub run_on : (x : ℕ) → r ≡ On x → (t b n : ℕ) → t ≡ s + a → n ≡ a + b → (m'' : List ℕ) (q : Walk) → Walked P m' x (row_of (run_of t) b) m'' q → Walked P m v (row_of (run_of s) n) m'' q
-  run_on x e t b n h c m'' q j =
+module _ (P : ℕ) (m : List ℕ) (v s a : ℕ) (m' : List ℕ) where
+  pub run_on : (x : ℕ) → WalkedOn P m v (row_of (run_of s) a) m' x → (t b n : ℕ) → t ≡ s + a → n ≡ a + b → (m'' : List ℕ) (q : Option ℕ) → Walked P m' x (row_of (run_of t) b) m'' q → Walked P m v (row_of (run_of s) n) m'' q
+  run_on x k t b n h c m'' q j =
       walked_same P m v (λ g. row_of (run_of s) a g + row_of (run_of t) b g) (row_of (run_of s) n) (run-parts s a t b n h c) m'' q
-      (then-on P m v (row_of (run_of s) a) m' r k x e (row_of (run_of t) b) m'' q j)
+      (walked_then P m v (row_of (run_of s) a) m' x k (row_of (run_of t) b) m'' q j)
 
-  pub run-met : r ≡ Met → (n : ℕ) → a ≤ n → (m'' : List ℕ) → Walked P m v (row_of (run_of s) n) m'' Met
-  run-met e n h m'' = walked-met P m v (row_of (run_of s) a) (row_of (run_of s) n) (λ p. run-hits s a n p h) m' m'' (subst (λ (w : Walk). Walked P m v (row_of (run_of s) a) m' w) e k)
+  pub run-met : Walked P m v (row_of (run_of s) a) m' None → (n : ℕ) → a ≤ n → (m'' : List ℕ) → Walked P m v (row_of (run_of s) n) m'' None
+  run-met k n h m'' = walked-met P m v (row_of (run_of s) a) (row_of (run_of s) n) (λ p. run-hits s a n p h) m' m'' k
 
 -- ---- the sixteen pages of a word of marks
 
@@ -120,7 +119,7 @@ module _ (m m' : List ℕ) (e : m' ≡ m) where
   pub walking-old : (img : List ℕ) (v : ℕ) → Walking img m v → Walking img m' v
   walking-old img v k = subst (λ (x : List ℕ). Walking img x v) (sym e) k
 
-  pub walked-old : (P v : ℕ) (W : Weigher) (m'' : List ℕ) (r : Walk) → Walked P m' v W m'' r → Walked P m v W m'' r
+  pub walked-old : (P v : ℕ) (W : Weigher) (m'' : List ℕ) (r : Option ℕ) → Walked P m' v W m'' r → Walked P m v W m'' r
   walked-old P v W m'' r k = subst (λ (x : List ℕ). Walked P x v W m'' r) e k
 
 -- what filling the word makes of it
@@ -167,11 +166,11 @@ module _ (v : Vol) (P x t n : ℕ) (m : List ℕ) (visited : ℕ) where
   at : (y : ℕ) → x ≡ y → (g : ℕ → ℕ) → weigh_r v (root_by x t n) g ≡ weigh_r v (root_by y t n) g
   at y e g = ap (λ (z : ℕ). weigh_r v (root_by z t n) g) e
 
-  pub walked-run : x ≡ 0 → (m' : List ℕ) (r : Walk) → Walked P m visited (row_of (run_of t) n) m' r → Walked P m visited (weigh_r v (root_by x t n)) m' r
+  pub walked-run : x ≡ 0 → (m' : List ℕ) (r : Option ℕ) → Walked P m visited (row_of (run_of t) n) m' r → Walked P m visited (weigh_r v (root_by x t n)) m' r
   unfolding weigh_r root_by
   walked-run e m' r k = walked_same P m visited (row_of (run_of t) n) (weigh_r v (root_by x t n)) (λ g. sym (at 0 e g)) m' r k
 
-  pub walked-tree : (l : ℕ) → x ≡ suc l → l < 2 → (m' : List ℕ) (r : Walk) → Walked P m visited (weigh v (suc l) t) m' r → Walked P m visited (weigh_r v (root_by x t n)) m' r
+  pub walked-tree : (l : ℕ) → x ≡ suc l → l < 2 → (m' : List ℕ) (r : Option ℕ) → Walked P m visited (weigh v (suc l) t) m' r → Walked P m visited (weigh_r v (root_by x t n)) m' r
   unfolding weigh_r root_by
   walked-tree zero e h m' r k = walked_same P m visited (weigh v 1 t) (weigh_r v (root_by x t n)) (λ g. sym (at 1 e g)) m' r k
   walked-tree (suc zero) e h m' r k = walked_same P m visited (weigh v 2 t) (weigh_r v (root_by x t n)) (λ g. sym (at 2 e g)) m' r k
@@ -186,5 +185,5 @@ module _ (v : Vol) (P x t : ℕ) (m : List ℕ) (visited : ℕ) where
   bare (suc (suc zero)) a b g = absurd (b refl)
   bare (suc (suc (suc y))) a b g = sum-zero (λ i. g (0 + i))
 
-  pub walked-bare : (x ≡ 1 → ⊥) → (x ≡ 2 → ⊥) → Walked P m visited (weigh_r v (root_by x t 0)) m (On visited)
+  pub walked-bare : (x ≡ 1 → ⊥) → (x ≡ 2 → ⊥) → Walked P m visited (weigh_r v (root_by x t 0)) m (Some visited)
   walked-bare a b = walked_none P m visited (weigh_r v (root_by x t 0)) (λ p. bare x a b (hit p)) (bare x a b some)

@@ -6,12 +6,11 @@ use native.Mathlib.Nat.{not-suc-le-zero}
 use native.Mathlib.Decide.{ℕ_discrete}
 use native.Mathlib.Numerals.{add-one}
 use native.Mathlib.Omega.{arith}
+use Rattle.std.specs.Prelude.{Option, Some, None}
 use Rattle.sums.specs.Sum.{sum, sum-ext, sum-add, sum-swap, sum-suc, sum-zero}
 use Rattle.book.specs.Holders.{hit, some}
 use Rattle.book.specs.Image.{pages}
 use Rattle.laws.specs.Tree.Slot.{hit-zero, some-zero}
-use Rattle.walk.specs.declared.Walk.{Walk}
-use Rattle.walk.specs.declared.Walk.TheVariants.{On, Met}
 use Rattle.bits.specs.Marks.{marked}
 use Rattle.bits.proofs.Marked.{marked-le}
 use Rattle.walk.specs.Walked.{Weigher, Walking, WalkedOn, Walked}
@@ -37,40 +36,33 @@ walking_on img m v W m' x d c k =
 
 module _ (P : ℕ) (m : List ℕ) (v : ℕ) where
   -- nothing to walk over
-  pub walked_none : (W : Weigher) → ((p : ℕ) → W (hit p) ≡ 0) → W some ≡ 0 → Walked P m v W m (On v)
+  pub walked_none : (W : Weigher) → ((p : ℕ) → W (hit p) ≡ 0) → W some ≡ 0 → Walked P m v W m (Some v)
   walked_none W z n = record { more = λ p h. omega (arith, z p); count = omega (arith, n); kept = refl }
 
   -- the same pages weighed otherwise, page 0 weighing nothing
-  pub walked-real : (W X : Weigher) → ((g : ℕ → ℕ) → g 0 ≡ 0 → W g ≡ X g) → (m' : List ℕ) (r : Walk) → Walked P m v W m' r → Walked P m v X m' r
-  walked-real W X e m' (On x) k = record {
+  pub walked-real : (W X : Weigher) → ((g : ℕ → ℕ) → g 0 ≡ 0 → W g ≡ X g) → (m' : List ℕ) (r : Option ℕ) → Walked P m v W m' r → Walked P m v X m' r
+  walked-real W X e m' (Some x) k = record {
     more = λ p h. k.more p h ∙ ap (λ (y : ℕ). marked m p + y) (e (hit p) (hit-zero p));
     count = k.count ∙ ap (λ (y : ℕ). v + y) (e some some-zero);
     kept = k.kept;
   }
-  walked-real W X e m' Met k = (k.0, k.1, omega (arith, k.2, e (hit k.0) (hit-zero k.0)))
+  walked-real W X e m' None k = (k.0, k.1, omega (arith, k.2, e (hit k.0) (hit-zero k.0)))
 
-  pub walked_same : (W X : Weigher) → ((g : ℕ → ℕ) → W g ≡ X g) → (m' : List ℕ) (r : Walk) → Walked P m v W m' r → Walked P m v X m' r
+  pub walked_same : (W X : Weigher) → ((g : ℕ → ℕ) → W g ≡ X g) → (m' : List ℕ) (r : Option ℕ) → Walked P m v W m' r → Walked P m v X m' r
   walked_same W X e = walked-real W X (λ g z. e g)
 
   -- a page met among some is met among more
-  pub walked-met : (W X : Weigher) → ((p : ℕ) → W (hit p) ≤ X (hit p)) → (m' m'' : List ℕ) → Walked P m v W m' Met → Walked P m v X m'' Met
+  pub walked-met : (W X : Weigher) → ((p : ℕ) → W (hit p) ≤ X (hit p)) → (m' m'' : List ℕ) → Walked P m v W m' None → Walked P m v X m'' None
   walked-met W X l m' m'' k = (k.0, k.1, omega (arith, k.2, l k.0))
 
   -- one walk, and then another
-  pub walked_then : (W : Weigher) (m' : List ℕ) (x : ℕ) → WalkedOn P m v W m' x → (X : Weigher) (m'' : List ℕ) (r : Walk) → Walked P m' x X m'' r → Walked P m v (λ g. W g + X g) m'' r
-  walked_then W m' x k X m'' (On y) j = record { more = λ p h. omega (arith, k.more p h, j.more p h); count = omega (arith, k.count, j.count); kept = j.kept ∙ k.kept }
-  walked_then W m' x k X m'' Met j = (j.0, j.1, omega (arith, j.2, k.more j.0 j.1))
+  pub walked_then : (W : Weigher) (m' : List ℕ) (x : ℕ) → WalkedOn P m v W m' x → (X : Weigher) (m'' : List ℕ) (r : Option ℕ) → Walked P m' x X m'' r → Walked P m v (λ g. W g + X g) m'' r
+  walked_then W m' x k X m'' (Some y) j = record { more = λ p h. omega (arith, k.more p h, j.more p h); count = omega (arith, k.count, j.count); kept = j.kept ∙ k.kept }
+  walked_then W m' x k X m'' None j = (j.0, j.1, omega (arith, j.2, k.more j.0 j.1))
 
--- one walk whose answer was looked at, and then another
-module _ (P : ℕ) (m : List ℕ) (v : ℕ) (W : Weigher) (m' : List ℕ) (r : Walk) (k : Walked P m v W m' r) where
-  pub marked-on : (x : ℕ) → r ≡ On x → WalkedOn P m v W m' x
-  marked-on x e = subst (λ (w : Walk). Walked P m v W m' w) e k
-
-  pub then-on : (x : ℕ) → r ≡ On x → (X : Weigher) (m'' : List ℕ) (s : Walk) → Walked P m' x X m'' s → Walked P m v (λ g. W g + X g) m'' s
-  then-on x e X m'' s j = walked_then P m v W m' x (marked-on x e) X m'' s j
-
-  pub then-met : r ≡ Met → (X : Weigher) (m'' : List ℕ) → Walked P m v (λ g. W g + X g) m'' Met
-  then-met e X m'' = walked-met P m v W (λ g. W g + X g) (λ p. omega arith) m' m'' (subst (λ (w : Walk). Walked P m v W m' w) e k)
+  -- a page met among the first is met
+  pub then-met : (W X : Weigher) (m' m'' : List ℕ) → Walked P m v W m' None → Walked P m v (λ g. W g + X g) m'' None
+  then-met W X = walked-met W (λ g. W g + X g) (λ p. omega arith)
 
 -- ---- in a row: F i is the i-th to be walked over
 
@@ -101,20 +93,20 @@ module _ (P : ℕ) (m : List ℕ) (v : ℕ) (F : ℕ → Weigher) where
   row-start = walked_none P m v (row_of F 0) (λ p. sum-zero (λ i. F i (hit p))) (sum-zero (λ i. F i some))
 
   -- a turn of a loop over the row, whose walk X is the i-th
-  module _ (i : ℕ) (m' : List ℕ) (x : ℕ) (k : WalkedOn P m v (row_of F i) m' x) (X : Weigher) (e : (g : ℕ → ℕ) → X g ≡ F i g) (m'' : List ℕ) (r : Walk) (turn : Walked P m' x X m'' r) where
-    pub row_on : (y : ℕ) → r ≡ On y → WalkedOn P m v (row_of F (i + 1)) m'' y
-    row_on y q =
+  module _ (i : ℕ) (m' : List ℕ) (x : ℕ) (k : WalkedOn P m v (row_of F i) m' x) (X : Weigher) (e : (g : ℕ → ℕ) → X g ≡ F i g) (m'' : List ℕ) where
+    pub row_on : (y : ℕ) → WalkedOn P m' x X m'' y → WalkedOn P m v (row_of F (i + 1)) m'' y
+    row_on y turn =
         walked_same P m v (λ g. row_of F i g + X g) (row_of F (i + 1))
         (λ g. ap (λ (n : ℕ). row_of F i g + n) (e g) ∙ sym (ap (λ (n : ℕ). row_of F n g) (add-one i) ∙ sum-suc i (λ j. F j g)))
-        m'' (On y) (walked_then P m v (row_of F i) m' x k X m'' (On y) (marked-on P m' x X m'' r turn y q))
+        m'' (Some y) (walked_then P m v (row_of F i) m' x k X m'' (Some y) turn)
 
-    pub row-met : r ≡ Met → (n : ℕ) → i < n → (m''' : List ℕ) → Walked P m v (row_of F n) m''' Met
-    row-met q n l m''' =
+    pub row-met : Walked P m' x X m'' None → (n : ℕ) → i < n → (m''' : List ℕ) → Walked P m v (row_of F n) m''' None
+    row-met turn n l m''' =
         walked-met P m v (λ g. row_of F i g + X g) (row_of F n) (λ p. omega (arith, e (hit p), row-le (λ j. F j (hit p)) i n l)) m'' m'''
-        (walked_then P m v (row_of F i) m' x k X m'' Met (subst (λ (w : Walk). Walked P m' x X m'' w) q turn))
+        (walked_then P m v (row_of F i) m' x k X m'' None turn)
 
   pub row-end : (i n : ℕ) (m' : List ℕ) (x : ℕ) → i ≡ n → WalkedOn P m v (row_of F i) m' x → WalkedOn P m v (row_of F n) m' x
   row-end i n m' x e k = subst (λ (j : ℕ). WalkedOn P m v (row_of F j) m' x) e k
 
-  pub row-past : (n k : ℕ) → n ≤ k → ((i : ℕ) → n ≤ i → i < k → (g : ℕ → ℕ) → g 0 ≡ 0 → F i g ≡ 0) → (m' : List ℕ) (r : Walk) → Walked P m v (row_of F n) m' r → Walked P m v (row_of F k) m' r
+  pub row-past : (n k : ℕ) → n ≤ k → ((i : ℕ) → n ≤ i → i < k → (g : ℕ → ℕ) → g 0 ≡ 0 → F i g ≡ 0) → (m' : List ℕ) (r : Option ℕ) → Walked P m v (row_of F n) m' r → Walked P m v (row_of F k) m' r
   row-past n k h z = walked-real P m v (row_of F n) (row_of F k) (λ g g0. sum_past (λ i. F i g) n k h (λ i a b. z i a b g g0))

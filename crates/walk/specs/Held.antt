@@ -1,11 +1,9 @@
 -- What marking all that is held asks for, and what it tells. Assumes nothing.
-use Rattle.std.specs.Prelude.{◌≡◌, List, ℕ, ◌+◌, ◌*◌, ◌≤◌, ◌<◌, length}
+use Rattle.std.specs.Prelude.{◌≡◌, List, ℕ, ◌+◌, ◌*◌, ◌≤◌, ◌<◌, length, Option, Some, None}
 use Rattle.book.specs.Words.{Vol, vol}
 use Rattle.book.specs.Holders.{holders, all, some}
 use Rattle.book.specs.Image.{Whole, pages}
 use Rattle.laws.specs.Count.Reach.{Within}
-use Rattle.walk.specs.declared.Walk.{Walk}
-use Rattle.walk.specs.declared.Walk.TheVariants.{On, Met}
 use Rattle.bits.specs.Marks.{marked}
 use Rattle.walk.specs.Short.{Shorts}
 
@@ -22,6 +20,6 @@ pub record HeldOn (P : ℕ) (v : Vol) (m : List ℕ) (x : ℕ) : Type 0 where
   pub room : P ≤ 16 * length m
 
 -- that, or a page is held twice
-abbrev pub Held : ℕ → Vol → List ℕ → Walk → Type 0
-Held P v m (On x) = HeldOn P v m x
-Held P v m Met = (p : ℕ) × (p < P) × (2 ≤ holders P v p)
+abbrev pub Held : ℕ → Vol → List ℕ → Option ℕ → Type 0
+Held P v m (Some x) = HeldOn P v m x
+Held P v m None = (p : ℕ) × (p < P) × (2 ≤ holders P v p)

@@ -1,11 +1,9 @@
 -- What a walk is given and how it ends, over the pages that a weigher W weighs: W (hit p) is how often page p is among them, W some how many they are.
 -- Assumes nothing.
-use Rattle.std.specs.Prelude.{◌≡◌, Bool, true, false, List, ℕ, ◌+◌, ◌*◌, ◌/◌, ◌≤◌, ◌<◌, length}
+use Rattle.std.specs.Prelude.{◌≡◌, Bool, true, false, List, ℕ, ◌+◌, ◌*◌, ◌/◌, ◌≤◌, ◌<◌, length, Option, Some, None}
 use Rattle.sums.specs.Sum.{sum, is}
 use Rattle.book.specs.Holders.{hit, some}
 use Rattle.book.specs.Image.{pages, most_pages}
-use Rattle.walk.specs.declared.Walk.{Walk}
-use Rattle.walk.specs.declared.Walk.TheVariants.{On, Met}
 use Rattle.bits.specs.Marks.{marked}
 
 abbrev pub Weigher : Type 0
@@ -26,9 +24,9 @@ pub record WalkedOn (P : ℕ) (m : List ℕ) (v : ℕ) (W : Weigher) (m' : List 
   pub kept : length m' ≡ length m
 
 -- that, or one of them was marked already or is there twice
-abbrev pub Walked : ℕ → List ℕ → ℕ → Weigher → List ℕ → Walk → Type 0
-Walked P m v W m' (On x) = WalkedOn P m v W m' x
-Walked P m v W m' Met = (p : ℕ) × (p < P) × (2 ≤ marked m p + W (hit p))
+abbrev pub Walked : ℕ → List ℕ → ℕ → Weigher → List ℕ → Option ℕ → Type 0
+Walked P m v W m' (Some x) = WalkedOn P m v W m' x
+Walked P m v W m' None = (p : ℕ) × (p < P) × (2 ≤ marked m p + W (hit p))
 
 -- what filling word w of the marks answers: that its sixteen pages were not marked, and are now; or that nothing is done
 abbrev pub Filling : List ℕ → ℕ → List ℕ → Bool → Type 0

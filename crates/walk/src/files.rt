@@ -12,7 +12,6 @@ ghost use Rattle.tree.specs.Ends.{Ends};
 ghost use Rattle.walk.specs.Walked.{Walking, Walked};
 ghost use Rattle.walk.specs.Files.{FilesFit};
 
-use crate::Walk;
 use crate::roots::mark_root;
 use page::OBJECTS;
 use page::entry::{PAGES, POINTER};
@@ -21,12 +20,12 @@ use tree::entry::{entry_flags, entry_page, entry_two, entry_used};
 use tree::root::root_page;
 
 // Marks the pages of the file in object entry e, which lies on page q; an unused entry has none.
-fn mark_entry(img: &[u16], marks: &mut [u16], q: usize, e: usize, visited: u32) -> Walk
+fn mark_entry(img: &[u16], marks: &mut [u16], q: usize, e: usize, visited: u32) -> Option<u32>
     requires { Walking img.now marks.old visited × FilesFit img.now × (e < 65536) × (q ≡ object_page (vol img.now) e) × (q < pages img.now) }
     ensures { Walked (pages img.now) marks.old visited (weigh_r (vol img.now) (file_at (vol img.now) e)) marks.new result }
 {
     if !entry_used(img, q, e) {
-        return Walk::On { visited };
+        return Some(visited);
     }
     let flags = entry_flags(img, q, e, POINTER);
     let top = entry_page(img, q, e, POINTER);
@@ -35,24 +34,15 @@ fn mark_entry(img: &[u16], marks: &mut [u16], q: usize, e: usize, visited: u32) 
 }
 
 // Marks the pages of the 32 files whose entries are on page q, which is the object file's page at position n.
-fn mark_entries(img: &[u16], marks: &mut [u16], q: usize, n: usize, visited: u32) -> Walk
+fn mark_entries(img: &[u16], marks: &mut [u16], q: usize, n: usize, visited: u32) -> Option<u32>
     requires { Walking img.now marks.old visited × FilesFit img.now × (n < object_pages) × (q ≡ page_at (vol img.now) (object_file (vol img.now)) n) × (q < pages img.now) }
     ensures { Walked (pages img.now) marks.old visited (λ g. sum 32 (λ i. weigh_r (vol img.now) (file_at (vol img.now) (32 * n + i)) g)) marks.new result }
 {
     let mut v = visited;
-    let mut i: usize = 0;
-    while i < 32 {
-        match mark_entry(img, marks, q, 32 * n + i, v) {
-            Walk::On { visited: x } => {
-                v = x;
-            }
-            Walk::Met => {
-                return Walk::Met;
-            }
-        }
-        i += 1;
+    for i in 0..32 {
+        v = mark_entry(img, marks, q, 32 * n + i, v)?;
     }
-    Walk::On { visited: v }
+    Some(v)
 }
 
 // Marks the pages of the 32 files of position n of the object file, whose pointer has these flags and this page; an absent page has none.
@@ -63,36 +53,27 @@ fn mark_position(
     top: usize,
     n: usize,
     visited: u32,
-) -> Walk
+) -> Option<u32>
     requires { Walking img.now marks.old visited × FilesFit img.now × (n < object_pages) × (object_file (vol img.now) ≡ root_by flags top 0) × Reach img.now (root_by flags top 0) }
     ensures { Walked (pages img.now) marks.old visited (λ g. sum 32 (λ i. weigh_r (vol img.now) (file_at (vol img.now) (32 * n + i)) g)) marks.new result }
 {
     let q = root_page(img, flags, top, 0, n);
     if q == 0 {
-        return Walk::On { visited };
+        return Some(visited);
     }
     mark_entries(img, marks, q, n, visited)
 }
 
 // Marks the pages of all files. The object file ends at position `ends`.
-pub fn mark_files(img: &[u16], marks: &mut [u16], ends: usize, visited: u32) -> Walk
+pub fn mark_files(img: &[u16], marks: &mut [u16], ends: usize, visited: u32) -> Option<u32>
     requires { Walking img.now marks.old visited × Reach img.now (object_file (vol img.now)) × FilesFit img.now × Ends img.now ends }
     ensures { Walked (pages img.now) marks.old visited (λ g. sum 256 (λ u. mine (vol img.now) u g)) marks.new result }
 {
     let flags = flags_at(img, 0, OBJECTS);
     let top = page_at(img, 0, OBJECTS) as usize;
     let mut v = visited;
-    let mut n: usize = 0;
-    while n < ends {
-        match mark_position(img, marks, flags, top, n, v) {
-            Walk::On { visited: x } => {
-                v = x;
-            }
-            Walk::Met => {
-                return Walk::Met;
-            }
-        }
-        n += 1;
+    for n in 0..ends {
+        v = mark_position(img, marks, flags, top, n, v)?;
     }
-    Walk::On { visited: v }
+    Some(v)
 }

@@ -11,7 +11,6 @@ ghost use Rattle.tree.specs.Blocks.{pointer_in, share};
 ghost use Rattle.walk.specs.Walked.{Walking, Walked};
 ghost use Rattle.walk.specs.Short.{Short, Pointers, PointersBelow, Follows, Row};
 
-use crate::Walk;
 use crate::run::{mark_page, mark_run};
 use bits::marks::mark;
 use page::WORDS;
@@ -21,16 +20,7 @@ use page::read::dword;
 fn is_far(img: &[u16]) -> bool
     ensures { Decides result (65536 < pages img.now) }
 {
-    if 65536 < img.len() / WORDS {
-        return true;
-    }
-    false
-}
-
-fn wide(x: u16) -> usize
-    ensures { result ≡ x }
-{
-    x as usize
+    65536 < img.len() / WORDS
 }
 
 // What pointer i of a block names where that fills one word: the more significant word is zero then, and is not read.
@@ -38,7 +28,7 @@ fn near_page(block: &[u16], i: usize) -> usize
     requires { (length block.now ≡ 1024) × (i < 512) × (pointer_in block.now i < 65536) }
     ensures { result ≡ pointer_in block.now i }
 {
-    wide(block[2 * i + 1])
+    usize::from(block[2 * i + 1])
 }
 
 // What pointer i of a block names.
@@ -55,19 +45,10 @@ fn page_of(block: &[u16], i: usize, far: bool) -> usize
     ensures { result ≡ pointer_in block.now i }
 {
     if far {
-        return page_in(block, i) as usize;
+        page_in(block, i) as usize
+    } else {
+        near_page(block, i)
     }
-    near_page(block, i)
-}
-
-// 1 where two numbers differ, and 0 where they do not.
-fn differs(a: u32, b: u32) -> u16
-    ensures { (result ≤ 1) × (result ≡ 0 → a ≡ b) }
-{
-    if a != b {
-        return 1;
-    }
-    0
 }
 
 // Whether n pointers of a block from the second one on name the pages from `start` on, one after the other. The loop is not left early: the compiler turns it into
@@ -77,17 +58,10 @@ fn follows(block: &[u16], n: usize, start: u32) -> bool
     ensures { result ≡ true → Follows block.now n start }
 {
     let mut bad: u16 = 0;
-    let mut p = start;
-    let mut i: usize = 0;
-    while i < n {
-        bad += differs(page_in(block, i + 1), p);
-        p += 1;
-        i += 1;
+    for i in 0..n {
+        bad += u16::from(page_in(block, i + 1) != start + i as u32);
     }
-    if bad != 0 {
-        return false;
-    }
-    true
+    bad == 0
 }
 
 // Whether a block's first n pointers are a row: those from the second one on name pages one after the other, as those of a file do that grew while pages were free;
@@ -101,66 +75,44 @@ fn is_row(block: &[u16], n: usize) -> bool
     }
     let start = page_in(block, 1);
     let last = page_in(block, n - 1);
-    if last as usize != start as usize + n - 2 {
-        return false;
-    }
-    follows(block, n - 1, start)
+    last as usize == start as usize + n - 2 && follows(block, n - 1, start)
 }
 
 // Marks the pages of such a row.
-fn mark_row(img: &[u16], marks: &mut [u16], block: &[u16], n: usize, visited: u32) -> Walk
+fn mark_row(img: &[u16], marks: &mut [u16], block: &[u16], n: usize, visited: u32) -> Option<u32>
     requires { Walking img.now marks.old visited × PointersBelow img.now block.now 0 × (n ≤ 512) × Row block.now n }
     ensures { Walked (pages img.now) marks.old visited (λ g. sum n (λ k. weigh (vol img.now) 0 (pointer_in block.now k) g)) marks.new result }
 {
     let first = page_in(block, 0) as usize;
     let start = page_in(block, 1) as usize;
-    match mark_page(img, marks, first, visited) {
-        Walk::On { visited: x } => mark_run(img, marks, start, n - 1, x),
-        Walk::Met => Walk::Met,
-    }
+    let x = mark_page(img, marks, first, visited)?;
+    mark_run(img, marks, start, n - 1, x)
 }
 
 // Marks the pages that a block's first n pointers name, one by one.
-fn mark_slots(img: &[u16], marks: &mut [u16], block: &[u16], n: usize, visited: u32) -> Walk
+fn mark_slots(img: &[u16], marks: &mut [u16], block: &[u16], n: usize, visited: u32) -> Option<u32>
     requires { Walking img.now marks.old visited × PointersBelow img.now block.now 0 × (n ≤ 512) }
     ensures { Walked (pages img.now) marks.old visited (λ g. sum n (λ k. weigh (vol img.now) 0 (pointer_in block.now k) g)) marks.new result }
 {
     let far = is_far(img);
     let mut v = visited;
-    let mut i: usize = 0;
-    while i < n {
+    for i in 0..n {
         let p = page_of(block, i, far);
-        match mark_page(img, marks, p, v) {
-            Walk::On { visited: x } => {
-                v = x;
-            }
-            Walk::Met => {
-                return Walk::Met;
-            }
-        }
-        i += 1;
+        v = mark_page(img, marks, p, v)?;
     }
-    Walk::On { visited: v }
+    Some(v)
 }
 
 // Marks the pages that a block's first n pointers name.
-fn mark_pages(img: &[u16], marks: &mut [u16], block: &[u16], n: usize, visited: u32) -> Walk
+fn mark_pages(img: &[u16], marks: &mut [u16], block: &[u16], n: usize, visited: u32) -> Option<u32>
     requires { Walking img.now marks.old visited × PointersBelow img.now block.now 0 × (n ≤ 512) }
     ensures { Walked (pages img.now) marks.old visited (λ g. sum n (λ k. weigh (vol img.now) 0 (pointer_in block.now k) g)) marks.new result }
 {
     if is_row(block, n) {
-        return mark_row(img, marks, block, n, visited);
+        mark_row(img, marks, block, n, visited)
+    } else {
+        mark_slots(img, marks, block, n, visited)
     }
-    mark_slots(img, marks, block, n, visited)
-}
-
-fn least(a: usize, b: usize) -> usize
-    ensures { result ≡ min a b }
-{
-    if a < b {
-        return a;
-    }
-    b
 }
 
 // How many positions there can be under a pointer of this level.
@@ -168,10 +120,7 @@ fn positions(level: usize) -> usize
     requires { level < 2 }
     ensures { (result ≡ 512 ^ level) × (result ≤ 512) }
 {
-    if level == 0 {
-        return 1;
-    }
-    512
+    if level == 0 { 1 } else { 512 }
 }
 
 // How many of a block's 512 pointers so many positions need.
@@ -180,9 +129,10 @@ fn pointers(count: usize, level: usize) -> usize
     ensures { (result ≤ 512) × ((k : ℕ) → result ≤ k → k < 512 → count ≤ k * 512 ^ level) }
 {
     if level == 0 {
-        return least(count, 512);
+        count.min(512)
+    } else {
+        count.min(262144).div_ceil(512)
     }
-    (least(count, 262144) + 511) / 512
 }
 
 // How many of the positions are under pointer i.
@@ -191,11 +141,7 @@ fn under(count: usize, level: usize, i: usize) -> usize
     ensures { result ≡ share level count i }
 {
     let each = positions(level);
-    let before = i * each;
-    if count <= before {
-        return 0;
-    }
-    least(count - before, each)
+    count.saturating_sub(i * each).min(each)
 }
 
 // Marks the block that a pointer of this level names, and all below it. Pointer 0 names none.
@@ -207,19 +153,19 @@ pub fn mark_pointer(
     level: usize,
     count: usize,
     visited: u32,
-) -> Walk
+) -> Option<u32>
     requires { Walking img.now marks.old visited × Below (vol img.now) (pages img.now) level page × Short (vol img.now) level page count × (0 < level) × (level < 3) }
     ensures { Walked (pages img.now) marks.old visited (weigh (vol img.now) level page) marks.new result }
 {
     if page == 0 {
-        return Walk::On { visited };
+        Some(visited)
+    } else if mark(marks, page) {
+        let a = WORDS * page;
+        let z = a + WORDS;
+        mark_block(img, marks, &img[a..z], level - 1, count, visited + 1)
+    } else {
+        None
     }
-    if !mark(marks, page) {
-        return Walk::Met;
-    }
-    let a = WORDS * page;
-    let z = a + WORDS;
-    mark_block(img, marks, &img[a..z], level - 1, count, visited + 1)
 }
 
 // Marks what a block's pointers name. The level is that of the pointers in the block.
@@ -231,7 +177,7 @@ pub fn mark_block(
     level: usize,
     count: usize,
     visited: u32,
-) -> Walk
+) -> Option<u32>
     requires { Walking img.now marks.old visited × PointersBelow img.now block.now level × Pointers img.now block.now level count × (level < 2) }
     ensures { Walked (pages img.now) marks.old visited (λ g. sum 512 (λ k. weigh (vol img.now) level (pointer_in block.now k) g)) marks.new result }
 {
@@ -240,18 +186,9 @@ pub fn mark_block(
         return mark_pages(img, marks, block, n, visited);
     }
     let mut v = visited;
-    let mut i: usize = 0;
-    while i < n {
+    for i in 0..n {
         let p = dword(block, 2 * i) as usize;
-        match mark_pointer(img, marks, p, level, under(count, level, i), v) {
-            Walk::On { visited: x } => {
-                v = x;
-            }
-            Walk::Met => {
-                return Walk::Met;
-            }
-        }
-        i += 1;
+        v = mark_pointer(img, marks, p, level, under(count, level, i), v)?;
     }
-    Walk::On { visited: v }
+    Some(v)
 }

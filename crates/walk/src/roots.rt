@@ -8,7 +8,6 @@ ghost use Rattle.laws.specs.Tree.Weigh.{BelowR};
 ghost use Rattle.walk.specs.Walked.{Walking, Walked};
 ghost use Rattle.walk.specs.Short.{ShortR};
 
-use crate::Walk;
 use crate::pages::mark_pointer;
 use crate::run::{mark_each, mark_run};
 
@@ -20,17 +19,15 @@ pub fn mark_tree(
     top: usize,
     count: usize,
     visited: u32,
-) -> Walk
+) -> Option<u32>
     requires { Walking img.now marks.old visited × BelowR (vol img.now) (pages img.now) (root_by flags top 0) × ShortR (vol img.now) (root_by flags top 0) count }
     ensures { Walked (pages img.now) marks.old visited (weigh_r (vol img.now) (root_by flags top 0)) marks.new result }
 {
-    if flags == 1 {
-        return mark_pointer(img, marks, top, 1, count, visited);
+    match flags {
+        1 => mark_pointer(img, marks, top, 1, count, visited),
+        2 => mark_pointer(img, marks, top, 2, count, visited),
+        _ => Some(visited),
     }
-    if flags == 2 {
-        return mark_pointer(img, marks, top, 2, count, visited);
-    }
-    Walk::On { visited }
 }
 
 // Marks the pages of the root with these flags, page and count.
@@ -41,15 +38,15 @@ pub fn mark_root(
     top: usize,
     count: usize,
     visited: u32,
-) -> Walk
+) -> Option<u32>
     requires { Walking img.now marks.old visited × BelowR (vol img.now) (pages img.now) (root_by flags top count) × ShortR (vol img.now) (root_by flags top count) count }
     ensures { Walked (pages img.now) marks.old visited (weigh_r (vol img.now) (root_by flags top count)) marks.new result }
 {
     if flags != 0 {
-        return mark_tree(img, marks, flags, top, count, visited);
+        mark_tree(img, marks, flags, top, count, visited)
+    } else if count < 32 {
+        mark_each(img, marks, top, count, visited)
+    } else {
+        mark_run(img, marks, top, count, visited)
     }
-    if count < 32 {
-        return mark_each(img, marks, top, count, visited);
-    }
-    mark_run(img, marks, top, count, visited)
 }

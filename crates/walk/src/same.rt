@@ -15,21 +15,8 @@ fn same_words(a: &[u16], b: &[u16], pages: usize) -> bool
     ensures { Decides result ((p : ℕ) → p < pages → marked a.now p ≡ marked b.now p) }
 {
     let full = pages / 16;
-    let mut i: usize = 0;
-    while i < full {
-        if a[i] != b[i] {
-            return false;
-        }
-        i += 1;
-    }
     let rest = pages % 16;
-    if rest == 0 {
-        return true;
-    }
-    if low_bits(a[full], rest) != low_bits(b[full], rest) {
-        return false;
-    }
-    true
+    a[..full] == b[..full] && (rest == 0 || low_bits(a[full], rest) == low_bits(b[full], rest))
 }
 
 // Each page's bit is its mark; the bit file begins at page b.

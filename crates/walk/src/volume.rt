@@ -11,7 +11,6 @@ ghost use Rattle.bits.specs.Marks.{Unmarked};
 ghost use Rattle.walk.specs.Walked.{Walking, Walked};
 ghost use Rattle.walk.specs.Held.{Held, Volume};
 
-use crate::Walk;
 use crate::files::mark_files;
 use crate::roots::mark_tree;
 use crate::run::mark_each;
@@ -21,7 +20,7 @@ use page::read::{flags_at, page_at};
 use page::{BITS, OBJECT_PAGES, OBJECTS, USERS};
 
 // The pages of the bit file.
-fn mark_bits(img: &[u16], marks: &mut [u16], pages: usize, visited: u32) -> Walk
+fn mark_bits(img: &[u16], marks: &mut [u16], pages: usize, visited: u32) -> Option<u32>
     requires { Walking img.now marks.old visited × Volume img.now × (pages ≡ pages_of img.now) }
     ensures { Walked (pages_of img.now) marks.old visited (weigh_r (vol img.now) (bit_file (pages_of img.now) (vol img.now))) marks.new result }
 {
@@ -30,7 +29,7 @@ fn mark_bits(img: &[u16], marks: &mut [u16], pages: usize, visited: u32) -> Walk
 }
 
 // The pages of the user file.
-fn mark_users(img: &[u16], marks: &mut [u16], visited: u32) -> Walk
+fn mark_users(img: &[u16], marks: &mut [u16], visited: u32) -> Option<u32>
     requires { Walking img.now marks.old visited × Volume img.now }
     ensures { Walked (pages_of img.now) marks.old visited (weigh_r (vol img.now) (user_file (vol img.now))) marks.new result }
 {
@@ -43,14 +42,11 @@ fn mark_users(img: &[u16], marks: &mut [u16], visited: u32) -> Walk
 fn object_positions(flags: u16, ends: usize) -> usize
     ensures { (flags ≡ 1 → result ≡ ends) × ((flags ≡ 1 → ⊥) → result ≡ object_pages) }
 {
-    if flags == 1 {
-        return ends;
-    }
-    OBJECT_PAGES
+    if flags == 1 { ends } else { OBJECT_PAGES }
 }
 
 // The pages of the object file.
-fn mark_objects(img: &[u16], marks: &mut [u16], ends: usize, visited: u32) -> Walk
+fn mark_objects(img: &[u16], marks: &mut [u16], ends: usize, visited: u32) -> Option<u32>
     requires { Walking img.now marks.old visited × Volume img.now × Ends img.now ends }
     ensures { Walked (pages_of img.now) marks.old visited (weigh_r (vol img.now) (object_file (vol img.now))) marks.new result }
 {
@@ -67,35 +63,35 @@ fn mark_objects(img: &[u16], marks: &mut [u16], ends: usize, visited: u32) -> Wa
 }
 
 // The pages of both.
-fn mark_entry_files(img: &[u16], marks: &mut [u16], ends: usize, visited: u32) -> Walk
+fn mark_entry_files(img: &[u16], marks: &mut [u16], ends: usize, visited: u32) -> Option<u32>
     requires { Walking img.now marks.old visited × Volume img.now × Ends img.now ends }
     ensures { Walked (pages_of img.now) marks.old visited (λ g. weigh_r (vol img.now) (user_file (vol img.now)) g + weigh_r (vol img.now) (object_file (vol img.now)) g) marks.new result }
 {
-    match mark_users(img, marks, visited) {
-        Walk::On { visited: n } => mark_objects(img, marks, ends, n),
-        Walk::Met => Walk::Met,
-    }
+    let n = mark_users(img, marks, visited)?;
+    mark_objects(img, marks, ends, n)
 }
 
 // The system pages but the master page.
-fn mark_system(img: &[u16], marks: &mut [u16], pages: usize, ends: usize, visited: u32) -> Walk
+fn mark_system(
+    img: &[u16],
+    marks: &mut [u16],
+    pages: usize,
+    ends: usize,
+    visited: u32,
+) -> Option<u32>
     requires { Walking img.now marks.old visited × Volume img.now × (pages ≡ pages_of img.now) × Ends img.now ends }
     ensures { Walked (pages_of img.now) marks.old visited (system (pages_of img.now) (vol img.now)) marks.new result }
 {
-    match mark_bits(img, marks, pages, visited) {
-        Walk::On { visited: n } => mark_entry_files(img, marks, ends, n),
-        Walk::Met => Walk::Met,
-    }
+    let n = mark_bits(img, marks, pages, visited)?;
+    mark_entry_files(img, marks, ends, n)
 }
 
 // Marks every page that is held, from no marks on. The object file ends at position `ends`.
-pub fn mark_all(img: &[u16], marks: &mut [u16], pages: usize, ends: usize) -> Walk
+pub fn mark_all(img: &[u16], marks: &mut [u16], pages: usize, ends: usize) -> Option<u32>
     requires { Unmarked (pages_of img.now) marks.old × Volume img.now × (pages ≡ pages_of img.now) × Ends img.now ends }
     ensures { Held (pages_of img.now) (vol img.now) marks.new result }
 {
     mark(marks, 0);
-    match mark_system(img, marks, pages, ends, 1) {
-        Walk::On { visited: n } => mark_files(img, marks, ends, n),
-        Walk::Met => Walk::Met,
-    }
+    let n = mark_system(img, marks, pages, ends, 1)?;
+    mark_files(img, marks, ends, n)
 }

@@ -1,6 +1,8 @@
+use Rattle.std.proofs.Common.{◌<◌, rules}
 use Rattle.book.specs.Image.{pages}
 use Rattle.book.specs.Words.{vol}
-use Rattle.book.specs.Decides.{holds, fails}
+use Rattle.book.specs.Entries.{used}
+use Rattle.tree.specs.Reach.{entry_in}
 use Rattle.tree.proofs.Entries.{file-in-none}
 use Rattle.walk.proofs.Entries.{read-file, read_short, walked-root, walked_empty}
 use Rattle.walk.proofs.Holding.{below-same}
@@ -8,11 +10,11 @@ use Rattle.walk.proofs.files.mark_entry.Goals as goal
 
 pub returns-then-not-entry_used : goal.returns-then-not-entry_used
 returns-then-not-entry_used c = let v = vol c.args.img.now in let P = pages c.args.img.now in
-    walked_empty P c.args.marks.now c.args.visited v _ (file-in-none v c.args.e c.args.q c.requires.3 (fails c.entry_used.result _ c.entry_used.ensures c.if-not-entry_used.true-raw))
+    walked_empty P c.args.marks.now c.args.visited v _ (file-in-none v c.args.e c.args.q c.requires.3 (search rules))
 
 pub mark_root-requires : goal.mark_root-requires
 mark_root-requires c = let v = vol c.args.img.now in let P = pages c.args.img.now in
-    let u = (holds c.entry_used.result _ c.entry_used.ensures c.if-not-entry_used.false-raw) in (
+    let u : 0 < used (entry_in v c.args.q c.args.e) = search rules in (
       c.requires.0,
       below-same v P _ _ (read-file v c.args.e c.args.q c.requires.3 u c.entry_flags-flags.result c.entry_page-top.result c.entry_two-count.result c.entry_flags-flags.ensures.0 c.entry_page-top.ensures.0 c.entry_two-count.ensures.0) (c.requires.1.below c.args.e c.requires.2),
       read_short v c.args.e c.args.q c.requires.3 u c.entry_flags-flags.result c.entry_page-top.result c.entry_two-count.result c.entry_flags-flags.ensures.0 c.entry_page-top.ensures.0 c.entry_two-count.ensures.0 (c.requires.1.short c.args.e c.requires.2),
@@ -20,5 +22,5 @@ mark_root-requires c = let v = vol c.args.img.now in let P = pages c.args.img.no
 
 pub returns : goal.returns
 returns c = let v = vol c.args.img.now in let P = pages c.args.img.now in
-    let u = (holds c.entry_used.result _ c.entry_used.ensures c.if-not-entry_used.false-raw) in
+    let u : 0 < used (entry_in v c.args.q c.args.e) = search rules in
     walked-root P c.args.marks.now c.args.visited v _ _ (read-file v c.args.e c.args.q c.requires.3 u c.entry_flags-flags.result c.entry_page-top.result c.entry_two-count.result c.entry_flags-flags.ensures.0 c.entry_page-top.ensures.0 c.entry_two-count.ensures.0) c.mark_root.new.marks c.mark_root.result c.mark_root.ensures

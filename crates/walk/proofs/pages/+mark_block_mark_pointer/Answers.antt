@@ -1,11 +1,10 @@
 use Prim.Native.Nat.{ℕ}
-use mathlib.Core.Path.{◌≡◌, refl, subst}
+use mathlib.Core.Path.{refl, subst}
 use native.Mathlib.Omega.{arith}
 use borrow.Author.Rules.{rules}
 use Rattle.book.specs.Image.{pages}
-use Rattle.walk.specs.declared.Walk.TheVariants.{On, Met}
+use Rattle.std.specs.Prelude.{Some, None}
 use Rattle.walk.specs.Short.{PointersBelow}
-use Rattle.bits.proofs.Marked.{marking-new, marking-old}
 use Rattle.tree.proofs.Blocks.{pointer_read}
 use Rattle.walk.proofs.Walks.{row-start, row_on, row-met, row-end}
 use Rattle.walk.proofs.Pointers.{below_top, slots_of, slot-below, slot-short, slot-weigh, block-walking, block-below, block-short, block-all, row-level, pointer_none, pointer-met, pointer-block, mark-fits, mark-walking}
@@ -25,14 +24,14 @@ mark_block-returns-then-level-eq0 t c =
 
 pub mark_block-loop-i-init : goal.mark_block-loop-i-init
 mark_block-loop-i-init t c =
-    (omega arith, row-start _ _ _ _)
+    row-start _ _ _ _
 
 pub mark_block-mark_pointer-requires : goal.mark_block-mark_pointer-requires
 mark_block-mark_pointer-requires t c =
     let e = pointer_read c.args.block.now c.loop-i.i _ c.dword-p.ensures.0 in (
       omega (arith, c.decreases),
       (
-        block-walking c.args.img.now c.args.block.now _ c.requires.1 c.loop-i.i (omega arith) _ _ _ _ c.requires.0 c.loop-i.invariant.1,
+        block-walking c.args.img.now c.args.block.now _ c.requires.1 c.loop-i.i (omega arith) _ _ _ _ c.requires.0 c.loop-i.invariant,
         slot-below c.args.img.now c.args.block.now _ c.requires.1 c.loop-i.i (omega arith) _ e,
         slot-short c.args.img.now c.args.block.now _ c.args.count c.requires.2 c.loop-i.i (omega arith) _ _ e c.under.ensures,
         omega arith,
@@ -40,23 +39,22 @@ mark_block-mark_pointer-requires t c =
       ),
     )
 
-pub mark_block-returns-in-Met : goal.mark_block-returns-in-Met
-mark_block-returns-in-Met t c =
-    block-all c.args.img.now c.args.block.now c.args.level c.args.count c.requires.2 c.pointers-n.result c.pointers-n.ensures.0 c.pointers-n.ensures.1 (pages c.args.img.now) c.args.marks.now c.args.visited c.args.marks.now Met
-    (row-met _ _ _ (slots_of c.args.img.now c.args.level c.args.block.now) c.loop-i.i _ _ c.loop-i.invariant.1 _ (slot-weigh c.args.img.now c.args.block.now _ c.requires.1 c.loop-i.i _ (pointer_read c.args.block.now c.loop-i.i _ c.dword-p.ensures.0)) _ _
-    c.mark_pointer.ensures c.in-Met.is c.pointers-n.result (omega arith) c.args.marks.now)
+pub mark_block-returns-in_err-v : goal.mark_block-returns-in_err-v
+mark_block-returns-in_err-v t c =
+    rw c.from_residual.ensures (
+    block-all c.args.img.now c.args.block.now c.args.level c.args.count c.requires.2 c.pointers-n.result c.pointers-n.ensures.0 c.pointers-n.ensures.1 (pages c.args.img.now) c.args.marks.now c.args.visited c.mark_pointer.new.marks None
+    (row-met _ _ _ (slots_of c.args.img.now c.args.level c.args.block.now) c.loop-i.i _ _ c.loop-i.invariant _ (slot-weigh c.args.img.now c.args.block.now _ c.requires.1 c.loop-i.i _ (pointer_read c.args.block.now c.loop-i.i _ c.dword-p.ensures.0)) c.mark_pointer.new.marks
+    c.in_err-v.ensures c.pointers-n.result (omega arith) c.mark_pointer.new.marks)
+    )
 
 pub mark_block-loop-i-preserved : goal.mark_block-loop-i-preserved
-mark_block-loop-i-preserved t c = (
-  omega arith,
-  row_on _ _ _ (slots_of c.args.img.now c.args.level c.args.block.now) c.loop-i.i _ _ c.loop-i.invariant.1 _ (slot-weigh c.args.img.now c.args.block.now _ c.requires.1 c.loop-i.i _ (pointer_read c.args.block.now c.loop-i.i _ c.dword-p.ensures.0)) _ _
-      c.mark_pointer.ensures _ c.in-On.is,
-)
+mark_block-loop-i-preserved t c =
+    row_on _ _ _ (slots_of c.args.img.now c.args.level c.args.block.now) c.loop-i.i _ _ c.loop-i.invariant _ (slot-weigh c.args.img.now c.args.block.now _ c.requires.1 c.loop-i.i _ (pointer_read c.args.block.now c.loop-i.i _ c.dword-p.ensures.0)) _ _ c.in_ok-v.ensures
 
 pub mark_block-returns : goal.mark_block-returns
 mark_block-returns t c =
-    block-all c.args.img.now c.args.block.now c.args.level c.args.count c.requires.2 c.pointers-n.result c.pointers-n.ensures.0 c.pointers-n.ensures.1 (pages c.args.img.now) c.args.marks.now c.args.visited _ (On c.loop-i.v)
-    (row-end _ _ _ (slots_of c.args.img.now c.args.level c.args.block.now) _ _ _ _ (let e : c.loop-i.i ≡ c.pointers-n.result = omega arith in e) c.loop-i.invariant.1)
+    block-all c.args.img.now c.args.block.now c.args.level c.args.count c.requires.2 c.pointers-n.result c.pointers-n.ensures.0 c.pointers-n.ensures.1 (pages c.args.img.now) c.args.marks.now c.args.visited _ (Some c.loop-i.v)
+    (row-end _ _ _ (slots_of c.args.img.now c.args.level c.args.block.now) c.loop-i.i _ _ _ (omega arith) c.loop-i.invariant)
 
 pub mark_pointer-returns-then-page-eq0 : goal.mark_pointer-returns-then-page-eq0
 mark_pointer-returns-then-page-eq0 t c =
@@ -66,9 +64,9 @@ pub mark_pointer-mark-requires : goal.mark_pointer-mark-requires
 mark_pointer-mark-requires t c =
     let i = below_top _ _ _ _ c.requires.1 in omega (arith, c.requires.0.room)
 
-pub mark_pointer-returns-then-not-mark : goal.mark_pointer-returns-then-not-mark
-mark_pointer-returns-then-not-mark t c =
-    pointer-met c.args.img.now _ _ c.args.visited _ _ (omega arith) (below_top _ _ _ _ c.requires.1) (marking-old _ _ _ c.mark.result c.mark.ensures c.if-not-mark.true-raw).0 c.args.marks.now
+pub mark_pointer-returns-else-mark : goal.mark_pointer-returns-else-mark
+mark_pointer-returns-else-mark t c =
+    pointer-met c.args.img.now _ _ c.args.visited _ _ (omega arith) (below_top _ _ _ _ c.requires.1) c.if-mark.ensures.0 c.args.marks.now
 
 pub mark_pointer-overflow_mul-a : goal.mark_pointer-overflow_mul-a
 mark_pointer-overflow_mul-a t c =
@@ -88,20 +86,20 @@ mark_pointer-slice_bounds-mark_block-end t c =
 
 pub mark_pointer-overflow_add-visited : goal.mark_pointer-overflow_add-visited
 mark_pointer-overflow_add-visited t c =
-    omega (arith, mark-fits c.args.img.now _ _ _ _ (marking-new _ _ _ c.mark.result c.mark.ensures c.if-not-mark.false-raw) (below_top _ _ _ _ c.requires.1) c.requires.0)
+    omega (arith, mark-fits c.args.img.now _ _ _ _ c.if-mark.ensures (below_top _ _ _ _ c.requires.1) c.requires.0)
 
 pub mark_pointer-mark_block-requires : goal.mark_pointer-mark_block-requires
 mark_pointer-mark_block-requires t c =
     let i = below_top _ _ _ _ c.requires.1 in (
       omega (arith, c.decreases, c.requires.3),
       (
-        mark-walking c.args.img.now _ _ _ _ (marking-new _ _ _ c.mark.result c.mark.ensures c.if-not-mark.false-raw) i c.requires.0,
+        mark-walking c.args.img.now _ _ _ _ c.if-mark.ensures i c.requires.0,
         block-below c.args.img.now c.args.page _ refl (omega arith) c.args.level c.requires.3 (search rules) c.requires.1,
         block-short c.args.img.now c.args.page _ refl (omega arith) c.args.level c.args.count c.requires.3 c.requires.2,
         omega arith,
       ),
     )
 
-pub mark_pointer-returns : goal.mark_pointer-returns
-mark_pointer-returns t c =
-    pointer-block c.args.img.now (pages c.args.img.now) c.args.marks.now c.args.visited _ _ (omega arith) _ (marking-new _ _ _ c.mark.result c.mark.ensures c.if-not-mark.false-raw) c.requires.3 _ refl c.mark_block.new.marks c.mark_block.result c.mark_block.ensures
+pub mark_pointer-returns-then-mark : goal.mark_pointer-returns-then-mark
+mark_pointer-returns-then-mark t c =
+    pointer-block c.args.img.now (pages c.args.img.now) c.args.marks.now c.args.visited _ _ (omega arith) _ c.if-mark.ensures c.requires.3 _ refl c.mark_block.new.marks c.mark_block.result c.mark_block.ensures

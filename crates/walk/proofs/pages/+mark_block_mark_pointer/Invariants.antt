@@ -1,4 +1,4 @@
-use Prim.Native.Nat.{◌+◌, ◌-◌, ◌*◌, ◌≤◌}
+use Prim.Native.Nat.{◌+◌, ◌*◌}
 use Rattle.book.specs.Image.{pages}
 use Rattle.walk.specs.Walked.{WalkedOn}
 use Rattle.walk.proofs.Walks.{row_of}
@@ -13,7 +13,4 @@ abbrev pub decreases-mark_pointer : goal.decreases-mark_pointer
 decreases-mark_pointer l = 2 * l.level
 
 abbrev pub invariant-mark_block-loop-i : goal.invariant-mark_block-loop-i
-invariant-mark_block-loop-i l = (l.i ≤ l.n) × WalkedOn (pages l.img) l.initial.marks l.visited (row_of (slots_of l.img l.level l.block) l.i) l.marks l.v
-
-abbrev pub decreases-mark_block-loop-i : goal.decreases-mark_block-loop-i
-decreases-mark_block-loop-i l = l.n - l.i
+invariant-mark_block-loop-i l = WalkedOn (pages l.img) l.initial.marks l.visited (row_of (slots_of l.img l.level l.block) l.i) l.marks l.v

@@ -1,10 +1,7 @@
 -- `walk::pages::mark_pages` meets its contract. Assumes nothing.
-use native.Mathlib.Omega.{arith}
+use Rattle.std.proofs.Common.{arith}
 use Rattle.walk.proofs.Pointers.{below_top}
 use Rattle.walk.proofs.pages.mark_pages.Goals as goal
 
 pub is_row-requires : goal.is_row-requires
 is_row-requires c = (c.requires.1.size, c.requires.2, omega (arith, below_top _ _ 0 _ (c.requires.1.below 1 (omega arith)), c.requires.0.few))
-
-pub mark_row-requires : goal.mark_row-requires
-mark_row-requires c = (c.requires.0, c.requires.1, c.requires.2, c.is_row.ensures c.if-is_row.true)

@@ -26,5 +26,5 @@ returns-then-count-lt32 c = walked-run (vol c.args.img.now) (pages c.args.img.no
 pub mark_run-requires : goal.mark_run-requires
 mark_run-requires c = (c.requires.0, run-below (vol c.args.img.now) (pages c.args.img.now) c.args.flags c.args.top c.args.count c.requires.1 c.if-flags-ne0.false, omega (arith, c.if-count-lt32.false))
 
-pub returns : goal.returns
-returns c = walked-run (vol c.args.img.now) (pages c.args.img.now) c.args.flags c.args.top c.args.count c.args.marks.now c.args.visited c.if-flags-ne0.false c.mark_run.new.marks c.mark_run.result c.mark_run.ensures
+pub returns-else-count-lt32 : goal.returns-else-count-lt32
+returns-else-count-lt32 c = walked-run (vol c.args.img.now) (pages c.args.img.now) c.args.flags c.args.top c.args.count c.args.marks.now c.args.visited c.if-flags-ne0.false c.mark_run.new.marks c.mark_run.result c.mark_run.ensures

@@ -1,24 +1,24 @@
-use Prim.Native.Nat.{ℕ, ◌/◌, ◌%◌, ◌^◌}
-use mathlib.Core.Path.{sym, ap, ◌∙◌}
-use native.Mathlib.Omega.{arith}
-use Rattle.walk.proofs.Lows.{low-whole, words_same, words-differ}
+-- `walk::same::same_words` meets its contract. Assumes nothing.
+use Rattle.std.proofs.Common.{◌/◌, ◌%◌, sym, ◌∙◌, arith}
+use Rattle.std.proofs.lemmas.Bool.{eq-eqb}
+use Rattle.std.proofs.lemmas.Slice.Eq.{bytes_eq-Decides}
+use Rattle.page.proofs.Deciding.{decides-iff, decides_eq, never}
+use Rattle.walk.proofs.Lows.{words_same, words-alike, first_same, first-alike}
 use Rattle.walk.proofs.same.same_words.Goals as goal
 
-pub returns-then-a-i : goal.returns-then-a-i
-returns-then-a-i c =
-    words-differ _ _ c.loop-i.i 16 (omega arith) _ (omega arith)
-    (λ e. c.if-a-i.true (sym (low-whole _ (c.shared_slice_known-in-loop-i-1.given c.loop-i.i).fits) ∙ e ∙ low-whole _ (c.shared_slice_known-in-loop-i-2-1.given c.loop-i.i).fits))
-
-pub loop-i-preserved : goal.loop-i-preserved
-loop-i-preserved c = (omega arith, λ p lt. words_same _ _ c.loop-i.i 16 (omega arith) (ap (λ (n : ℕ). n % 2 ^ 16) c.if-a-i.false) c.loop-i.invariant.1 p (omega arith))
-
 pub returns-then-rest-eq0 : goal.returns-then-rest-eq0
-returns-then-rest-eq0 c = λ p lt. c.loop-i.invariant.1 p (omega arith)
+returns-then-rest-eq0 c = rw (eq-eqb _ _ c.if-rest-eq0.true) (λ p h. first_same _ _ (c.args.pages / 16) ((bytes_eq-Decides _ _).0 (sym c.if-eq.ensures)) p (omega arith))
 
-pub returns-then-low_bits : goal.returns-then-low_bits
-returns-then-low_bits c = words-differ _ _ (c.args.pages / 16) (c.args.pages % 16) (omega arith) _ (omega arith) (λ e. c.if-low_bits.true (c.low_bits.ensures ∙ e ∙ sym c.low_bits-2.ensures))
+pub returns-else-rest-eq0 : goal.returns-else-rest-eq0
+returns-else-rest-eq0 c =
+    decides-iff _ _ _
+    (λ e p h. words_same c.args.a.now c.args.b.now (c.args.pages / 16) (c.args.pages % 16) (omega arith) (sym c.low_bits.ensures ∙ e ∙ c.low_bits-else-rest-eq0.ensures)
+    (first_same _ _ (c.args.pages / 16) ((bytes_eq-Decides _ _).0 (sym c.if-eq.ensures))) p (omega arith))
+    (λ h. c.low_bits.ensures ∙ words-alike c.args.a.now c.args.b.now (c.args.pages / 16) (c.args.pages % 16) (omega arith) c.args.pages (omega arith) h ∙ sym c.low_bits-else-rest-eq0.ensures)
+    (decides_eq c.low_bits.result c.low_bits-else-rest-eq0.result)
 
-pub returns : goal.returns
-returns c =
-    λ p lt. words_same _ _ (c.args.pages / 16) (c.args.pages % 16) (omega arith) (sym c.low_bits.ensures ∙ c.if-low_bits.false ∙ c.low_bits-2.ensures)
-    (λ q h. c.loop-i.invariant.1 q (omega arith)) p (omega arith)
+pub returns-else-eq : goal.returns-else-eq
+returns-else-eq c =
+    rw c.if-eq.false (λ h. never (c.if-eq.ensures ∙ (bytes_eq-Decides _ _).1 (
+    first-alike c.args.a.now c.args.b.now (c.args.pages / 16) (omega arith) (omega arith) (λ k. (c.type_inv.a k).fits) (λ k. (c.type_inv.b k).fits) c.args.pages (omega arith) h
+    )))

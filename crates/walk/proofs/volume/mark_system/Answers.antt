@@ -1,10 +1,11 @@
 use Rattle.book.specs.Trees.{weigh_r}
+use Rattle.book.specs.Bits.{bit_file}
 use Rattle.book.specs.Entries.{user_file, object_file}
 use Prim.Native.Nat.{◌+◌}
 use Rattle.book.specs.Image.{pages}
 use Rattle.book.specs.Words.{vol}
-use Rattle.walk.specs.declared.Walk.TheVariants.{Met}
-use Rattle.walk.proofs.Walks.{marked-on, then-on, then-met, walking_on}
+use Rattle.std.specs.Prelude.{None}
+use Rattle.walk.proofs.Walks.{walked_then, then-met, walking_on}
 use Rattle.walk.proofs.Holding.{bits-counts, walked-system}
 use Rattle.walk.proofs.volume.mark_system.Goals as goal
 
@@ -13,13 +14,16 @@ mark_bits-requires c = (c.requires.0, c.requires.1, c.requires.2)
 
 pub mark_entry_files-requires : goal.mark_entry_files-requires
 mark_entry_files-requires c = let v = vol c.args.img.now in let P = pages c.args.img.now in
-    (walking_on c.args.img.now c.args.marks.now c.args.visited _ _ _ c.requires.0 (bits-counts c.args.img.now c.requires.1) (marked-on P c.args.marks.now c.args.visited _ c.mark_bits.new.marks c.mark_bits.result c.mark_bits.ensures _ c.in-On.is), c.requires.1, c.requires.3)
+    (walking_on c.args.img.now c.args.marks.now c.args.visited _ _ _ c.requires.0 (bits-counts c.args.img.now c.requires.1) c.in_ok-n.ensures, c.requires.1, c.requires.3)
 
-pub returns-in-On : goal.returns-in-On
-returns-in-On c = let v = vol c.args.img.now in let P = pages c.args.img.now in
+pub returns : goal.returns
+returns c = let v = vol c.args.img.now in let P = pages c.args.img.now in
     walked-system P v c.args.marks.now c.args.visited c.mark_entry_files.new.marks c.mark_entry_files.result
-    (then-on P c.args.marks.now c.args.visited _ c.mark_bits.new.marks c.mark_bits.result c.mark_bits.ensures _ c.in-On.is _ c.mark_entry_files.new.marks c.mark_entry_files.result c.mark_entry_files.ensures)
+    (walked_then P c.args.marks.now c.args.visited (weigh_r v (bit_file P v)) c.mark_bits.new.marks _ c.in_ok-n.ensures (λ g. weigh_r v (user_file v) g + weigh_r v (object_file v) g) c.mark_entry_files.new.marks c.mark_entry_files.result c.mark_entry_files.ensures)
 
-pub returns-in-Met : goal.returns-in-Met
-returns-in-Met c = let v = vol c.args.img.now in let P = pages c.args.img.now in
-    walked-system P v c.args.marks.now c.args.visited c.args.marks.now Met (then-met P c.args.marks.now c.args.visited _ c.mark_bits.new.marks c.mark_bits.result c.mark_bits.ensures c.in-Met.is (λ g. weigh_r v (user_file v) g + weigh_r v (object_file v) g) c.args.marks.now)
+pub returns-in_err-n : goal.returns-in_err-n
+returns-in_err-n c = let v = vol c.args.img.now in let P = pages c.args.img.now in
+    rw c.from_residual.ensures (
+    walked-system P v c.args.marks.now c.args.visited c.mark_bits.new.marks None
+    (then-met P c.args.marks.now c.args.visited (weigh_r v (bit_file P v)) (λ g. weigh_r v (user_file v) g + weigh_r v (object_file v) g) c.mark_bits.new.marks c.mark_bits.new.marks c.in_err-n.ensures)
+    )
