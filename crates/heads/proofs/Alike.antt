@@ -25,8 +25,8 @@ module _ (v : Vol) (r : Root) (n x y p : ℕ) (a : p ≡ page_at v r (x / 32)) w
   pub twin-absent : p ≡ 0 → Twins (entry v r) n x y → ⊥
   twin-absent z t = omega (arith, t.first, absent-unused v p x _ (entry_in_lem v r p x a) z)
 
-  pub twin-unused : (0 < used (entry_in v p x) → ⊥) → Twins (entry v r) n x y → ⊥
-  twin-unused u t = u (omega (arith, t.first, used-on v r p x a))
+  pub twin-used : Twins (entry v r) n x y → 0 < used (entry_in v p x)
+  twin-used t = omega (arith, t.first, used-on v r p x a)
 
   pub twin-by : (q : ℕ) (b : Bool) → q ≡ page_at v r (y / 32) → 0 < used (entry_in v p x) → 0 < used (entry v r y) → Decides b (SameTitle n (entry_in v p x) (entry_in v q y)) → Decides b (Twins (entry v r) n x y)
   twin-by q b e u w =

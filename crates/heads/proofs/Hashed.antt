@@ -41,9 +41,6 @@ title-in v q e w n h r g a c d =
 
 -- ---- a slot stamped
 
-pub set-size : (R T : List ℕ) (h s : ℕ) → R ≡ set T h s → length T ≡ 4096 → length R ≡ 4096
-set-size R T h s e l = ap length e ∙ length-set T h s ∙ l
-
 module _ (T : List ℕ) (h s m : ℕ) (l : h < length T) (g : s ≡ m) where
   set_here : (k : ℕ) → k ≡ h → get_or (set T h s) k 0 ≡ m
   set_here k q = ap (λ (j : ℕ). get_or (set T h s) j 0) q ∙ get_or-set_same T h s 0 l ∙ g

@@ -34,10 +34,10 @@ module _ (P : ℕ) (v : Vol) where
       go (inl a) = a.1
       go (inr a) = absurd (zero-inside user_pointer 1 z a.0)
 
-  pub rule2-wrong : (Zero (v 0) user_pointer → ⊥) → (Inside P (v 0) user_pointer 1 → ⊥) → Rule2 P v → ⊥
+  pub rule2-index : (Zero (v 0) user_pointer → ⊥) → Rule2 P v → Inside P (v 0) user_pointer 1
   unfolding Rule2
-  rule2-wrong a b (inl r) = a r.0
-  rule2-wrong a b (inr r) = b r.0
+  rule2-index a (inl r) = absurd (a r.0)
+  rule2-index a (inr r) = r.0
 
   pub rule2-one : Inside P (v 0) user_pointer 1 → Inside P (v 0) object_pointer 1 → Rule2 P v
   unfolding Rule2

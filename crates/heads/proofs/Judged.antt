@@ -9,7 +9,7 @@ use Rattle.book.specs.Words.{Vol, vol}
 use Rattle.book.specs.Pointers.{flags, page, object_pointer, user_pointer}
 use Rattle.book.specs.Trees.{Root, root_by}
 use Rattle.book.specs.Entries.{Table, entry, user, object, used, file_entry}
-use Rattle.book.specs.Names.{stored, SameFile, LegalName, LegalType}
+use Rattle.book.specs.Names.{stored, SameFile}
 use Rattle.book.specs.Rules.{Asked, Rule4Over, Rule6, Rule6Over, FileOk}
 use Rattle.book.specs.Decides.{Decides}
 use Rattle.page.proofs.Deciding.{decides-iff}
@@ -21,19 +21,10 @@ use Rattle.heads.specs.Fine.{UserFine, FileFine}
 use Rattle.heads.specs.Twins.{SameTitle, Apart, FilesApart}
 use Rattle.heads.proofs.Alike.{title-none}
 
--- ---- what is asked, or not
-
-pub asked-not : (ten : Bool) (A : Type 0) → ten ≡ false → Asked ten A
-asked-not true A e = let z : ◌≡◌ {A = ℕ} 0 1 = cc in absurd (omega arith)
-asked-not false A e = tt
-
+-- what holds is right, asked or not
 pub asked-holds : (ten : Bool) (A : Type 0) → A → Asked ten A
 asked-holds true A a = a
 asked-holds false A a = tt
-
-pub asked-only : (ten : Bool) (A : Type 0) → ten ≡ true → Asked ten A → A
-asked-only true A e a = a
-asked-only false A e a = let z : ◌≡◌ {A = ℕ} 0 1 = cc in absurd (omega arith)
 
 -- ---- the entries of the user file and of the object file, by flags and page of their pointers
 
@@ -117,10 +108,6 @@ module _ (U O : Table) where
   unfolding Rule6Over
   rule6-by b s = decides-iff b _ _ (λ a. (files-fine s, files-apart a)) rule6-apart
 
--- one used object, whose type is judged last
-pub file-by : (U O : Table) (e : ℕ) (b : Bool) → 0 < used (O e) → 0 < used (U (e / 256)) → O e 16 ≡ e / 256 → O e 17 ≡ e → LegalName (O e) 1 → Decides b (LegalType (O e) 9) → Decides b (FileFine U O e)
-file-by U O e b h o w n l = decides-iff b _ _ (λ t u. record { owner = o; whose = w; number = n; name = l; type = t }) (λ f. (f h).type)
-
 -- ---- by the pages that the object file has, up to its end: later objects are unused
 
 -- x and t are the flags and the page of the object pointer
@@ -138,8 +125,8 @@ module _ (img : List ℕ) (x t n : ℕ) (d : Ends img n) (a : x ≡ flags (vol i
   unfolding Span
   files-all s = span-join _ 0 (32 * n) 65536 s (λ e h l u. absurd (let r : ⊥ = omega (arith, past-unused e h l) in r))
 
-  pub rule6-wrong : (Span (FileFine (user v) O) 0 (32 * n) → ⊥) → Rule6 (user v) (object v) → ⊥
-  rule6-wrong f r = f (span-part _ 0 0 (32 * n) 65536 (omega arith) (omega (arith, d.most)) (rule6-files (user v) O (subst (λ (E : Table). Rule6 (user v) E) (sym (objects-table v x t a c)) r)))
+  pub rule6-fine : Rule6 (user v) (object v) → Span (FileFine (user v) O) 0 (32 * n)
+  rule6-fine r = span-part _ 0 0 (32 * n) 65536 (omega arith) (omega (arith, d.most)) (rule6-files (user v) O (subst (λ (E : Table). Rule6 (user v) E) (sym (objects-table v x t a c)) r))
 
   -- m users have objects on these pages
   module _ (m : ℕ) (most : m ≤ 256) (room : n ≤ 8 * m) where

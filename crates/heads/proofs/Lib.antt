@@ -3,6 +3,7 @@ pub mod Slots
 pub mod Heads
 pub mod Pages
 pub mod Alike
+pub mod Each
 pub mod Judged
 pub mod Blocks
 pub mod Hashed

@@ -17,6 +17,5 @@ pub(crate) fn block_ok(img: &[u16], total: usize, b: usize, m: usize) -> bool
         return true;
     }
     let a = WORDS * b;
-    let z = a + WORDS;
-    filled(&img[a..z], m, 0, total)
+    filled(&img[a..a + WORDS], m, 0, total)
 }

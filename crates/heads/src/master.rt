@@ -17,20 +17,11 @@ pub fn rule1(img: &[u16], total: usize) -> bool
     requires { Whole img.now × (total ≡ pages img.now) }
     ensures { Decides result (Rule1 (pages img.now) (vol img.now)) }
 {
-    if !legal_at(img, 0, VOLUME, 1, 16) {
-        return false;
-    }
-    if flags_at(img, 0, BITS) != 0 {
-        return false;
-    }
     let b = page_at(img, 0, BITS) as usize;
-    if b == 0 {
-        return false;
-    }
-    if total < b + bit_pages(total) {
-        return false;
-    }
-    true
+    legal_at(img, 0, VOLUME, 1, 16)
+        && flags_at(img, 0, BITS) == 0
+        && b != 0
+        && b + bit_pages(total) <= total
 }
 
 // Whether the pointer at word k of the master page is all zero.
@@ -38,10 +29,7 @@ pub fn zero_at(img: &[u16], k: usize) -> bool
     requires { Whole img.now × (k < 1023) }
     ensures { Decides result (Zero (vol img.now 0) k) }
 {
-    if two_at(img, 0, k) != 0 {
-        return false;
-    }
-    true
+    two_at(img, 0, k) == 0
 }
 
 // Whether the pointer at word k of the master page has these flags, and a page in 1..P-1.
@@ -49,17 +37,8 @@ pub fn inside_at(img: &[u16], total: usize, k: usize, flags: u16) -> bool
     requires { Whole img.now × (total ≡ pages img.now) × (k < 1023) }
     ensures { Decides result (Inside (pages img.now) (vol img.now 0) k flags) }
 {
-    if flags_at(img, 0, k) != flags {
-        return false;
-    }
     let t = page_at(img, 0, k) as usize;
-    if t == 0 {
-        return false;
-    }
-    if total <= t {
-        return false;
-    }
-    true
+    flags_at(img, 0, k) == flags && t != 0 && t < total
 }
 
 // Rule 2: user pointer zero, or indexed to 1..P-1; object pointer zero exactly when the user pointer is, else indexed or subindexed.
@@ -70,13 +49,8 @@ pub fn rule2(img: &[u16], total: usize) -> bool
     if zero_at(img, USERS) {
         return zero_at(img, OBJECTS);
     }
-    if !inside_at(img, total, USERS, 1) {
-        return false;
-    }
-    if inside_at(img, total, OBJECTS, 1) {
-        return true;
-    }
-    inside_at(img, total, OBJECTS, 2)
+    inside_at(img, total, USERS, 1)
+        && (inside_at(img, total, OBJECTS, 1) || inside_at(img, total, OBJECTS, 2))
 }
 
 // Rule 3: user index: each of slots 0..7 zero or in 1..P-1, others zero.

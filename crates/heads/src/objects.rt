@@ -32,15 +32,7 @@ fn page_unused(img: &[u16], first: usize) -> bool
     if q == 0 {
         return true;
     }
-    let end = first + 32;
-    let mut u = first;
-    while u < end {
-        if entry_used(img, q, u) {
-            return false;
-        }
-        u += 1;
-    }
-    true
+    (first..first + 32).all(|u| !entry_used(img, q, u))
 }
 
 // Whether no user above 63 is used.
@@ -48,14 +40,7 @@ pub fn low_users(img: &[u16]) -> bool
     requires { Reach img.now (user_file (vol img.now)) }
     ensures { Decides result (Span (Unused (user (vol img.now))) 64 256) }
 {
-    let mut first: usize = 64;
-    while first < 256 {
-        if !page_unused(img, first) {
-            return false;
-        }
-        first += 32;
-    }
-    true
+    (2..8).all(|k| page_unused(img, 32 * k))
 }
 
 // Whether all pointers of the index blocks in slots 0..3 of the subindex block `top` are below total.
@@ -63,15 +48,7 @@ fn indexes_ok(img: &[u16], total: usize, top: usize) -> bool
     requires { Block img.now total top × Slots (pages img.now) (vol img.now) top 4 }
     ensures { Decides result (Span (λ i. Slots (pages img.now) (vol img.now) (slot (vol img.now) top i) 512) 0 4) }
 {
-    let mut i: usize = 0;
-    while i < 4 {
-        let b = slot_at(img, top, i);
-        if !block_ok(img, total, b, 512) {
-            return false;
-        }
-        i += 1;
-    }
-    true
+    (0..4).all(|i| block_ok(img, total, slot_at(img, top, i), 512))
 }
 
 // Rule 5: object blocks: allowed slots zero or in 1..P-1, others zero; if indexed, no used user above 63.
@@ -81,19 +58,11 @@ pub fn rule5(img: &[u16], total: usize) -> bool
 {
     let flags = flags_at(img, 0, OBJECTS);
     let top = page_at(img, 0, OBJECTS) as usize;
-    if flags == 1 {
-        if !block_ok(img, total, top, 512) {
-            return false;
-        }
-        return low_users(img);
+    match flags {
+        1 => block_ok(img, total, top, 512) && low_users(img),
+        2 => block_ok(img, total, top, 4) && indexes_ok(img, total, top),
+        _ => true,
     }
-    if flags == 2 {
-        if !block_ok(img, total, top, 4) {
-            return false;
-        }
-        return indexes_ok(img, total, top);
-    }
-    true
 }
 
 // Whether object e on page q is unused, or its owner is used, words 16 and 17 are right, and name and type are legal.
@@ -104,19 +73,11 @@ fn file_ok(img: &[u16], q: usize, e: usize, owned: bool) -> bool
     if !entry_used(img, q, e) {
         return true;
     }
-    if !owned {
-        return false;
-    }
-    if entry_word(img, q, e, OWNER) as usize != e / 256 {
-        return false;
-    }
-    if entry_word(img, q, e, NUMBER) as usize != e {
-        return false;
-    }
-    if !entry_legal(img, q, e, NAME, 1, 16) {
-        return false;
-    }
-    entry_legal(img, q, e, TYPE, 0, 4)
+    owned
+        && usize::from(entry_word(img, q, e, OWNER)) == e / 256
+        && usize::from(entry_word(img, q, e, NUMBER)) == e
+        && entry_legal(img, q, e, NAME, 1, 16)
+        && entry_legal(img, q, e, TYPE, 0, 4)
 }
 
 // Whether the 32 objects from `first` on, a page of them, are unused or right. An absent page has no used objects.
@@ -130,15 +91,7 @@ pub fn page_ok(img: &[u16], flags: u16, top: usize, first: usize) -> bool
     }
     let u = first / 256;
     let owned = entry_used(img, user_page(img, u), u);
-    let end = first + 32;
-    let mut e = first;
-    while e < end {
-        if !file_ok(img, q, e, owned) {
-            return false;
-        }
-        e += 1;
-    }
-    true
+    (first..first + 32).all(|e| file_ok(img, q, e, owned))
 }
 
 // Whether the objects of so many pages are unused or right.
@@ -146,15 +99,7 @@ fn files_ok(img: &[u16], flags: u16, top: usize, ends: usize) -> bool
     requires { Reach img.now (user_file (vol img.now)) × Reach img.now (root_by flags top 0) × (ends ≤ object_pages) }
     ensures { Decides result (Span (FileFine (user (vol img.now)) (entry (vol img.now) (root_by flags top 0))) 0 (32 * ends)) }
 {
-    let end = 32 * ends;
-    let mut first: usize = 0;
-    while first < end {
-        if !page_ok(img, flags, top, first) {
-            return false;
-        }
-        first += 32;
-    }
-    true
+    (0..ends).all(|n| page_ok(img, flags, top, 32 * n))
 }
 
 // Whether no two files of a user have the same name and type, words 1 to 10, for so many users.
@@ -162,12 +107,10 @@ fn all_apart(img: &[u16], table: &mut [u16; 4096], flags: u16, top: usize, users
     requires { Reach img.now (root_by flags top 0) × (users ≤ 256) × (length table.old ≡ 4096) }
     ensures { Decides result (Span (FilesApart (entry (vol img.now) (root_by flags top 0))) 0 users) }
 {
-    let mut u: usize = 0;
-    while u < users {
+    for u in 0..users {
         if !apart(img, table, flags, top, 4, 256 * u) {
             return false;
         }
-        u += 1;
     }
     true
 }
@@ -177,7 +120,7 @@ fn owners(ends: usize) -> usize
     requires { ends ≤ object_pages }
     ensures { (result ≤ 256) × (ends ≤ 8 * result) }
 {
-    (ends + 7) / 8
+    ends.div_ceil(8)
 }
 
 // Rule 6: used objects: owner is used, words 16 and 17 right, name and type legal, no two of a user equal. The object file ends at `ends`.
@@ -187,8 +130,5 @@ pub fn rule6(img: &[u16], table: &mut [u16; 4096], ends: usize) -> bool
 {
     let flags = flags_at(img, 0, OBJECTS);
     let top = page_at(img, 0, OBJECTS) as usize;
-    if !files_ok(img, flags, top, ends) {
-        return false;
-    }
-    all_apart(img, table, flags, top, owners(ends))
+    files_ok(img, flags, top, ends) && all_apart(img, table, flags, top, owners(ends))
 }

@@ -19,7 +19,7 @@ pub(crate) const SLOTS: usize = 4096;
 pub fn room() -> [u16; 4096]
     ensures { length result ≡ 4096 }
 {
-    [0; 4096]
+    [0; SLOTS]
 }
 
 // The number of one word more.
@@ -27,7 +27,7 @@ fn mixed(h: usize, x: u16) -> usize
     requires { h < 4294967296 }
     ensures { (result ≡ mix h x) × (result < 4294967296) }
 {
-    (h + x as usize) * 1597334677 % 4294967296
+    (h + usize::from(x)) * 1597334677 % 4294967296
 }
 
 // The number of the word in which a name ends: what is left of it, if anything is.
@@ -47,14 +47,12 @@ fn hash_at(img: &[u16], p: usize, k: usize, n: usize, h: usize) -> usize
     ensures { (result ≡ hash_of h (stored n (vol img.now p) k)) × (result < 4294967296) }
 {
     let mut z = h;
-    let mut i: usize = 0;
-    while i < n / 2 {
+    for i in 0..n / 2 {
         let x = word_at(img, p, k + i);
         if ends_in(x) {
             return last_mixed(z, cut(x));
         }
         z = mixed(z, x);
-        i += 1;
     }
     z
 }
@@ -64,8 +62,7 @@ pub(crate) fn hash_of(img: &[u16], q: usize, e: usize, n: usize) -> usize
     requires { (0 < q) × (q < pages img.now) × TypeBytes n }
     ensures { (result ≡ title_hash n (entry_in (vol img.now) q e)) × (result < 4294967296) }
 {
-    let at = EntryPlace::of(e);
-    let w = at.word;
+    let w = EntryPlace::of(e).word;
     let h = hash_at(img, q, w + NAME, 16, 0);
     hash_at(img, q, w + TYPE, n, h)
 }
@@ -77,10 +74,7 @@ pub(crate) fn stamp(table: &mut [u16; 4096], h: usize, s: u16) -> bool
 {
     let old = table[h];
     table[h] = s;
-    if old != s {
-        return false;
-    }
-    true
+    old == s
 }
 
 // The stamp of the 256 entries from `base` on.

@@ -15,8 +15,7 @@ pub fn entry_legal(img: &[u16], q: usize, e: usize, k: usize, m: usize, n: usize
     requires { (0 < q) × (q < pages img.now) × (n % 2 ≡ 0) × (k + n / 2 ≤ 32) }
     ensures { Decides result (Text m n (stored n (entry_in (vol img.now) q e) k)) }
 {
-    let place = EntryPlace::of(e);
-    let w = place.word;
+    let w = EntryPlace::of(e).word;
     legal_at(img, q, w + k, m, n)
 }
 
@@ -25,8 +24,7 @@ pub(crate) fn entry_end(img: &[u16], q: usize, e: usize, k: usize, n: usize) -> 
     requires { (0 < q) × (q < pages img.now) × (n % 2 ≡ 0) × (k + n / 2 ≤ 32) }
     ensures { result ≡ end_of n (entry_in (vol img.now) q e) k }
 {
-    let place = EntryPlace::of(e);
-    let w = place.word;
+    let w = EntryPlace::of(e).word;
     end_at(img, q, w + k, n)
 }
 
@@ -44,12 +42,7 @@ pub(crate) fn entry_same(
     requires { (0 < p) × (p < pages img.now) × (0 < q) × (q < pages img.now) × TypeBytes n × EndsAt (entry_in (vol img.now) q b) n l m }
     ensures { Decides result (SameTitle n (entry_in (vol img.now) p a) (entry_in (vol img.now) q b)) }
 {
-    let first = EntryPlace::of(a);
-    let j = first.word;
-    let second = EntryPlace::of(b);
-    let k = second.word;
-    if !same_at(img, p, j + NAME, q, k + NAME, 16, l) {
-        return false;
-    }
-    same_at(img, p, j + TYPE, q, k + TYPE, n, m)
+    let j = EntryPlace::of(a).word;
+    let k = EntryPlace::of(b).word;
+    same_at(img, p, j + NAME, q, k + NAME, 16, l) && same_at(img, p, j + TYPE, q, k + TYPE, n, m)
 }

@@ -34,10 +34,7 @@ fn twin(
     if p == 0 {
         return false;
     }
-    if !entry_used(img, p, x) {
-        return false;
-    }
-    entry_same(img, p, x, q, y, n, l, m)
+    entry_used(img, p, x) && entry_same(img, p, x, q, y, n, l, m)
 }
 
 // Whether no entry from `base` on before the used entry y, which is on page q, is its twin.
@@ -47,14 +44,7 @@ pub fn fresh(img: &[u16], flags: u16, top: usize, n: usize, base: usize, q: usiz
 {
     let l = entry_end(img, q, y, NAME, 16);
     let m = entry_end(img, q, y, TYPE, n);
-    let mut x = base;
-    while x < y {
-        if twin(img, flags, top, n, q, y, x, l, m) {
-            return false;
-        }
-        x += 1;
-    }
-    true
+    (base..y).all(|x| !twin(img, flags, top, n, q, y, x, l, m))
 }
 
 // The same of any entry y on page q: an unused one has no twin, and one that has a slot without this stamp is the first of its name.
@@ -104,13 +94,10 @@ fn page_apart(
     if q == 0 {
         return true;
     }
-    let end = first + 32;
-    let mut y = first;
-    while y < end {
+    for y in first..first + 32 {
         if !entry_apart(img, table, flags, top, n, base, q, y) {
             return false;
         }
-        y += 1;
     }
     true
 }
@@ -127,13 +114,10 @@ pub fn apart(
     requires { Reach img.now (root_by flags top 0) × TypeBytes n × (base % 32 ≡ 0) × (base + 256 ≤ 65536) × (length table.old ≡ 4096) }
     ensures { Decides result (Apart (entry (vol img.now) (root_by flags top 0)) n base (base + 256)) × (result ≡ true → length table.new ≡ 4096) }
 {
-    let end = base + 256;
-    let mut first = base;
-    while first < end {
-        if !page_apart(img, table, flags, top, n, base, first) {
+    for k in 0..8 {
+        if !page_apart(img, table, flags, top, n, base, base + 32 * k) {
             return false;
         }
-        first += 32;
     }
     true
 }

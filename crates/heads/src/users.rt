@@ -23,13 +23,7 @@ pub fn within(img: &[u16], ten: bool, q: usize, u: usize) -> bool
     requires { q < pages img.now }
     ensures { Decides result (Asked ten (two (entry_in (vol img.now) q u) 16 ≤ two (entry_in (vol img.now) q u) 14)) }
 {
-    if !ten {
-        return true;
-    }
-    if entry_two(img, q, u, GIVEN) < entry_two(img, q, u, USED) {
-        return false;
-    }
-    true
+    !ten || entry_two(img, q, u, USED) <= entry_two(img, q, u, GIVEN)
 }
 
 // Whether user u on page q is unused, or has its own index, a legal name, and, if all ten rules are asked, uses no more than it was given.
@@ -40,13 +34,9 @@ fn user_ok(img: &[u16], ten: bool, q: usize, u: usize) -> bool
     if !entry_used(img, q, u) {
         return true;
     }
-    if entry_word(img, q, u, INDEX) as usize != u {
-        return false;
-    }
-    if !entry_legal(img, q, u, NAME, 1, 16) {
-        return false;
-    }
-    within(img, ten, q, u)
+    usize::from(entry_word(img, q, u, INDEX)) == u
+        && entry_legal(img, q, u, NAME, 1, 16)
+        && within(img, ten, q, u)
 }
 
 // Whether the 32 users from `first` on, a page of them, are unused or right. An absent page has no used users.
@@ -58,15 +48,7 @@ fn page_ok(img: &[u16], ten: bool, first: usize) -> bool
     if q == 0 {
         return true;
     }
-    let end = first + 32;
-    let mut u = first;
-    while u < end {
-        if !user_ok(img, ten, q, u) {
-            return false;
-        }
-        u += 1;
-    }
-    true
+    (first..first + 32).all(|u| user_ok(img, ten, q, u))
 }
 
 // Whether all users are unused or right.
@@ -74,14 +56,7 @@ fn users_ok(img: &[u16], ten: bool) -> bool
     requires { Reach img.now (user_file (vol img.now)) }
     ensures { Decides result (Span (UserFine ten (user (vol img.now))) 0 256) }
 {
-    let mut first: usize = 0;
-    while first < 256 {
-        if !page_ok(img, ten, first) {
-            return false;
-        }
-        first += 32;
-    }
-    true
+    (0..8).all(|k| page_ok(img, ten, 32 * k))
 }
 
 // Rule 4: used users: own index right, name legal, no two names equal, and, if all ten rules are asked, used no more than given. The table may
@@ -90,10 +65,7 @@ pub fn rule4(img: &[u16], ten: bool, table: &mut [u16; 4096]) -> bool
     requires { Whole img.now × Rule2 (pages img.now) (vol img.now) × Rule3 (pages img.now) (vol img.now) × (length table.old ≡ 4096) }
     ensures { Decides result (Rule4Over stored ten (user (vol img.now))) × (result ≡ true → length table.new ≡ 4096) }
 {
-    if !users_ok(img, ten) {
-        return false;
-    }
     let flags = flags_at(img, 0, USERS);
     let top = page_at(img, 0, USERS) as usize;
-    apart(img, table, flags, top, 0, 0)
+    users_ok(img, ten) && apart(img, table, flags, top, 0, 0)
 }

@@ -1,5 +1,4 @@
 use mathlib.Core.Path.{◌≡◌}
-use Prim.Native.Nat.{◌≤◌, ◌-◌}
 use lib.ListN.{length}
 use Rattle.book.specs.Words.{vol}
 use Rattle.book.specs.Trees.{root_by}
@@ -9,7 +8,4 @@ use Rattle.heads.specs.Twins.{FilesApart}
 use Rattle.heads.proofs.objects.all_apart.Given as goal
 
 abbrev pub invariant-loop-u : goal.invariant-loop-u
-invariant-loop-u l = (l.u ≤ l.users) × (length l.table ≡ 4096) × Span (FilesApart (entry (vol l.img) (root_by l.flags l.top 0))) 0 l.u
-
-abbrev pub decreases-loop-u : goal.decreases-loop-u
-decreases-loop-u l = l.users - l.u
+invariant-loop-u l = (length l.table ≡ 4096) × Span (FilesApart (entry (vol l.img) (root_by l.flags l.top 0))) 0 l.u

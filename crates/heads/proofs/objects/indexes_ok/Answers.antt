@@ -1,31 +1,18 @@
-use mathlib.Core.Path.{◌≡◌, sym, subst}
-use Prim.Native.Nat.{ℕ}
+use Prim.Native.Nat.{◌<◌}
 use native.Mathlib.Omega.{arith}
+use Rattle.std.proofs.Common.{rules}
+use Rattle.std.proofs.lemmas.Iterator.{serves_from_Range}
 use Rattle.book.specs.Words.{vol}
-use Rattle.book.specs.Pointers.{slot}
 use Rattle.book.specs.Image.{pages}
-use Rattle.book.specs.Decides.{holds, fails}
-use Rattle.heads.specs.Span.{Span, span_none, span_more, span-at}
+use Rattle.book.specs.Pointers.{slot}
 use Rattle.heads.specs.Slots.{Slots}
+use Rattle.heads.proofs.Each.{span-all}
 use Rattle.heads.proofs.objects.indexes_ok.Goals as goal
 
-pub loop-i-init : goal.loop-i-init
-loop-i-init c = (omega arith, span_none _ _)
-
-pub block_ok-requires : goal.block_ok-requires
+pub all-requires-clause-callable : goal.all-requires-clause-callable
 unfolding Slots
-block_ok-requires c = (record { count = c.requires.0.count; most = c.requires.0.most; inside = omega (arith, c.slot_at-b.ensures.0, (c.requires.1 c.loop-i.i (omega arith)).0) }, omega arith)
-
-pub returns-then-not-block_ok : goal.returns-then-not-block_ok
-returns-then-not-block_ok c = λ s.
-    let v = vol c.args.img.now in
-    fails c.block_ok.result _ c.block_ok.ensures c.if-not-block_ok.true-raw
-    (subst (λ (b : ℕ). Slots (pages c.args.img.now) v b 512) (sym c.slot_at-b.ensures.0) (span-at _ _ _ s c.loop-i.i (omega arith) (omega arith)))
-
-pub loop-i-preserved : goal.loop-i-preserved
-loop-i-preserved c = let v = vol c.args.img.now in
-    (omega arith, span_more _ _ _ c.loop-i.invariant.1 (subst (λ (b : ℕ). Slots (pages c.args.img.now) v b 512) c.slot_at-b.ensures.0 (holds c.block_ok.result _ c.block_ok.ensures c.if-not-block_ok.false-raw)))
+all-requires-clause-callable c = serves_from_Range (λ x q k. search rules) (λ x h l. let b : slot (vol c.args.img.now) c.args.top x < pages c.args.img.now = (c.requires.1 x (omega arith)).0 in search rules)
 
 pub returns : goal.returns
-returns c = let v = vol c.args.img.now in let e : c.loop-i.i ≡ 4 = omega arith in
-    subst (λ (z : ℕ). Span (λ k. Slots (pages c.args.img.now) v (slot v c.args.top k) 512) 0 z) e c.loop-i.invariant.1
+returns c = let P = pages c.args.img.now in let v = vol c.args.img.now in
+    span-all (λ i. Slots P v (slot v c.args.top i) 512) 0 4 (omega arith) c.all.result c.all.ensures.ran (λ x t q k. search rules)

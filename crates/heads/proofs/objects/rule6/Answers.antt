@@ -1,6 +1,7 @@
-use Rattle.book.specs.Decides.{holds, fails}
+use Rattle.page.proofs.Deciding.{told}
+use Rattle.heads.proofs.Each.{decides-first}
 use Rattle.heads.proofs.Heads.{users-reach, objects-reached}
-use Rattle.heads.proofs.Judged.{rule6-wrong, rule6-right}
+use Rattle.heads.proofs.Judged.{rule6-fine, rule6-right}
 use native.Mathlib.Omega.{arith}
 use Rattle.heads.proofs.objects.rule6.Goals as goal
 
@@ -11,15 +12,15 @@ files_ok-requires c = (
   c.requires.4.most,
 )
 
-pub returns-then-not-files_ok : goal.returns-then-not-files_ok
-returns-then-not-files_ok c =
-    rule6-wrong c.args.img.now c.flags_at-flags.result c.page_at-top.result c.args.ends c.requires.4 c.flags_at-flags.ensures.0 c.page_at-top.ensures.0
-    (fails c.files_ok.result _ c.files_ok.ensures c.if-not-files_ok.true-raw)
+pub returns-else-files_ok : goal.returns-else-files_ok
+returns-else-files_ok c =
+    decides-first _ _ _ c.files_ok.ensures c.if-files_ok.false
+    (rule6-fine c.args.img.now c.flags_at-flags.result c.page_at-top.result c.args.ends c.requires.4 c.flags_at-flags.ensures.0 c.page_at-top.ensures.0)
 
 pub all_apart-requires : goal.all_apart-requires
 all_apart-requires c = (objects-reached _ (omega arith) c.requires.1 c.requires.3 c.flags_at-flags.result c.page_at-top.result c.flags_at-flags.ensures.0 c.page_at-top.ensures.0, c.owners.ensures.0, c.requires.5)
 
-pub returns : goal.returns
-returns c =
+pub returns-then-files_ok : goal.returns-then-files_ok
+returns-then-files_ok c =
     rule6-right c.args.img.now c.flags_at-flags.result c.page_at-top.result c.args.ends c.requires.4 c.flags_at-flags.ensures.0 c.page_at-top.ensures.0 c.owners.result c.owners.ensures.0 c.owners.ensures.1
-    c.all_apart.result (holds c.files_ok.result _ c.files_ok.ensures c.if-not-files_ok.false-raw) c.all_apart.ensures
+    c.all_apart.result (told c.files_ok.result _ c.files_ok.ensures c.if-files_ok.true) c.all_apart.ensures

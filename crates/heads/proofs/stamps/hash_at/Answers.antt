@@ -37,11 +37,11 @@ module _ (n : ℕ) (even : n % 2 ≡ 0) (w : Words) (k i : ℕ) (l : i < n / 2) 
   goes f = low_goes n even w k i (λ e. f (ap (λ (t : ℕ). t % 256) (word (cut_word g) refl) ∙ e))
 
 pub loop-i-init : goal.loop-i-init
-loop-i-init c = (omega arith, omega arith, sym (hash-none _ _), omega (arith, c.requires.3))
+loop-i-init c = (omega arith, sym (hash-none _ _), omega (arith, c.requires.3))
 
 pub returns-then-ends_in : goal.returns-then-ends_in
 returns-then-ends_in c = (
-  last c.args.n c.requires.1 (vol c.args.img.now c.args.p) c.args.k c.loop-i.i c.loop-i-test.true c.loop-i.invariant.1 c.word_at-x.result c.word_at-x.ensures (omega arith) c.args.h c.loop-i.z c.loop-i.invariant.2
+  last c.args.n c.requires.1 (vol c.args.img.now c.args.p) c.args.k c.loop-i.i c.loop-i-test.true c.loop-i.invariant.0 c.word_at-x.result c.word_at-x.ensures (omega arith) c.args.h c.loop-i.z c.loop-i.invariant.1
       c.cut.result c.cut.ensures (told c.ends_in.result _ c.ends_in.ensures.0 c.if-ends_in.true) c.last_mixed.result c.last_mixed.ensures.0,
   c.last_mixed.ensures.1,
 )
@@ -49,13 +49,12 @@ returns-then-ends_in c = (
 pub loop-i-preserved : goal.loop-i-preserved
 loop-i-preserved c =
     let w = vol c.args.img.now c.args.p in (
-      omega arith,
-      goes c.args.n c.requires.1 w c.args.k c.loop-i.i c.loop-i-test.true c.loop-i.invariant.1 c.word_at-x.result c.word_at-x.ensures (omega arith) c.args.h c.loop-i.z c.loop-i.invariant.2 (untold c.ends_in.result _ c.ends_in.ensures.0 c.if-ends_in.false),
-      more c.args.n c.requires.1 w c.args.k c.loop-i.i c.loop-i-test.true c.loop-i.invariant.1 c.word_at-x.result c.word_at-x.ensures (omega arith) c.args.h c.loop-i.z c.loop-i.invariant.2 c.word_at-x.result (sym (c.ends_in.ensures.1 c.if-ends_in.false)) c.mixed-z.result c.mixed-z.ensures.0,
+      goes c.args.n c.requires.1 w c.args.k c.loop-i.i c.loop-i-test.true c.loop-i.invariant.0 c.word_at-x.result c.word_at-x.ensures (omega arith) c.args.h c.loop-i.z c.loop-i.invariant.1 (untold c.ends_in.result _ c.ends_in.ensures.0 c.if-ends_in.false),
+      more c.args.n c.requires.1 w c.args.k c.loop-i.i c.loop-i-test.true c.loop-i.invariant.0 c.word_at-x.result c.word_at-x.ensures (omega arith) c.args.h c.loop-i.z c.loop-i.invariant.1 c.word_at-x.result (sym (c.ends_in.ensures.1 c.if-ends_in.false)) c.mixed-z.result c.mixed-z.ensures.0,
       c.mixed-z.ensures.1,
     )
 
 pub returns : goal.returns
 returns c = let w = vol c.args.img.now c.args.p in
-    let e : (length (stored c.args.n w c.args.k) + 1) / 2 ≡ c.loop-i.i = omega (arith, stored-length c.args.n w c.args.k, c.loop-i.invariant.1, (end_is c.args.n w c.args.k).most) in
-    (c.loop-i.invariant.2 ∙ hash-all c.args.h (stored c.args.n w c.args.k) c.loop-i.i e, c.loop-i.invariant.3)
+    let e : (length (stored c.args.n w c.args.k) + 1) / 2 ≡ c.loop-i.i = omega (arith, stored-length c.args.n w c.args.k, c.loop-i.invariant.0, (end_is c.args.n w c.args.k).most) in
+    (c.loop-i.invariant.1 ∙ hash-all c.args.h (stored c.args.n w c.args.k) c.loop-i.i e, c.loop-i.invariant.2)

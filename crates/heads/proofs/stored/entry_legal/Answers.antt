@@ -8,4 +8,4 @@ use Rattle.tree.proofs.Entries.{there-stored}
 use Rattle.heads.proofs.stored.entry_legal.Goals as goal
 
 pub returns : goal.returns
-returns c = subst (λ (t : List ℕ). Decides c.legal_at.result (Text c.args.m c.args.n t)) (there-stored (vol c.args.img.now) c.args.q c.args.e c.of-place.result.word c.args.k c.args.n c.requires.0 c.of-place.ensures.1) c.legal_at.ensures
+returns c = subst (λ (t : List ℕ). Decides c.legal_at.result (Text c.args.m c.args.n t)) (there-stored (vol c.args.img.now) c.args.q c.args.e c.of-w.result.word c.args.k c.args.n c.requires.0 c.of-w.ensures.1) c.legal_at.ensures

@@ -4,7 +4,7 @@ use Rattle.book.specs.Trees.{root_by}
 use Rattle.book.specs.Decides.{holds, fails}
 use Rattle.tree.proofs.Reach.{reach_page}
 use Rattle.heads.proofs.Alike.{used-on}
-use Rattle.heads.proofs.Hashed.{set-size, entry-unused, entry-stamped, entry-low, entry-high}
+use Rattle.heads.proofs.Hashed.{entry-unused, entry-stamped, entry-low, entry-high}
 use native.Mathlib.Omega.{arith}
 use Rattle.heads.proofs.twins.entry_apart.Goals as goal
 
@@ -16,9 +16,6 @@ returns-then-not-entry_used c = entry-unused (vol c.args.img.now) (root_by c.arg
 
 pub hash_of-h-requires : goal.hash_of-h-requires
 hash_of-h-requires c = (c.requires.0.there, omega (arith, c.requires.0.at, reach_page _ _ c.requires.0.reach (c.args.y / 32)), c.requires.1)
-
-pub stamp-high-requires : goal.stamp-high-requires
-stamp-high-requires c = (set-size _ c.args.table.now _ _ c.stamp-low.ensures.1 c.requires.4.size, omega (arith, c.hash_of-h.ensures.1))
 
 pub returns-then-not-low : goal.returns-then-not-low
 returns-then-not-low c = let v = vol c.args.img.now in let r = root_by c.args.flags c.args.top 0 in (

@@ -1,34 +1,20 @@
-use Prim.Native.Nat.{ℕ, ◌+◌}
-use mathlib.Core.Path.{◌≡◌, sym, subst}
+use mathlib.Core.Path.{sym}
 use native.Mathlib.Omega.{arith}
+use Rattle.std.proofs.Common.{rules}
+use Prim.Native.Nat.{◌+◌}
 use Rattle.book.specs.Words.{vol}
 use Rattle.book.specs.Entries.{user}
-use Rattle.book.specs.Decides.{holds, fails}
-use Rattle.heads.specs.Span.{Span, span_none, span_more, span-at}
+use Rattle.tree.specs.Reach.{entry_in}
 use Rattle.heads.specs.Fine.{UserFine}
+use Rattle.heads.proofs.Each.{span-all, span-as}
 use Rattle.heads.proofs.Pages.{user-on, user-fine, users-absent}
 use Rattle.heads.proofs.users.page_ok.Goals as goal
 
 pub returns-then-q-eq0 : goal.returns-then-q-eq0
 returns-then-q-eq0 c = users-absent _ c.user_page-q.result c.args.first c.requires.1 (omega arith) _ c.user_page-q.ensures.0
 
-pub loop-u-init : goal.loop-u-init
-loop-u-init c = (omega arith, omega arith, span_none _ _)
-
-pub returns-then-not-user_ok : goal.returns-then-not-user_ok
-returns-then-not-user_ok c = λ s.
-    let v = vol c.args.img.now in
-    fails c.user_ok.result _ c.user_ok.ensures c.if-not-user_ok.true-raw
-    (user-fine _ _ c.loop-u.u (sym (user-on v c.user_page-q.result c.args.first c.loop-u.u c.requires.1 c.loop-u.invariant.0 (omega arith) c.user_page-q.ensures.0)) _
-    (span-at _ _ _ s c.loop-u.u c.loop-u.invariant.0 (omega arith)))
-
-pub loop-u-preserved : goal.loop-u-preserved
-loop-u-preserved c = let v = vol c.args.img.now in (
-  omega arith,
-  omega arith,
-  span_more _ _ _ c.loop-u.invariant.2 (user-fine _ _ c.loop-u.u (user-on v c.user_page-q.result c.args.first c.loop-u.u c.requires.1 c.loop-u.invariant.0 (omega arith) c.user_page-q.ensures.0) _ (holds c.user_ok.result _ c.user_ok.ensures c.if-not-user_ok.false-raw)),
-)
-
 pub returns : goal.returns
-returns c = let e : c.loop-u.u ≡ c.args.first + 32 = omega arith in
-    subst (λ (z : ℕ). Span (UserFine c.args.ten (user (vol c.args.img.now))) c.args.first z) e c.loop-u.invariant.2
+returns c = let v = vol c.args.img.now in let q = c.user_page-q.result in let first = c.args.first in
+    span-as (UserFine c.args.ten (entry_in v q)) (UserFine c.args.ten (user v)) first (first + 32) c.all.result
+    (λ x h l. let e = user-on v q first x c.requires.1 h l c.user_page-q.ensures.0 in (user-fine _ _ x e c.args.ten, user-fine _ _ x (sym e) c.args.ten))
+    (span-all (UserFine c.args.ten (entry_in v q)) first (first + 32) (omega arith) c.all.result c.all.ensures.ran (λ x t q k. search rules))
