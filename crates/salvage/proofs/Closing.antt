@@ -3,6 +3,7 @@ use mathlib.Core.Path.{◌≡◌, refl, ap, ◌∙◌}
 use mathlib.Core.Logic.{◌≢◌, inl, inr}
 use mathlib.Core.Bool.{false}
 use mathlib.Core.List.{List}
+use Rattle.std.proofs.Common.{Ok, Err}
 use Prim.Native.Nat.{ℕ, ◌*◌, ◌≤◌, ◌<◌}
 use native.Mathlib.Omega.{arith}
 use lib.ListN.{length, get_or}
@@ -16,7 +17,6 @@ use Rattle.book.specs.Rows.{Lowest, Clear}
 use Rattle.book.specs.Rules.{Rule8, Pointed}
 use Rattle.book.specs.Salvage.{Affords}
 use Rattle.book.specs.Words.{Vol, vol}
-use Rattle.book.specs.declared.Answer.TheVariants.{Done, Refused}
 use Rattle.book.specs.declared.Break.{Break}
 use Rattle.book.specs.declared.Refusal.{Refusal}
 use Rattle.book.specs.declared.Refusal.TheVariants.{Size, Unsound, Overdrawn, ShortList}
@@ -37,7 +37,7 @@ early-pointed P v E r = record { r1 = E.r1; r2 = E.r2; r3 = E.r3; r4 = E.r4; r5 
 -- ---- refused: the image is as it was
 
 module _ (img row : List ℕ) (room : ℕ) (l : length row ≡ row_size) where
-  refused : (w : Refusal) → number_of w ≢ 0 → Lowest (salvage_call img room).table (number_of w) → BrokenFor false img (number_of w) (broken_of w) → Mends img room (Refused w) img row
+  refused : (w : Refusal) → number_of w ≢ 0 → Lowest (salvage_call img room).table (number_of w) → BrokenFor false img (number_of w) (broken_of w) → Mends img room (Err w) img row
   unfolding Outcome salvage_call
   refused w ne n b = record { outcome = inl record { number = n; value = refl; broken = b; image = refl }; told = λ z. absurd (ne z); size = l }
 
@@ -45,21 +45,21 @@ module _ (img row : List ℕ) (room : ℕ) (l : length row ≡ row_size) where
   unfolding BrokenFor
   untold n h = ((λ e. absurd (h e)), λ e. refl)
 
-  pub refused-1 : (Whole img → ⊥) → Mends img room (Refused Size) img row
+  pub refused-1 : (Whole img → ⊥) → Mends img room (Err Size) img row
   unfolding salvage_call Lowest
   refused-1 h = refused Size (λ z. omega (arith, z)) (inl (refl, h)) (untold 1 (λ z. omega (arith, z)))
 
   module _ (W : Whole img) where
-    pub refused-3 : (b : Break) → BrokenBy false (pages img) (vol img) b → Mends img room (Refused (Unsound b)) img row
+    pub refused-3 : (b : Break) → BrokenBy false (pages img) (vol img) b → Mends img room (Err (Unsound b)) img row
     unfolding salvage_call Lowest BrokenFor
     refused-3 b B = refused (Unsound b) (λ z. omega (arith, z)) (inr (W, inl (refl, broken-unsound false (pages img) (vol img) b.rule B.rule))) ((λ z. B), λ z. absurd (z refl))
 
     module _ (S : Pointed (pages img) (vol img)) where
-      pub refused-13 : (Affords (pages img) (vol img) → ⊥) → Mends img room (Refused Overdrawn) img row
+      pub refused-13 : (Affords (pages img) (vol img) → ⊥) → Mends img room (Err Overdrawn) img row
       unfolding salvage_call Lowest
       refused-13 h = refused Overdrawn (λ z. omega (arith, z)) (inr (W, inr (S, inl (refl, h)))) (untold 13 (λ z. omega (arith, z)))
 
-      pub refused-14 : Affords (pages img) (vol img) → room < repaired img → Mends img room (Refused ShortList) img row
+      pub refused-14 : Affords (pages img) (vol img) → room < repaired img → Mends img room (Err ShortList) img row
       unfolding salvage_call Lowest
       refused-14 A h = refused ShortList (λ z. omega (arith, z)) (inr (W, inr (S, inr (A, inl (refl, λ e. omega (arith, e, h)))))) (untold 14 (λ z. omega (arith, z)))
 
@@ -79,7 +79,7 @@ module _ (img : List ℕ) (K : Sure img) where
         let e = ap (λ (i : ℕ). get_or row i 0) j.3 in
         omega (arith, e, (told_at img (1024 * P) row n s j.0 j.1 j.2).0, j.1)
 
-    pub done : (room : ℕ) (img' : List ℕ) → n ≤ room → img' ≡ applied img row n → Mends img room (Done n) img' row
+    pub done : (room : ℕ) (img' : List ℕ) → n ≤ room → img' ≡ applied img row n → Mends img room (Ok n) img' row
     unfolding Outcome salvage_call Clear
     done room img' h z = record {
       outcome = inr record {

@@ -1,6 +1,7 @@
 -- Counting what the files of each user hold, and what the sum leaves as unreserved. Assumes nothing.
 use mathlib.Core.Path.{◌≡◌, sym, ◌∙◌, subst}
 use mathlib.Core.Bool.{Bool, true, false}
+use Rattle.std.proofs.Common.{Ok}
 use mathlib.Core.List.{List}
 use Prim.Native.Nat.{ℕ, ◌+◌, ◌-◌, ◌≤◌, ◌<◌}
 use native.Mathlib.Nat.{not-suc-le-zero}
@@ -18,8 +19,6 @@ use Rattle.laws.specs.Count.Charge.{mine-pages}
 use Rattle.shape.specs.Counts.{pages_of, count_in}
 use Rattle.shape.proofs.Users.{count-used, none-held, grants-sum}
 use Rattle.salvage.specs.Facts.{CountsBelow, Tallied, Counts, Balanced}
-use Rattle.salvage.specs.declared.counts.Rest.{Rest}
-use Rattle.salvage.specs.declared.counts.Rest.TheVariants.{Overdrawn, Left}
 
 -- ---- the loop over the users
 
@@ -73,17 +72,8 @@ module _ (P : ℕ) (v : Vol) (S : Pointed P v) where
       pub sum_below : t + h < g + n → Affords P v → ⊥
       sum_below l A = omega (arith, l, et, spends, A.left)
 
-      pub sum-leaves : g + n ≤ t + h → Balanced P v c (Left (t + h - (g + n)))
+      pub sum-leaves : g + n ≤ t + h → Balanced P v c (Ok (t + h - (g + n)))
       sum-leaves l = (record { users = users; left = omega (arith, l, et, spends) }, counts, omega (arith, l, et, spends))
 
       pub sum-small : t + h - (g + n) ≤ P
       sum-small = omega (arith, et, spends)
-
--- ---- by the answer of the balance
-
-module _ (P : ℕ) (v : Vol) (c : List ℕ) (r : Rest) (b : Balanced P v c r) where
-  pub balance-none : r ≡ Overdrawn → Affords P v → ⊥
-  balance-none e = subst (Balanced P v c) e b
-
-  pub balance-left : (x : ℕ) → r ≡ Left x → Affords P v × Counts v c × (x ≡ P - spent P v)
-  balance-left x e = subst (Balanced P v c) e b

@@ -1,5 +1,5 @@
 -- What the code has found out when it collects the changes. Assumes nothing.
-use Rattle.std.specs.Prelude.{◌≡◌, Bool, true, false, List, ℕ, ◌+◌, ◌-◌, ◌*◌, ◌≤◌, ◌<◌, length, get_or}
+use Rattle.std.specs.Prelude.{◌≡◌, Bool, true, false, List, ℕ, Result, Ok, Err, ◌+◌, ◌-◌, ◌*◌, ◌≤◌, ◌<◌, length, get_or}
 use Rattle.book.specs.Bits.{bit_page, bit_pages, digit}
 use Rattle.book.specs.Words.{Vol, vol}
 use Rattle.book.specs.Entries.{user, user_file}
@@ -8,11 +8,11 @@ use Rattle.book.specs.Image.{pages, Sixteen, Whole}
 use Rattle.book.specs.Rules.{Pointed}
 use Rattle.book.specs.Salvage.{Affords, spent}
 use Rattle.book.specs.Trees.{page_at}
+use Rattle.book.specs.declared.Refusal.{Refusal}
+use Rattle.book.specs.declared.Refusal.TheVariants.{Overdrawn}
 use Rattle.page.specs.Parts.{word_from}
 use Rattle.bits.specs.Marks.{marked}
 use Rattle.shape.specs.Counts.{pages_of, count_in}
-use Rattle.salvage.specs.declared.counts.Rest.{Rest}
-use Rattle.salvage.specs.declared.counts.Rest.TheVariants.{Overdrawn, Left}
 
 -- 1 and 3 do not apply
 pub record PastThree (img : List ℕ) : Type 0 where
@@ -57,9 +57,9 @@ pub record Counts (v : Vol) (c : List ℕ) : Type 0 where
   pub right : (u : ℕ) → u < 256 → get_or c u 0 ≡ mine v u some
 
 -- 13 applies, or it does not, and so much is left as unreserved
-abbrev pub Balanced : ℕ → Vol → List ℕ → Rest → Type 0
-Balanced P v c Overdrawn = Affords P v → ⊥
-Balanced P v c (Left x) = Affords P v × Counts v c × (x ≡ P - spent P v)
+abbrev pub Balanced : ℕ → Vol → List ℕ → Result ℕ Refusal → Type 0
+Balanced P v c (Err w) = (w ≡ Overdrawn) × (Affords P v → ⊥)
+Balanced P v c (Ok x) = Affords P v × Counts v c × (x ≡ P - spent P v)
 
 -- ---- pages that have words to change
 

@@ -1,5 +1,5 @@
 -- What salvage promises of the image, its answer and the row of numbers. Assumes nothing.
-use Rattle.std.specs.Prelude.{◌≡◌, ◌⊎◌, List, map, ℕ, ◌*◌, ◌≤◌, length, take}
+use Rattle.std.specs.Prelude.{◌≡◌, ◌⊎◌, List, map, ℕ, Result, ◌*◌, ◌≤◌, length, take}
 use Rattle.std.proofs.Common.{inl, inr, arith}
 use Rattle.book.specs.Answers.{numbers}
 use Rattle.book.specs.Calls.{salvage_call, repairs, repaired}
@@ -7,18 +7,18 @@ use Rattle.book.specs.Image.{pages}
 use Rattle.book.specs.Outcome.{Outcome, RefusedAs, DoneAs}
 use Rattle.book.specs.Rows.{Clear}
 use Rattle.book.specs.Words.{vol}
-use Rattle.book.specs.declared.Answer.{Answer}
+use Rattle.book.specs.declared.Refusal.{Refusal}
 use Rattle.laws.specs.Salvage.Call.{mends}
 use Rattle.laws.specs.Salvage.Most.{changed-most}
 use Rattle.salvage.specs.Row.{unpacked, row_size}
 
 -- with done the row begins with the changes, as many as the value says
-pub record Mends (img : List ℕ) (room : ℕ) (r : Answer) (img' row' : List ℕ) : Type 0 where
+pub record Mends (img : List ℕ) (room : ℕ) (r : Result ℕ Refusal) (img' row' : List ℕ) : Type 0 where
   pub outcome : Outcome (salvage_call img room) img (numbers r) img'
   pub told : (numbers r).number ≡ 0 → map unpacked (take (numbers r).value row') ≡ repairs img
   pub size : length row' ≡ row_size
 
-module _ (img : List ℕ) (room : ℕ) (a : Answer) (img' row' : List ℕ) (m : Mends img room a img' row') where
+module _ (img : List ℕ) (room : ℕ) (a : Result ℕ Refusal) (img' row' : List ℕ) (m : Mends img room a img' row') where
   -- the value is the number of changes, no more than there is room for, and than the row has
   pub mends-counted : (numbers a).number ≡ 0 → (numbers a).value ≡ repaired img
   mends-counted z = (mends img room (numbers a) img' m.outcome z).value

@@ -22,10 +22,7 @@ pub(crate) fn apply(img: &mut [u16], row: &[u64; 9311], n: usize)
     requires { (n ≤ row_size) × (length row.now ≡ row_size) × ((k : ℕ) → k < n → packed_place (get_or row.now k 0) < length img.old) }
     ensures { img.new ≡ applied img.old row.now n }
 {
-    let mut k: usize = 0;
-    while k < n {
-        let x = row[k];
+    for &x in &row[..n] {
         img[place_of(x)] = new_of(x);
-        k += 1;
     }
 }

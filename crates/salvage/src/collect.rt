@@ -20,19 +20,6 @@ use page::{BITS, UNRESERVED, WORDS};
 use tree::entry::entry_used;
 use tree::root::user_page;
 
-// The two halves of a count.
-fn high(x: u32) -> u16
-    ensures { result ≡ x / 65536 }
-{
-    (x / 65536) as u16
-}
-
-fn low(x: u32) -> u16
-    ensures { result ≡ x % 65536 }
-{
-    (x % 65536) as u16
-}
-
 // The n lowest bits of m, and from there on those of w.
 fn joined(w: u16, m: u16, n: usize) -> u16
     requires { n < 16 }
@@ -54,8 +41,8 @@ fn note_two(img: &[u16], row: &mut [u64; 9311], i: usize, x: u32, n: usize) -> u
     requires { Sure img.now × RowTells img.now i row.old n × (i + 1 < length img.now) × (x / 65536 ≡ word_at (salvaged img.now) i) × (x % 65536 ≡ word_at (salvaged img.now) (i + 1)) }
     ensures { RowTells img.now (i + 2) row.new result }
 {
-    let m = note_word(img, row, i, high(x), n);
-    note_word(img, row, i + 1, low(x), m)
+    let m = note_word(img, row, i, (x / 65536) as u16, n);
+    note_word(img, row, i + 1, (x % 65536) as u16, m)
 }
 
 // Word k of the bit file, which begins at page b, is to become x, which tells of each of its pages whether it is held, and from P on has the bits that were there.
@@ -89,16 +76,6 @@ fn note_last(
     note_bit_word(img, b, full, x, row, n)
 }
 
-// The lesser of two numbers.
-fn lesser(x: usize, y: usize) -> usize
-    ensures { result ≡ min x y }
-{
-    if x < y {
-        return x;
-    }
-    y
-}
-
 // The words of page p of the bit file, which begins at page b.
 fn note_bits(
     img: &[u16],
@@ -114,12 +91,10 @@ fn note_bits(
 {
     let first = WORDS * (p - b);
     let next = first + WORDS;
-    let full = lesser(total / 16, next);
+    let full = next.min(total / 16);
     let mut m = n;
-    let mut k = first;
-    while k < full {
+    for k in first..full {
         m = note_bit_word(img, b, k, marks[k], row, m);
-        k += 1;
     }
     if full < next {
         return note_last(img, marks, total, b, p, row, m);
@@ -132,13 +107,7 @@ fn is_among(b: usize, n: usize, p: usize) -> bool
     requires { (b < 4294967296) × (n < 4294967296) }
     ensures { Decides result ((b ≤ p) × (p < b + n)) }
 {
-    if p < b {
-        return false;
-    }
-    if b + n <= p {
-        return false;
-    }
-    true
+    (b..b + n).contains(&p)
 }
 
 // The used count of user u, whose entry is on page q.
@@ -174,10 +143,8 @@ fn note_users(
     ensures { RowTells img.now (1024 * q + 1024) row.new result }
 {
     let mut m = n;
-    let mut k: usize = 0;
-    while k < 32 {
-        m = note_user(img, counts, q, first + k, row, m);
-        k += 1;
+    for u in first..first + 32 {
+        m = note_user(img, counts, q, u, row, m);
     }
     m
 }
@@ -199,12 +166,10 @@ fn note_page(
     if is_among(b, bit_pages(total), p) {
         return note_bits(img, marks, total, b, p, row, n);
     }
-    let mut i: usize = 0;
-    while i < 8 {
+    for i in 0..8 {
         if user_page(img, 32 * i) == p {
             return note_users(img, counts, p, 32 * i, row, n);
         }
-        i += 1;
     }
     n
 }
@@ -214,13 +179,7 @@ fn nearer(p: usize, x: usize, r: usize) -> usize
     requires { p < r }
     ensures { (p < result) × (result ≤ r) × (p < x → result ≤ x) }
 {
-    if p < x {
-        if x < r {
-            return x;
-        }
-        return r;
-    }
-    r
+    if p < x { r.min(x) } else { r }
 }
 
 // The next page behind p of the n pages from b on, or the total of pages.
@@ -229,12 +188,12 @@ fn next_among(b: usize, n: usize, p: usize, total: usize) -> usize
     ensures { (p < result) × (result ≤ total) × ((x : ℕ) → p < x → b ≤ x → x < b + n → result ≤ x) }
 {
     if p < b {
-        return b;
+        b
+    } else if p + 1 < b + n {
+        p + 1
+    } else {
+        total
     }
-    if p + 1 < b + n {
-        return p + 1;
-    }
-    total
 }
 
 // The next page behind p that is one of the bit file, which begins at page b, or a user page, or the total of pages.
@@ -243,11 +202,8 @@ fn next_page(img: &[u16], total: usize, b: usize, p: usize) -> usize
     ensures { Next (pages img.now) (vol img.now) p result }
 {
     let mut r = next_among(b, bit_pages(total), p, total);
-    let mut i: usize = 0;
-    while i < 8 {
-        let q = user_page(img, 32 * i);
-        r = nearer(p, q, r);
-        i += 1;
+    for i in 0..8 {
+        r = nearer(p, user_page(img, 32 * i), r);
     }
     r
 }

@@ -23,10 +23,9 @@ ghost use Rattle.salvage.specs.Mending.{Mends};
 use bits::PAGE_BITS;
 use bits::marks::{few_marks, most_marks};
 use book::{Answer, Refusal};
-use counts::Rest;
 use page::WORDS;
 use places::tell::tell;
-use sound::early::{Said, early};
+use sound::early::early;
 use walk::Walk;
 use walk::volume::mark_all;
 
@@ -44,13 +43,11 @@ fn mend_sure(
 {
     let n = collect::collect(img, marks, counts, left, row);
     if room < n {
-        return Answer::Refused {
-            why: Refusal::ShortList,
-        };
+        return Err(Refusal::ShortList);
     }
     let value = n as u32;
     apply::apply(img, row, n);
-    Answer::Done { value }
+    Ok(value)
 }
 
 // Number 13, then the words. A walk has marked the held pages and visited so many.
@@ -66,12 +63,7 @@ fn mend_good(
     ensures { Mends img.old room result img.new row.new }
 {
     let mut counts = counts::no_counts();
-    let found = counts::balance(img, img.len() / WORDS, visits, ends, &mut counts);
-    let Rest::Left { pages: left } = found else {
-        return Answer::Refused {
-            why: Refusal::Overdrawn,
-        };
-    };
+    let left = counts::balance(img, img.len() / WORDS, visits, ends, &mut counts)?;
     mend_sure(img, marks, &counts, left, room, row)
 }
 
@@ -88,11 +80,9 @@ fn mend_marked(
 {
     let w = mark_all(img, marks, img.len() / WORDS, ends);
     let Walk::On { visited } = w else {
-        return Answer::Refused {
-            why: Refusal::Unsound {
-                broken: tell(img, false, 8),
-            },
-        };
+        return Err(Refusal::Unsound {
+            broken: tell(img, false, 8),
+        });
     };
     mend_good(img, marks, visited, ends, room, row)
 }
@@ -116,15 +106,12 @@ pub fn mend(img: &mut [u16], room: usize, row: &mut [u64; 9311]) -> Answer
     ensures { Mends img.old room result img.new row.new }
 {
     if !sound::whole(img) {
-        return Answer::Refused { why: Refusal::Size };
+        return Err(Refusal::Size);
     }
-    let said = early(img, false);
-    match said {
-        Said::Broken { rule } => Answer::Refused {
-            why: Refusal::Unsound {
-                broken: tell(img, false, rule),
-            },
-        },
-        Said::Kept { ends } => mend_kept(img, ends, room, row),
+    match early(img, false) {
+        Err(b) => Err(Refusal::Unsound {
+            broken: tell(img, false, b.rule),
+        }),
+        Ok(ends) => mend_kept(img, ends, room, row),
     }
 }

@@ -29,9 +29,8 @@ pub fn fill(list: &mut [Change], row: &[u64; 9311], n: usize)
     requires { (n ≤ length list.old) × (n ≤ 9311) }
     ensures { list.new ≡ map unpacked (take n row.now) ++ drop n list.old }
 {
-    let mut k: usize = 0;
-    while k < n {
-        list[k] = told_at(row, k);
-        k += 1;
+    let told = &mut list[..n];
+    for (k, change) in told.iter_mut().enumerate() {
+        *change = told_at(row, k);
     }
 }

@@ -14,7 +14,7 @@ fn packed_at(i: usize, old: u16, new: u16) -> u64
     requires { i < 268435456 }
     ensures { result ≡ packed_change i old new }
 {
-    (i as u64) * 4294967296 + (old as u64) * 65536 + (new as u64)
+    (i as u64) * 4294967296 + u64::from(old) * 65536 + u64::from(new)
 }
 
 // The word at place i, which is old, is to become x: where that changes it, number n of the row tells so. How many are told then.

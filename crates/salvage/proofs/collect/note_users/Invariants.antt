@@ -1,9 +1,6 @@
-use Prim.Native.Nat.{◌+◌, ◌-◌, ◌*◌, ◌≤◌}
+use Rattle.std.proofs.Common.{◌+◌, ◌*◌, ◌-◌}
 use Rattle.salvage.specs.Row.{RowTells}
 use Rattle.salvage.proofs.collect.note_users.Given as goal
 
-abbrev pub invariant-loop-k : goal.invariant-loop-k
-invariant-loop-k l = (l.k ≤ 32) × RowTells l.img (1024 * l.q + 32 * l.k) l.row l.m
-
-abbrev pub decreases-loop-k : goal.decreases-loop-k
-decreases-loop-k l = 32 - l.k
+abbrev pub invariant-loop-u : goal.invariant-loop-u
+invariant-loop-u l = RowTells l.img (1024 * l.q + 32 * (l.u - l.first)) l.row l.m
