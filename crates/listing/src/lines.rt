@@ -11,7 +11,7 @@ ghost use Rattle.listing.specs.Wrote.{far, Wrote};
 use crate::name::{put_entry_name, put_name};
 use crate::put::{put_bytes, put_field};
 use page::entry::{NAME, PAGES, POINTER, TYPE};
-use page::{BITS, VOLUME};
+use page::{INDEXED, VOLUME};
 use seek::users::{given, unreserved, used_pages};
 use tree::entry::{entry_flags, entry_two, entry_used};
 use tree::root::user_page;
@@ -22,8 +22,7 @@ pub fn put_head(img: &[u16], out: &mut [u8]) -> usize
     ensures { Wrote (head_line (pages img.now) (vol img.now)) out.old 0 out.new result × (result ≤ 128) }
 {
     let total = img.len() / page::WORDS;
-    let b = page::read::page_at(img, 0, BITS) as usize;
-    let held = bits::reserved(img, b, total);
+    let held = bits::reserved(img, bits::bit_page(img), total);
     let left = unreserved(img) as usize;
     let mut z = put_bytes(out, 0, b"VOLUME ");
     z = put_name(img, out, z, 0, VOLUME, 16);
@@ -49,21 +48,17 @@ pub fn put_user(img: &[u16], out: &mut [u8], at: usize, u: usize) -> usize
     put_bytes(out, z, b"\n")
 }
 
-// The kind of a file of n pages, by the flags of its pointer.
+// The kind of a file of n pages, by the flags of its pointer: the paper's number, as `kind_of` of the clause has it.
 fn put_kind(out: &mut [u8], at: usize, flags: u16, n: usize) -> usize
     requires { at < 5 * far }
     ensures { Wrote (kind_of flags n) out.old at out.new result × (result ≤ at + 11) }
 {
-    if flags == 1 {
-        return put_bytes(out, at, b" INDEXED");
+    match flags {
+        INDEXED => put_bytes(out, at, b" INDEXED"),
+        0 if n == 0 => put_bytes(out, at, b" EMPTY"),
+        0 => put_bytes(out, at, b" CONTIGUOUS"),
+        _ => put_bytes(out, at, b" SUBINDEXED"),
     }
-    if flags != 0 {
-        return put_bytes(out, at, b" SUBINDEXED");
-    }
-    if n == 0 {
-        return put_bytes(out, at, b" EMPTY");
-    }
-    put_bytes(out, at, b" CONTIGUOUS")
 }
 
 // The front of a file's line: its number, its name and its type.

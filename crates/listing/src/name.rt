@@ -16,12 +16,10 @@ pub fn put_name(img: &[u16], out: &mut [u8], at: usize, p: usize, k: usize, n: u
     ensures { Wrote (stored n (vol img.now p) k) out.old at out.new result × (result ≤ at + n) }
 {
     let l = end_at(img, p, k, n);
-    let mut i: usize = 0;
-    while i < l {
+    for i in 0..l {
         put(out, at + i, byte_at(img, p, k, i));
-        i += 1;
     }
-    at + i
+    at + l
 }
 
 // The name in the m bytes from word k of entry n on page q on.
@@ -37,7 +35,5 @@ pub fn put_entry_name(
     requires { (0 < q) × (q < pages img.now) × (m % 2 ≡ 0) × (k + m / 2 ≤ 32) × (at < 5 * far) }
     ensures { Wrote (stored m (entry_in (vol img.now) q n) k) out.old at out.new result × (result ≤ at + m) }
 {
-    let place = EntryPlace::of(n);
-    let w = place.word;
-    put_name(img, out, at, q, w + k, m)
+    put_name(img, out, at, q, EntryPlace::of(n).word + k, m)
 }

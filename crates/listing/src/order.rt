@@ -20,10 +20,8 @@ fn put_page(img: &[u16], out: &mut [u8], at: usize, u: usize, i: usize) -> usize
         return at;
     }
     let mut z = at;
-    let mut k: usize = 0;
-    while k < 32 {
+    for k in 0..32 {
         z = put_file(img, out, z, q, b + k, 32 * i + k);
-        k += 1;
     }
     z
 }
@@ -34,10 +32,8 @@ fn put_files(img: &[u16], out: &mut [u8], at: usize, u: usize) -> usize
     ensures { Wrote (joined (file_of (vol img.now) u) 256) out.old at out.new result × (result ≤ at + 32768) }
 {
     let mut z = at;
-    let mut i: usize = 0;
-    while i < 8 {
+    for i in 0..8 {
         z = put_page(img, out, z, u, i);
-        i += 1;
     }
     z
 }
@@ -60,10 +56,8 @@ pub fn put_listing(img: &[u16], out: &mut [u8]) -> usize
     ensures { Wrote (listing (pages img.now) (vol img.now)) out.old 0 out.new result }
 {
     let mut z = put_head(img, out);
-    let mut u: usize = 0;
-    while u < 256 {
+    for u in 0..256 {
         z = put_user_lines(img, out, z, u);
-        u += 1;
     }
     z
 }

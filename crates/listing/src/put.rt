@@ -3,7 +3,7 @@ ghost use Rattle.std.specs.Prelude.{◌≡◌, ◌∷◌, ◌+◌, ◌*◌, ◌�
 ghost use Rattle.book.specs.Listing.{digits, decimal, field};
 ghost use Rattle.listing.specs.Wrote.{far, Wrote};
 
-// One byte; the buffer stays as it is where it does not reach.
+// One byte; the buffer stays as it is where it does not reach. Not by `get_mut`: std says nothing of what the slice then ends as, so the clause did not close.
 pub(crate) fn put(out: &mut [u8], at: usize, b: u8)
     ensures { out.new ≡ set out.old at b }
 {
@@ -17,22 +17,13 @@ pub fn put_bytes(out: &mut [u8], at: usize, s: &[u8]) -> usize
     requires { (at < 6 * far) × (length s.now ≤ 16) }
     ensures { Wrote s.now out.old at out.new result }
 {
-    let mut i: usize = 0;
-    while i < s.len() {
-        put(out, at + i, s[i]);
-        i += 1;
+    for (i, &b) in s.iter().enumerate() {
+        put(out, at + i, b);
     }
-    at + i
+    at + s.len()
 }
 
-fn digit(d: usize) -> u8
-    requires { d < 10 }
-    ensures { result ≡ 48 + d }
-{
-    48 + d as u8
-}
-
-// The last k digits of n, without zeros in front.
+// The last k digits of n, without zeros in front. Not by `Display`: that wants a `fmt::Write` of its own over a buffer that may end early, with a model and more proof than these lines, and the clause speaks of the book's `digits`, one at a time.
 fn put_digits(out: &mut [u8], at: usize, n: usize, k: usize) -> usize
     requires { (at < 6 * far) × (k ≤ 10) }
     ensures { Wrote (digits k n) out.old at out.new result × (result ≤ at + k) }
@@ -41,11 +32,11 @@ fn put_digits(out: &mut [u8], at: usize, n: usize, k: usize) -> usize
         return at;
     }
     if n < 10 {
-        put(out, at, digit(n));
+        put(out, at, b'0' + n as u8);
         return at + 1;
     }
     let z = put_digits(out, at, n / 10, k - 1);
-    put(out, z, digit(n % 10));
+    put(out, z, b'0' + (n % 10) as u8);
     z + 1
 }
 

@@ -16,5 +16,5 @@ returns c =
     let p = wrote_then c.put_title-z.ensures.0 (wrote_as (ap (field pages_are) c.entry_two-n.ensures.0) c.put_field-z.ensures.0) in
     let k = wrote_then p (wrote_as (ap₂ kind_of c.entry_flags-flags.ensures.0 c.entry_two-n.ensures.0) c.put_kind-z.ensures.0) in (
       wrote_as (lines-one _ _ (holds c.entry_used.result _ c.entry_used.ensures c.if-not-entry_used.false-raw)) (wrote_then k c.put_bytes.ensures),
-      omega (arith, c.put_bytes.ensures.next, c.put_kind-z.ensures.1, c.put_field-z.ensures.1, c.put_title-z.ensures.1),
+      omega arith,
     )

@@ -4,14 +4,14 @@ use Rattle.listing.proofs.Writing.{wrote_as}
 use Rattle.listing.proofs.Texts.{kind-index, kind-subindex, kind-empty, kind-contiguous}
 use Rattle.listing.proofs.lines.put_kind.Goals as goal
 
-pub returns-then-flags-eq1 : goal.returns-then-flags-eq1
-returns-then-flags-eq1 c = (wrote_as (kind-index _ _ c.if-flags-eq1.true) c.put_bytes.ensures, omega (arith, c.put_bytes.ensures.next))
+pub returns-in-1 : goal.returns-in-1
+returns-in-1 c = (wrote_as (kind-index _ _ c.in-1.is) c.put_bytes.ensures, omega arith)
 
-pub returns-then-flags-ne0 : goal.returns-then-flags-ne0
-returns-then-flags-ne0 c = (wrote_as (kind-subindex _ _ c.if-flags-eq1.false c.if-flags-ne0.true) c.put_bytes-then-flags-ne0.ensures, omega (arith, c.put_bytes-then-flags-ne0.ensures.next))
+pub returns-in-0 : goal.returns-in-0
+returns-in-0 c = (wrote_as (kind-empty _ _ c.in-0.is c.if-n-eq0.true) c.put_bytes-in-0.ensures, omega arith)
 
-pub returns-then-n-eq0 : goal.returns-then-n-eq0
-returns-then-n-eq0 c = (wrote_as (kind-empty _ _ c.if-flags-ne0.false c.if-n-eq0.true) c.put_bytes-then-n-eq0.ensures, omega (arith, c.put_bytes-then-n-eq0.ensures.next))
+pub returns-in-0-2 : goal.returns-in-0-2
+returns-in-0-2 c = (wrote_as (kind-contiguous _ _ c.in-0.is c.if-n-eq0.false) c.put_bytes-in-0-2.ensures, omega arith)
 
-pub returns : goal.returns
-returns c = (wrote_as (kind-contiguous _ _ c.if-flags-ne0.false c.if-n-eq0.false) c.put_bytes-2.ensures, omega (arith, c.put_bytes-2.ensures.next))
+pub returns-in_default : goal.returns-in_default
+returns-in_default c = (wrote_as (kind-subindex _ _ (omega arith) (omega arith)) c.put_bytes-in_default.ensures, omega arith)

@@ -9,5 +9,5 @@ unfolding file_title
 returns c =
     let a = wrote_then (wrote_then c.put_field-z.ensures.0 c.put_bytes-z.ensures) c.put_entry_name-z.ensures.0 in (
       wrote_then (wrote_then a c.put_bytes-z-2.ensures) c.put_entry_name.ensures.0,
-      omega (arith, c.put_entry_name.ensures.1, c.put_bytes-z-2.ensures.next, c.put_entry_name-z.ensures.1, c.put_bytes-z.ensures.next, c.put_field-z.ensures.1),
+      omega arith,
     )

@@ -14,13 +14,7 @@ pub user_page-q-requires : goal.user_page-q-requires
 user_page-q-requires c = ready-users _ c.requires.0
 
 pub put_entry_name-z-requires : goal.put_entry_name-z-requires
-put_entry_name-z-requires c = (user-there (vol c.args.img.now) c.args.u _ c.user_page-q.ensures.0 c.requires.1, c.user_page-q.ensures.1, omega arith, omega arith, omega (arith, c.put_bytes-z.ensures.next, c.put_field-z.ensures.1, c.requires.2))
-
-pub put_field-z-requires-3 : goal.put_field-z-requires-3
-put_field-z-requires-3 c = (omega (arith, c.put_field-z-2.ensures.1, c.put_entry_name-z.ensures.1, c.put_bytes-z.ensures.next, c.put_field-z.ensures.1, c.requires.2), omega arith)
-
-pub put_bytes-requires : goal.put_bytes-requires
-put_bytes-requires c = (omega (arith, c.put_field-z-3.ensures.1, c.put_field-z-2.ensures.1, c.put_entry_name-z.ensures.1, c.put_bytes-z.ensures.next, c.put_field-z.ensures.1, c.requires.2), omega arith)
+put_entry_name-z-requires c = (user-there (vol c.args.img.now) c.args.u _ c.user_page-q.ensures.0 c.requires.1, c.user_page-q.ensures.1, omega arith, omega arith, omega arith)
 
 pub returns : goal.returns
 unfolding user_line
@@ -29,4 +23,4 @@ returns c =
     let n = wrote_then (wrote_then c.put_field-z.ensures.0 c.put_bytes-z.ensures) (wrote_as s c.put_entry_name-z.ensures.0) in
     let g = wrote_then n (wrote_as (ap (field given_are) c.given-had.ensures.0) c.put_field-z-2.ensures.0) in
     let x = wrote_then g (wrote_as (ap (field used_are) c.used_pages-uses.ensures.0) c.put_field-z-3.ensures.0) in
-    (wrote_then x c.put_bytes.ensures, omega (arith, c.put_bytes.ensures.next, c.put_field-z-3.ensures.1, c.put_field-z-2.ensures.1, c.put_entry_name-z.ensures.1, c.put_bytes-z.ensures.next, c.put_field-z.ensures.1))
+    (wrote_then x c.put_bytes.ensures, omega arith)

@@ -1,12 +1,9 @@
 -- `listing::order::put_page` meets its contract. Assumes nothing.
-use Prim.Native.Nat.{ℕ, ◌+◌, ◌-◌, ◌*◌, ◌≤◌}
+use Prim.Native.Nat.{ℕ, ◌+◌, ◌*◌, ◌≤◌}
 use Rattle.book.specs.Words.{vol}
 use Rattle.book.specs.Listing.{joined, file_of}
 use Rattle.listing.specs.Wrote.{Wrote}
 use Rattle.listing.proofs.order.put_page.Given as goal
 
 abbrev pub invariant-loop-k : goal.invariant-loop-k
-invariant-loop-k l = (l.k ≤ 32) × (l.z ≤ l.at + 128 * l.k) × Wrote (joined (λ (j : ℕ). file_of (vol l.img) l.u (32 * l.i + j)) l.k) l.initial.out l.at l.out l.z
-
-abbrev pub decreases-loop-k : goal.decreases-loop-k
-decreases-loop-k l = 32 - l.k
+invariant-loop-k l = (l.z ≤ l.at + 128 * l.k) × Wrote (joined (λ (j : ℕ). file_of (vol l.img) l.u (32 * l.i + j)) l.k) l.initial.out l.at l.out l.z

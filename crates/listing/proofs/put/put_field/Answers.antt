@@ -4,9 +4,6 @@ use Rattle.book.specs.Listing.{field}
 use Rattle.listing.proofs.Writing.{wrote_then}
 use Rattle.listing.proofs.put.put_field.Goals as goal
 
-pub put_digits-requires : goal.put_digits-requires
-put_digits-requires c = (omega (arith, c.put_bytes-z.ensures.next, c.requires), omega arith)
-
 pub returns : goal.returns
 unfolding field
-returns c = (wrote_then c.put_bytes-z.ensures c.put_digits.ensures.0, omega (arith, c.put_bytes-z.ensures.next, c.put_digits.ensures.1, c.requires))
+returns c = (wrote_then c.put_bytes-z.ensures c.put_digits.ensures.0, omega arith)

@@ -1,9 +1,16 @@
 -- `listing::refusal::put_refusal` meets its contract. Assumes nothing.
-use mathlib.Core.Path.{ap, ap₂}
-use Rattle.book.specs.Listing.{refused_line}
-use Rattle.book.specs.declared.Break.{Break}
-use Rattle.listing.proofs.Writing.{wrote_as}
+use mathlib.Core.Path.{ap}
+use Rattle.book.specs.Listing.{field, refused_is}
+use Rattle.listing.proofs.Reports.{refused-unsound, refused-other}
+use Rattle.listing.proofs.Writing.{wrote_as, wrote_then}
 use Rattle.listing.proofs.refusal.put_refusal.Goals as goal
 
-pub returns : goal.returns
-returns c = wrote_as (ap₂ refused_line c.number_of-number.ensures (ap (λ (b : Break). b.rule) c.broken_of-b.ensures)) c.put_numbers.ensures
+pub returns-in-Unsound : goal.returns-in-Unsound
+returns-in-Unsound c =
+    let n = wrote_as (ap (field refused_is) c.number_of.ensures) c.put_field-z.ensures.0 in
+    wrote_as (refused-unsound c.args.why _ c.in-Unsound.is) (wrote_then (wrote_then n c.put_field-e.ensures.0) c.put_bytes.ensures)
+
+pub returns-in_default : goal.returns-in_default
+returns-in_default c =
+    let n = wrote_as (ap (field refused_is) c.number_of.ensures) c.put_field-z.ensures.0 in
+    wrote_as (refused-other c.args.why c.in_default.not-Unsound) (wrote_then n c.put_bytes-in_default.ensures)
