@@ -1,17 +1,13 @@
 -- The bits of one word: shifts, masks and counts. Assumes nothing.
 use mathlib.Core.Path.{◌≡◌, refl, sym, ap, ap₂, ◌∙◌}
 use Prim.Native.Nat.{ℕ, zero, suc, ◌+◌, ◌-◌, ◌*◌, ◌/◌, ◌%◌, ◌^◌, ◌≤◌, ◌<◌, min, max}
-use native.Mathlib.Nat.{one-mul, pow-suc, mod-one, div-one, mod-lt, mod-eq_of_lt, add_comm}
+use native.Mathlib.Nat.{pow-suc, mod-one, div-one, mod-lt, mod-eq_of_lt, add_comm}
 use native.Mathlib.Numerals.{one-add, add-one}
 use native.Mathlib.Omega.{arith}
-use lib.Pow.{pow_pos, pow-lt, shl_exact, shr-shr, mod-pow-add, mod-mod-pow, field}
+use lib.Pow.{pow_pos, pow-lt, shr-shr, mod-pow-add, mod-mod-pow, field}
 use lib.Bits.{bit_and, bit_or, and_step, or_step, or_zero_r, and_mask}
 use lib.Count.{ones, ones_cat, count_trailing_zeros, under, count_leading_zeros, leading_length}
 use Rattle.book.specs.Bits.{digit, to_digit}
-
--- what `1 << j` is
-pub power-is : (j : ℕ) → j < 16 → 1 * 2 ^ j % 65536 ≡ 2 ^ j
-power-is j h = shl_exact 1 j 16 (omega arith) (omega arith) ∙ one-mul (2 ^ j)
 
 -- what `w >> j` shows
 pub digit-is : (j w : ℕ) → digit j w ≡ w / 2 ^ j % 2

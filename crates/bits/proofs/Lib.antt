@@ -7,5 +7,4 @@ pub mod BitsIn
 pub mod Upwards
 pub mod Paired
 pub mod Downwards
-pub mod Ready
 pub mod Taken

@@ -1,11 +1,13 @@
 -- The search downwards for a short run: each word with the one above it. Assumes nothing.
 use mathlib.Core.Path.{◌≡◌, refl, sym, ap, ◌∙◌}
-use Prim.Native.Nat.{ℕ, ◌+◌, ◌-◌, ◌*◌, ◌/◌, ◌%◌, ◌≤◌, ◌<◌}
+use Prim.Native.Nat.{ℕ, suc, ◌+◌, ◌-◌, ◌*◌, ◌/◌, ◌%◌, ◌≤◌, ◌<◌}
 use native.Mathlib.Decide.{dec_lt}
 use native.Mathlib.Omega.{arith}
 use Rattle.book.specs.Words.{Vol}
 use Rattle.book.specs.Bits.{bit, free_run, highest_run}
-use Rattle.bits.specs.Run.{StartIn}
+use Rattle.std.specs.Prelude.{Option, None, Some}
+use Rattle.std.specs.Option.{unwrap_or}
+use Rattle.bits.specs.Run.{NoStart, StartIn}
 use Rattle.bits.specs.Search.{BitsIn}
 use Rattle.bits.proofs.Places.{run-broken, highest-start, highest-absent}
 use Rattle.bits.proofs.BitsIn.{pair-none, pair-next, free-place}
@@ -24,34 +26,36 @@ module _ (P : ℕ) (v : Vol) (n : ℕ) (some : 0 < n) (short : n ≤ 16) where
     none = λ s a l. absurd (let r : ⊥ = omega arith in r);
   }
 
-  module _ (i x : ℕ) (D : Paired P v n i x) (r : ℕ) (S : StartIn x n r) where
+  module _ (i x : ℕ) (D : Paired P v n i x) where
     -- no run starts above the one found
-    paired-above : (s : ℕ) → i * 16 + r ≤ s → s + n ≤ P → free_run P v n s ≡ 0
-    paired-above s a l = elim (dec_lt s (i * 16 + 16)) [
+    paired-above : (a : ℕ) → NoStart x n a → (s : ℕ) → i * 16 + a ≤ s → s + n ≤ P → free_run P v n s ≡ 0
+    paired-above a none s up l = elim (dec_lt s (i * 16 + 16)) [
       | no h ↦ D.none s (omega arith) l
       | yes h ↦
-          let H = S.none (s - i * 16) (omega arith) (omega arith) in
+          let H = none (s - i * 16) (omega arith) (omega arith) in
           let x = H.from in let y = H.below in
           let e : s + (i * 16 + H.place - s) ≡ i * 16 + H.place = omega arith in
           run-broken P v n s (i * 16 + H.place - s) (omega arith) (ap (bit P v) e ∙ sym (D.bits.below H.place (omega arith) (omega arith)) ∙ H.one)
     ]
 
     -- the pages of the run found
-    in_pair : 0 < r → (k : ℕ) → k < n → (i * 16 + (r - 1) + k < P) × (bit P v (i * 16 + (r - 1) + k) ≡ 0)
-    in_pair h k l =
-        let q = free-place P v i 32 x D.bits (r - 1 + k) (omega (arith, S.most)) (S.free (r - 1) (omega arith) (r - 1 + k) (omega arith) (omega arith)) in
-        (omega (arith, q.0), ap (bit P v) (let e : i * 16 + (r - 1) + k ≡ i * 16 + (r - 1 + k) = omega arith in e) ∙ q.1)
+    in_pair : (t : ℕ) → StartIn x n (Some t) → (k : ℕ) → k < n → (i * 16 + t + k < P) × (bit P v (i * 16 + t + k) ≡ 0)
+    in_pair t S k l =
+        let q = free-place P v i 32 x D.bits (t + k) (omega (arith, S.0)) (S.1 (t + k) (omega arith) (omega arith)) in
+        (omega (arith, q.0), ap (bit P v) (let e : i * 16 + t + k ≡ i * 16 + (t + k) = omega arith in e) ∙ q.1)
 
-    pub paired-found : 0 < r → highest_run P v n ≡ i * 16 + (r - 1)
-    paired-found h = highest-start P v n (i * 16 + (r - 1)) some (in_pair h) (λ s a l. paired-above s (omega arith) l)
+    pub paired-found : (t : ℕ) → StartIn x n (Some t) → highest_run P v n ≡ i * 16 + t
+    paired-found t S = highest-start P v n (i * 16 + t) some (in_pair t S) (λ s a l. paired-above (suc t) S.2 s (omega arith) l)
 
-    pub paired_none : r ≡ 0 → i ≡ 0 → highest_run P v n ≡ 0
-    paired_none e z = highest-absent P v n some (λ s l. paired-above s (omega arith) l)
+    -- in the lowest word
+    pub paired_end : i ≡ 0 → (r : Option ℕ) → StartIn x n r → highest_run P v n ≡ unwrap_or r 0
+    paired_end z None S = highest-absent P v n some (λ s l. paired-above 0 S s (omega arith) l)
+    paired_end z (Some t) S = paired-found t S ∙ omega arith
 
     -- the word below
-    pub paired-next : r ≡ 0 → 0 < i → (w y : ℕ) → w < 65536 → BitsIn P v (i - 1) 16 w → y ≡ x % 65536 * 65536 + w → Paired P v n (i - 1) y
-    paired-next z p w y small W e = record {
+    pub paired-next : StartIn x n None → (j w y : ℕ) → i ≡ j + 1 → w < 65536 → BitsIn P v j 16 w → y ≡ x % 65536 * 65536 + w → Paired P v n j y
+    paired-next S j w y next small W e = record {
       most = omega (arith, D.most);
-      bits = pair-next P v (i - 1) i x w y (omega arith) D.bits W small e;
-      none = λ s a l. paired-above s (omega arith) l;
+      bits = pair-next P v j i x w y next D.bits W small e;
+      none = λ s a l. paired-above 0 S s (omega arith) l;
     }

@@ -1,9 +1,10 @@
 -- Runs of free pages in a word, and in a word with the one above it. Assumes nothing.
 use mathlib.Core.Path.{◌≡◌, sym, ap, ◌∙◌}
-use mathlib.Core.Logic.{◌⊎◌, inl, inr}
+use mathlib.Core.Logic.{inl, inr}
 use Prim.Native.Nat.{ℕ, suc, ◌+◌, ◌-◌, ◌%◌, ◌≤◌, ◌<◌, min}
 use native.Mathlib.Decide.{dec_lt, ℕ_discrete}
 use native.Mathlib.Omega.{arith}
+use Rattle.std.specs.Prelude.{Option, None, Some, SomeIff}
 use Rattle.book.specs.Bits.{digit}
 use Rattle.book.specs.Written.{digit-le}
 use Rattle.bits.specs.Word.{ZerosAbove, ZerosBelow}
@@ -56,59 +57,32 @@ starts_more x k g h some small S both = record {
 
 module _ (x n : ℕ) (some : 0 < n) (most : n ≤ 16) where
   -- the lower word is full
-  pub start-full : x % 65536 ≡ 65535 → StartIn x n 0
-  start-full e = record {
-    most = omega arith;
-    free = λ s i. absurd (let r : ⊥ = omega (arith, i) in r);
-    none = λ s a b. record { place = s; from = omega arith; below = omega arith; one = sym (digit_low s 16 x b) ∙ ap (digit s) e ∙ full-digit s b };
-  }
+  pub start-full : x % 65536 ≡ 65535 → StartIn x n None
+  start-full e = λ s a b. record { place = s; from = omega arith; below = omega arith; one = sym (digit_low s 16 x b) ∙ ap (digit s) e ∙ full-digit s b }
 
   -- no run of k places starts there, and so none of more
-  pub start_none : (k g : ℕ) → k ≤ n → g % 65536 ≡ 0 → Starts x k g → StartIn x n 0
-  start_none k g l e S = record {
-    most = omega arith;
-    free = λ s i. absurd (let r : ⊥ = omega (arith, i) in r);
-    none = λ s a b.
-        stopper-on s (s + n) (S.other s (omega arith) (sym (digit_low s 16 g b) ∙ ap (digit s) e ∙ digit-above s 0 0 (omega arith) (omega arith))) (omega arith) (omega arith);
-  }
+  pub start_none : (k g : ℕ) → k ≤ n → g % 65536 ≡ 0 → Starts x k g → StartIn x n None
+  start_none k g l e S = λ s a b.
+      stopper-on s (s + n) (S.other s (omega arith) (sym (digit_low s 16 g b) ∙ ap (digit s) e ∙ digit-above s 0 0 (omega arith) (omega arith))) (omega arith) (omega arith)
 
   -- the highest of them
-  pub start-found : (g z : ℕ) → Starts x n g → ZerosAbove (g % 65536) z → StartIn x n (16 - z)
-  start-found g z S Z = record {
-    most = omega arith;
-    free = λ s e. S.free s (sym (digit_low s 16 g (omega (arith, e))) ∙ Z.there s (omega (arith, e)));
-    none = λ s a b. S.other s (omega arith) (sym (digit_low s 16 g b) ∙ Z.zeros s (omega arith));
-  }
+  pub start-found : (g z : ℕ) → Starts x n g → ZerosAbove (g % 65536) z → (r : Option ℕ) → SomeIff r (z ≤ 15) (15 - z) → StartIn x n r
+  start-found g z S Z None e = λ s a b. S.other s (omega arith) (sym (digit_low s 16 g b) ∙ Z.zeros s (omega arith))
+  start-found g z S Z (Some t) e = (omega arith, S.free t (sym (digit_low t 16 g (omega arith)) ∙ Z.there t (omega arith)), λ s a b. S.other s (omega arith) (sym (digit_low s 16 g b) ∙ Z.zeros s (omega arith)))
 
 -- ---- in a word, with what follows on it
 
 module _ (w run n : ℕ) (short : run < n) where
-  none_found : ((s : ℕ) → s < 16 → (16 + run < s + n) ⊎ Stopper w s 16) → RunIn w run n 0
-  none_found none = record {
-    most = omega arith;
-    fits = λ p. absurd (let r : ⊥ = omega arith in r);
-    free = λ s i. absurd (let r : ⊥ = omega (arith, i) in r);
-    none = λ s a b. none s b;
-  }
-
   -- its highest page is reserved
-  pub run-held : w < 65536 → 32768 ≤ w → RunIn w run n 0
-  run-held small h = none_found (λ s b. inr (record { place = 15; from = omega arith; below = omega arith; one = digit-top 15 w h (omega arith) }))
+  pub run-held : w < 65536 → 32768 ≤ w → RunIn w run n None
+  run-held small h = λ s a b. inr (record { place = 15; from = omega arith; below = omega arith; one = digit-top 15 w h (omega arith) })
 
   module _ (z : ℕ) (Z : ZerosAbove w z) where
-    pub run-found : n - run ≤ z → RunIn w run n (17 - (n - run))
-    run-found h = record {
-      most = omega arith;
-      fits = λ p. omega (arith, Z.most);
-      free = λ s e j a b. Z.zeros j (omega arith);
-      none = λ s a b. inl (omega (arith, Z.most));
-    }
-
-    pub run_none : z < n - run → RunIn w run n 0
-    run_none h = none_found (λ s b. elim (dec_lt (16 + run) (s + n)) [
+    pub run_none : z < n - run → RunIn w run n None
+    run_none h = λ s a b. elim (dec_lt (16 + run) (s + n)) [
       | yes l ↦ inl l
       | no l ↦ inr (record { place = 15 - z; from = omega arith; below = omega arith; one = Z.there (15 - z) (omega arith) })
-    ])
+    ]
 
 -- ---- what a word leaves for the next
 

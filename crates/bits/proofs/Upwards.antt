@@ -1,6 +1,6 @@
 -- The search upwards, for the lowest free page from page s on. Assumes nothing.
 use mathlib.Core.Path.{◌≡◌, sym, ap, ◌∙◌, fun_ext}
-use Prim.Native.Nat.{ℕ, suc, ◌+◌, ◌-◌, ◌*◌, ◌/◌, ◌%◌, ◌≤◌, ◌<◌, max}
+use Prim.Native.Nat.{ℕ, suc, ◌+◌, ◌-◌, ◌*◌, ◌/◌, ◌%◌, ◌≤◌, ◌<◌, min, max}
 use native.Mathlib.Decide.{dec_lt}
 use native.Mathlib.Omega.{arith}
 use Rattle.sums.specs.Search.{lowest, lowest-at, lowest-none, lowest-is}
@@ -68,7 +68,7 @@ module _ (P : ℕ) (v : Vol) (b : ℕ) (f : BitsAt P v b) (s : ℕ) where
     full : w ≡ 65535 → (j : ℕ) → j < 16 → digit j w ≡ 1
     full e j l = ap (digit j) e ∙ full-digit j l
 
-    -- a full word, and the next; or the end
+    -- a full word, and the next
     pub up_next : w ≡ 65535 → (x : ℕ) → x < 65536 → x ≡ word_from v b (i + 1) → (i + 1) * 16 < P → Upwards P v s (i + 1) x
     up_next e x small ex h = record {
       small = small;
@@ -78,21 +78,30 @@ module _ (P : ℕ) (v : Vol) (b : ℕ) (f : BitsAt P v b) (s : ℕ) where
       word = λ j l q. omega (arith, U.start, ap (digit j) ex, bit_in P v b f (i + 1) j l q);
     }
 
-    pub up_none : w ≡ 65535 → P ≤ (i + 1) * 16 → P ≡ free_from P v s
-    unfolding free_from
-    up_none e h = sym (lowest-none (λ p. 1 - bit P v p - (s - p)) P (λ k l. passed-by 16 (omega arith) (full e) k (omega arith) l))
-
-    -- the first word that is not full
+    -- the first word that is not full, or the last
     module _ (t : ℕ) (C : FirstClear w t) where
-      pub up-past : P ≤ i * 16 + t → P ≡ free_from P v s
+      up-past : P ≤ i * 16 + t → P ≡ free_from P v s
       unfolding free_from
       up-past h = sym (lowest-none (λ p. 1 - bit P v p - (s - p)) P (λ k l. passed-by t C.most C.below k (omega arith) l))
 
-      pub up-found : ¬ (w ≡ 65535) → i * 16 + t < P → i * 16 + t ≡ free_from P v s
+      up-found : t < 16 → i * 16 + t < P → i * 16 + t ≡ free_from P v s
       unfolding free_from
-      up-found n h = elim (dec_lt t 16) [
+      up-found l h =
+          sym (lowest-at (λ p. 1 - bit P v p - (s - p)) P (i * 16 + t) h (omega (arith, U.word t l h, C.there l))
+          (λ k a. passed-by t C.most C.below k a (omega arith)))
+
+      -- a word that is not full has a 0
+      has-clear : ¬ (w ≡ 65535) → t < 16
+      has-clear n = elim (dec_lt t 16) [
+        | yes l ↦ l
         | no l ↦ absurd (n (all_ones 16 w (omega (arith, U.small)) (λ j a. C.below j (omega arith))))
-        | yes l ↦
-            sym (lowest-at (λ p. 1 - bit P v p - (s - p)) P (i * 16 + t) h (omega (arith, U.word t l h, C.there l))
-            (λ k a. passed-by t C.most C.below k a (omega arith)))
+      ]
+
+      pub up_inside : ¬ (w ≡ 65535) → i * 16 + 16 ≤ P → i * 16 + t ≡ free_from P v s
+      up_inside n h = let l : t < 16 = has-clear n in up-found l (omega arith)
+
+      pub up_last : P ≤ i * 16 + 16 → min P (i * 16 + t) ≡ free_from P v s
+      up_last h = elim (dec_lt (i * 16 + t) P) [
+        | yes l ↦ (let e : min P (i * 16 + t) ≡ i * 16 + t = omega arith in e) ∙ up-found (omega arith) l
+        | no l ↦ (let e : min P (i * 16 + t) ≡ P = omega arith in e) ∙ up-past (omega arith)
       ]

@@ -1,5 +1,5 @@
 -- Runs of free pages in a word of the bit file, or in two: a page is a place in the number, and free where its bit is 0. Assumes nothing.
-use Rattle.std.specs.Prelude.{◌≡◌, ◌⊎◌, ℕ, suc, ◌+◌, ◌≤◌, ◌<◌}
+use Rattle.std.specs.Prelude.{◌≡◌, ◌⊎◌, Option, None, Some, ℕ, suc, ◌+◌, ◌≤◌, ◌<◌}
 use Rattle.book.specs.Bits.{digit}
 
 -- the places from s on and below e are free
@@ -21,20 +21,25 @@ pub record Starts (x k g : ℕ) : Type 0 where
   pub free : (s : ℕ) → digit s g ≡ 1 → FreeIn x s (s + k)
   pub other : (s : ℕ) → s + k ≤ 32 → digit s g ≡ 0 → Stopper x s (s + k)
 
--- r is one above the highest start in the lower word of n free places of x in a row, or 0 where there is none
-pub record StartIn (x n r : ℕ) : Type 0 where
-  pub most : r ≤ 16
-  pub free : (s : ℕ) → suc s ≡ r → FreeIn x s (s + n)
-  pub none : (s : ℕ) → r ≤ s → s < 16 → Stopper x s (s + n)
+-- no n free places of x in a row start in its lower word from place a on
+abbrev pub NoStart : ℕ → ℕ → ℕ → Type 0
+NoStart x n a = (s : ℕ) → a ≤ s → s < 16 → Stopper x s (s + n)
+
+-- r is the highest start in the lower word of n free places of x in a row
+abbrev pub StartIn : ℕ → ℕ → Option ℕ → Type 0
+StartIn x n None = NoStart x n 0
+StartIn x n (Some t) = (t < 16) × FreeIn x t (t + n) × NoStart x n (suc t)
 
 -- ---- a word, and what follows on it
 
--- r is one above the highest start in w of n free pages in a row, n being 16 or more, where `run` free pages and then a reserved one follow on the word; 0 where there is none
-pub record RunIn (w run n r : ℕ) : Type 0 where
-  pub most : r ≤ 16
-  pub fits : 0 < r → r + n ≡ 17 + run
-  pub free : (s : ℕ) → suc s ≡ r → FreeIn w s 16
-  pub none : (s : ℕ) → r ≤ s → s < 16 → (16 + run < s + n) ⊎ Stopper w s 16
+-- no n free pages in a row start in w from place a on, n being 16 or more, where `run` free pages and then a reserved one follow on the word
+abbrev pub NoRun : ℕ → ℕ → ℕ → ℕ → Type 0
+NoRun w run n a = (s : ℕ) → a ≤ s → s < 16 → (16 + run < s + n) ⊎ Stopper w s 16
+
+-- r is the highest such start
+abbrev pub RunIn : ℕ → ℕ → ℕ → Option ℕ → Type 0
+RunIn w run n None = NoRun w run n 0
+RunIn w run n (Some t) = (t < 16) × (t + n ≡ 16 + run) × FreeIn w t 16 × NoRun w run n (suc t)
 
 -- so many free pages are there in a row from the start of w on, where `run` follow on the word
 pub record LeftIn (w run r : ℕ) : Type 0 where

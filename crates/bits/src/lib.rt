@@ -28,7 +28,7 @@ pub fn bit_pages(pages: usize) -> usize
     requires { pages ≤ most_pages }
     ensures { result ≡ bit_pages pages }
 {
-    (pages + (PAGE_BITS - 1)) / PAGE_BITS
+    pages.div_ceil(PAGE_BITS)
 }
 
 // The page at which the bit file begins.
@@ -56,7 +56,7 @@ pub fn set(img: &mut [u16], b: usize, p: usize)
     put_from(img, b, p / 16, with_one(w, p % 16));
 }
 
-// Page p is freed.
+// Page p is freed. Not one function with `set`: it would take the change of the word as a closure, for two lines.
 pub fn clear(img: &mut [u16], b: usize, p: usize)
     requires { 1024 * b + p / 16 < length img.old }
     ensures { (P : ℕ) → BitsAt P (vol img.old) b → p < P → vol img.new ≡ mark P (vol img.old) p 0 }
@@ -79,10 +79,8 @@ pub fn claim_run(img: &mut [u16], b: usize, s: usize, n: usize)
     requires { (1024 * b + (s + n + 15) / 16 ≤ length img.old) × (1024 * (s + n) ≤ length img.old) × (0 < s) }
     ensures { (P : ℕ) → BitsAt P (vol img.old) b → s + n ≤ P → vol img.new ≡ claim_run P (vol img.old) s n }
 {
-    let mut i: usize = 0;
-    while i < n {
-        claim(img, b, s + i);
-        i += 1;
+    for p in s..s + n {
+        claim(img, b, p);
     }
 }
 
@@ -93,11 +91,9 @@ pub fn reserved(img: &[u16], b: usize, pages: usize) -> usize
 {
     let full = pages / 16;
     let rest = pages % 16;
-    let mut n: usize = 0;
-    let mut i: usize = 0;
-    while i < full {
+    let mut n = 0;
+    for i in 0..full {
         n += ones_in(word_from(img, b, i));
-        i += 1;
     }
     if rest == 0 {
         return n;

@@ -7,7 +7,7 @@ ghost use Rattle.bits.specs.Marks.{marked, Unmarked, Marking};
 
 use crate::word::{digit_in, with_one};
 
-// The mark of page p: 1 or 0.
+// The mark of page p: 1 or 0, as a bit of the file.
 pub fn mark_of(marks: &[u16], p: usize) -> u16
     requires { p < 16 * length marks.now }
     ensures { (result ≡ marked marks.now p) × (result < 2) }
@@ -37,7 +37,7 @@ pub fn few_marks() -> [u16; 1024]
     [0; 1024]
 }
 
-// Those of the largest volume.
+// Those of the largest volume. A name for each of the two sizes, for its callers: the bodies are literals, which a const parameter makes no plainer.
 pub fn most_marks() -> [u16; 8796]
     ensures { Unmarked most_pages result }
 {

@@ -9,7 +9,7 @@ use crate::word::{FULL, zeros_above};
 pub(crate) fn next_pair(x: u32, w: u16) -> u32
     ensures { result ≡ x % 65536 * 65536 + w }
 {
-    x % 65536 * 65536 + w as u32
+    x % 65536 * 65536 + u32::from(w)
 }
 
 // The lower word.
@@ -19,13 +19,6 @@ fn lower(x: u32) -> u16
     (x % 65536) as u16
 }
 
-// The number with a 1 where x has a 0.
-fn inverse(x: u32) -> u32
-    ensures { (j : ℕ) → j < 32 → digit j result ≡ 1 - digit j x }
-{
-    !x
-}
-
 // The number with a 1 where x has a 1 and the next bit to the left is 1 too.
 fn with_next(x: u32) -> u32
     ensures { (j : ℕ) → digit j result ≡ min (digit j x) (digit (suc j) x) }
@@ -33,22 +26,20 @@ fn with_next(x: u32) -> u32
     x & (x >> 1)
 }
 
-// One above the highest start in the lower word of n free pages in a row; 0 if there is none.
-pub(crate) fn start_in(x: u32, n: usize) -> usize
+// The highest start in the lower word of n free pages in a row.
+pub(crate) fn start_in(x: u32, n: usize) -> Option<usize>
     requires { (0 < n) × (n ≤ 16) }
     ensures { StartIn x n result }
 {
     if lower(x) == FULL {
-        return 0;
+        return None;
     }
-    let mut g = inverse(x);
-    let mut k: usize = 1;
-    while k < n {
+    let mut g = !x;
+    for _ in 1..n {
         g = with_next(g);
         if lower(g) == 0 {
-            return 0;
+            return None;
         }
-        k += 1;
     }
-    16 - zeros_above(lower(g))
+    15usize.checked_sub(zeros_above(lower(g)))
 }

@@ -8,19 +8,19 @@ use crate::word::{zeros_above, zeros_below};
 // A word from here on has its highest bit set.
 const HIGHEST: u16 = 32768;
 
-// One above the start in w of a run of n that goes on in `run` free pages above the word; 0 if there is none.
-pub(crate) fn run_in(w: u16, run: usize, n: usize) -> usize
+// The start in w of a run of n that goes on in `run` free pages above the word.
+pub(crate) fn run_in(w: u16, run: usize, n: usize) -> Option<usize>
     requires { (run < n) × (16 ≤ n) }
     ensures { RunIn w run n result }
 {
     if HIGHEST <= w {
-        return 0;
+        return None;
     }
     let more = n - run;
     if more <= zeros_above(w) {
-        return 17 - more;
+        return Some(16 - more);
     }
-    0
+    None
 }
 
 // The free pages in a row from the start of w on, where `run` follow on the word.

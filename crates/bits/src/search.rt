@@ -12,9 +12,9 @@ use crate::word::{FULL, first_clear, ones_below, ones_from};
 use page::read::word_from;
 
 // Two words of which each bit is 1.
-const FULL_PAIR: u32 = 4294967295;
+const FULL_PAIR: u32 = u32::MAX;
 
-// The lowest free page from `from` on, and `pages` if there is none: full words are skipped.
+// The lowest free page from `from` on, and `pages` if there is none, as the theorems on `free_from` say: full words are skipped.
 pub fn free_from(img: &[u16], b: usize, pages: usize, from: usize) -> usize
     requires { (1024 * pages ≤ length img.now) × BitsAt pages (vol img.now) b }
     ensures { result ≡ free_from pages (vol img.now) from }
@@ -22,23 +22,19 @@ pub fn free_from(img: &[u16], b: usize, pages: usize, from: usize) -> usize
     if pages <= from {
         return pages;
     }
-    let mut i = from / 16;
-    let mut w = ones_below(word_from(img, b, i), from % 16);
-    while w == FULL {
-        i += 1;
-        if pages <= i * 16 {
-            return pages;
+    let first = from / 16;
+    let last = (pages - 1) / 16;
+    let mut w = ones_below(word_from(img, b, first), from % 16);
+    for i in first..last {
+        if w != FULL {
+            return i * 16 + first_clear(w);
         }
-        w = word_from(img, b, i);
+        w = word_from(img, b, i + 1);
     }
-    let p = i * 16 + first_clear(w);
-    if p < pages {
-        return p;
-    }
-    pages
+    pages.min(last * 16 + first_clear(w))
 }
 
-// The lowest free page, and `pages` if there is none.
+// The lowest free page, and `pages` if there is none: the book's `lowest_free`.
 pub fn lowest_free(img: &[u16], b: usize, pages: usize) -> usize
     requires { (1024 * pages ≤ length img.now) × BitsAt pages (vol img.now) b }
     ensures { result ≡ lowest_free pages (vol img.now) }
@@ -63,19 +59,14 @@ fn short_run(img: &[u16], b: usize, pages: usize, n: usize) -> usize
     requires { (1024 * pages ≤ length img.now) × BitsAt pages (vol img.now) b × (0 < n) × (n ≤ 16) }
     ensures { result ≡ highest_run pages (vol img.now) n }
 {
-    let mut i = pages / 16;
     let mut x = next_pair(FULL_PAIR, last_word(img, b, pages));
-    loop {
-        let t = start_in(x, n);
-        if 0 < t {
-            return i * 16 + (t - 1);
+    for i in (0..pages / 16).rev() {
+        if let Some(s) = start_in(x, n) {
+            return (i + 1) * 16 + s;
         }
-        if i == 0 {
-            return 0;
-        }
-        i -= 1;
         x = next_pair(x, word_from(img, b, i));
     }
+    start_in(x, n).unwrap_or(0)
 }
 
 // The same for n from 16 on: full and free words are a step each.
@@ -83,24 +74,19 @@ fn long_run(img: &[u16], b: usize, pages: usize, n: usize) -> usize
     requires { (1024 * pages ≤ length img.now) × BitsAt pages (vol img.now) b × (16 ≤ n) × (pages ≤ most_pages) }
     ensures { result ≡ highest_run pages (vol img.now) n }
 {
-    let mut i = pages / 16;
     let mut w = last_word(img, b, pages);
-    let mut run: usize = 0;
-    loop {
-        let t = run_in(w, run, n);
-        if 0 < t {
-            return i * 16 + (t - 1);
+    let mut run = 0;
+    for i in (0..pages / 16).rev() {
+        if let Some(s) = run_in(w, run, n) {
+            return (i + 1) * 16 + s;
         }
         run = left_in(w, run);
-        if i == 0 {
-            return 0;
-        }
-        i -= 1;
         w = word_from(img, b, i);
     }
+    run_in(w, run, n).unwrap_or(0)
 }
 
-// The highest start of n free pages in a row, and 0 if there is none.
+// The highest start of n free pages in a row, and 0 if there is none: the book's `highest_run`.
 pub fn highest_run(img: &[u16], b: usize, pages: usize, n: usize) -> usize
     requires { (1024 * pages ≤ length img.now) × BitsAt pages (vol img.now) b × (0 < n) × (pages ≤ most_pages) }
     ensures { result ≡ highest_run pages (vol img.now) n }

@@ -5,7 +5,7 @@ ghost use Rattle.book.specs.Bits.{digit, to_digit};
 ghost use Rattle.bits.specs.Word.{FirstClear, ZerosBelow, ZerosAbove};
 
 // The word of which each bit is 1.
-pub(crate) const FULL: u16 = 65535;
+pub(crate) const FULL: u16 = u16::MAX;
 
 // The word whose only 1 is bit j.
 fn power(j: usize) -> u16
@@ -43,7 +43,7 @@ pub(crate) fn with_zero(w: u16, j: usize) -> u16
 pub(crate) fn ones_in(w: u16) -> usize
     ensures { (result ≡ ones w) × (result ≤ 16) }
 {
-    u16::count_ones(w) as usize
+    w.count_ones() as usize
 }
 
 // The word whose n lowest bits are 1.
@@ -86,30 +86,23 @@ pub(crate) fn ones_from(w: u16, n: usize) -> u16
     w | !low_ones(n)
 }
 
-// The word with a 1 where w has a 0.
-pub(crate) fn inverse(w: u16) -> u16
-    ensures { (j : ℕ) → j < 16 → digit j result ≡ 1 - digit j w }
-{
-    !w
-}
-
 // How many zeros stand below the lowest 1 of w.
 pub(crate) fn zeros_below(w: u16) -> usize
     ensures { ZerosBelow w result }
 {
-    u16::trailing_zeros(w) as usize
+    w.trailing_zeros() as usize
 }
 
 // How many zeros stand above the highest 1 of w.
 pub(crate) fn zeros_above(w: u16) -> usize
     ensures { ZerosAbove w result }
 {
-    u16::leading_zeros(w) as usize
+    w.leading_zeros() as usize
 }
 
 // The place of the lowest 0 of w, and 16 if there is none.
 pub(crate) fn first_clear(w: u16) -> usize
     ensures { FirstClear w result }
 {
-    zeros_below(inverse(w))
+    w.trailing_ones() as usize
 }

@@ -12,10 +12,7 @@ use Rattle.bits.proofs.reserved.Goals as goal
 
 pub loop-i-init : goal.loop-i-init
 unfolding sum
-loop-i-init c = (omega arith, refl)
-
-pub word_from-requires : goal.word_from-requires
-word_from-requires c = omega (arith, c.requires.0, c.requires.1.fits)
+loop-i-init c = refl
 
 pub overflow_add-n : goal.overflow_add-n
 overflow_add-n c = omega (arith, sum-bits-le c.args.pages (vol c.args.img.now) (c.loop-i.i * 16))
@@ -24,16 +21,13 @@ pub loop-i-preserved : goal.loop-i-preserved
 loop-i-preserved c =
     let v = vol c.args.img.now in
     let lt : word_from v c.args.b c.loop-i.i < 65536 = omega (arith, c.word_from.ensures) in
-    (omega arith, omega (arith, sum-full c.args.pages v c.args.b c.requires.1 c.loop-i.i lt (omega arith), ap ones c.word_from.ensures))
+    omega (arith, sum-full c.args.pages v c.args.b c.requires.1 c.loop-i.i lt (omega arith), ap ones c.word_from.ensures)
 
 pub returns-then-rest-eq0 : goal.returns-then-rest-eq0
 unfolding reserved
 returns-then-rest-eq0 c =
     let e : c.loop-i.i * 16 ≡ c.args.pages = omega arith in
-    c.loop-i.invariant.1 ∙ ap (λ (k : ℕ). sum k (bit c.args.pages (vol c.args.img.now))) e
-
-pub word_from-requires-2 : goal.word_from-requires-2
-word_from-requires-2 c = omega (arith, c.requires.0, c.requires.1.fits)
+    c.loop-i.invariant ∙ ap (λ (k : ℕ). sum k (bit c.args.pages (vol c.args.img.now))) e
 
 pub overflow_add-result : goal.overflow_add-result
 overflow_add-result c = omega (arith, sum-bits-le c.args.pages (vol c.args.img.now) (c.loop-i.i * 16))

@@ -1,6 +1,6 @@
 -- `bits::reserved` meets its contract. Assumes nothing.
 use mathlib.Core.Path.{◌≡◌}
-use Prim.Native.Nat.{◌-◌, ◌*◌, ◌≤◌}
+use Prim.Native.Nat.{◌*◌}
 use Rattle.sums.specs.Sum.{sum}
 use Rattle.book.specs.Words.{vol}
 use Rattle.book.specs.Bits.{bit}
@@ -8,7 +8,4 @@ use Rattle.bits.proofs.reserved.Given as goal
 
 -- n counts the bits of the words passed
 abbrev pub invariant-loop-i : goal.invariant-loop-i
-invariant-loop-i l = (l.i ≤ l.full) × (l.n ≡ sum (l.i * 16) (bit l.pages (vol l.img)))
-
-abbrev pub decreases-loop-i : goal.decreases-loop-i
-decreases-loop-i l = l.full - l.i
+invariant-loop-i l = l.n ≡ sum (l.i * 16) (bit l.pages (vol l.img))

@@ -1,11 +1,7 @@
 -- `bits::pair::start_in` meets its contract. Assumes nothing.
-use Prim.Native.Nat.{◌-◌, ◌≤◌, ◌<◌}
 use Rattle.bits.specs.Run.{Starts}
 use Rattle.bits.proofs.pair.start_in.Given as goal
 
--- g has the starts of k places
-abbrev pub invariant-loop-k : goal.invariant-loop-k
-invariant-loop-k l = (0 < l.k) × (l.k ≤ l.n) × Starts l.x l.k l.g
-
-abbrev pub decreases-loop-k : goal.decreases-loop-k
-decreases-loop-k l = l.n - l.k
+-- g has the starts of as many places as the counter says
+abbrev pub invariant-loop : goal.invariant-loop
+invariant-loop l = Starts l.x l.counter l.g

@@ -10,9 +10,6 @@ use Rattle.bits.proofs.search.last_word.Goals as goal
 pub returns-then-rest-eq0 : goal.returns-then-rest-eq0
 returns-then-rest-eq0 c = word_none c.args.pages (vol c.args.img.now) 65535 (omega arith) refl
 
-pub word_from-requires : goal.word_from-requires
-word_from-requires c = omega (arith, c.requires.0, c.requires.1.fits)
-
 pub returns : goal.returns
 returns c =
     word-last c.args.pages (vol c.args.img.now) c.args.b c.requires.1 c.ones_from.result

@@ -4,8 +4,5 @@ use Rattle.book.specs.Words.{vol}
 use Rattle.bits.proofs.Upwards.{from_zero}
 use Rattle.bits.proofs.search.lowest_free.Goals as goal
 
-pub free_from-requires : goal.free_from-requires
-free_from-requires c = c.requires
-
 pub returns : goal.returns
 returns c = c.free_from.ensures ∙ from_zero c.args.pages (vol c.args.img.now)

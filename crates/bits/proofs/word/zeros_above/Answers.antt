@@ -4,8 +4,5 @@ use lib.Count.{leading_le}
 use Rattle.bits.proofs.Digits.{leading-above, leading_at}
 use Rattle.bits.proofs.word.zeros_above.Goals as goal
 
-pub overflow_cast-result : goal.overflow_cast-result
-overflow_cast-result c = omega (arith, leading_le 16 c.args.w)
-
 pub returns : goal.returns
 returns c = record { most = leading_le 16 c.args.w; zeros = λ j h. leading-above 16 c.args.w j (omega arith) h; there = λ j e. leading_at 16 c.args.w j (omega arith) e }

@@ -1,7 +1,0 @@
--- `bits::word::inverse` meets its contract. Assumes nothing.
-use native.Mathlib.Omega.{arith}
-use Rattle.bits.proofs.Digits.{digit_not}
-use Rattle.bits.proofs.word.inverse.Goals as goal
-
-pub returns : goal.returns
-returns c = λ j h. digit_not j 16 c.args.w h (omega arith)
