@@ -2,6 +2,7 @@
 use mathlib.Core.Path.{◌≡◌, refl, sym, ap₂, subst}
 use Prim.Native.Nat.{ℕ, zero, suc, ◌+◌, ◌-◌, ◌*◌, ◌/◌, ◌%◌, ◌≤◌, ◌<◌}
 use native.Mathlib.Omega.{arith}
+use Rattle.std.proofs.Common.{Option}
 use Rattle.book.specs.Words.{Vol}
 use Rattle.book.specs.Trees.{root_at, page_at, index_at, upto}
 use Rattle.book.specs.Bits.{bit_file}
@@ -14,7 +15,7 @@ use Rattle.who.specs.Least.{Least}
 use Rattle.who.specs.Turns.{positions, turns, class_page, file_page, kind_page, turn_page}
 use Rattle.who.proofs.Classes.{class-below}
 
-module _ (P : ℕ) (v : Vol) (p n z r : ℕ) where
+module _ (P : ℕ) (v : Vol) (p n z : ℕ) (r : Option ℕ) where
   -- the same kind
   kind_at : (c d : ℕ) → c ≡ d → Least (λ (k : ℕ). kind_page P v c k ≡ p) n z r → Least (λ (k : ℕ). kind_page P v d k ≡ p) n z r
   kind_at c d e = subst (λ (b : ℕ). Least (λ (k : ℕ). kind_page P v b k ≡ p) n z r) e

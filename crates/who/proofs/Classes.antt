@@ -4,6 +4,7 @@ use mathlib.Core.List.{List}
 use Prim.Native.Nat.{ℕ, zero, suc, ◌+◌, ◌/◌, ◌%◌, ◌≤◌, ◌<◌}
 use native.Mathlib.Nat.{mul-zero}
 use native.Mathlib.Omega.{arith}
+use Rattle.std.proofs.Common.{Option}
 use Rattle.book.specs.Words.{Vol, vol}
 use Rattle.book.specs.Pointers.{slot}
 use Rattle.book.specs.Trees.{Root, tree, run, root_by, leaf, upto, page_at, index_at, subindex_of}
@@ -127,5 +128,5 @@ module _ (v : Vol) (P p : ℕ) (few : P ≤ positions) (pos : 0 < p) where
 
 -- ---- a class by its number
 
-pub class-at : (v : Vol) (x t m p n r c d : ℕ) → c ≡ d → Least (λ (k : ℕ). class_page v (root_by x t m) c k ≡ p) n positions r → Least (λ (k : ℕ). class_page v (root_by x t m) d k ≡ p) n positions r
+pub class-at : (v : Vol) (x t m p n : ℕ) (r : Option ℕ) (c d : ℕ) → c ≡ d → Least (λ (k : ℕ). class_page v (root_by x t m) c k ≡ p) n positions r → Least (λ (k : ℕ). class_page v (root_by x t m) d k ≡ p) n positions r
 class-at v x t m p n r c d e = subst (λ (b : ℕ). Least (λ (k : ℕ). class_page v (root_by x t m) b k ≡ p) n positions r) e

@@ -6,6 +6,7 @@ use Prim.Native.Nat.{ℕ, zero, suc, ◌+◌, ◌*◌, ◌/◌, ◌%◌, ◌≤�
 use native.Mathlib.Nat.{eq-zero-or-pos}
 use native.Mathlib.Decide.{dec_lt}
 use native.Mathlib.Omega.{arith}
+use Rattle.std.proofs.Common.{Option}
 use Rattle.book.specs.Words.{Vol, vol, two}
 use Rattle.book.specs.Trees.{Root, root_at, root_by, page_at, upto}
 use Rattle.book.specs.Entries.{user_file, object_file, object_page, object_pages, used}
@@ -19,9 +20,9 @@ use Rattle.tree.specs.Ends.{Ends}
 use Rattle.tree.proofs.Entries.{file-in, file-in-none}
 use Rattle.walk.specs.Held.{Volume}
 use Rattle.walk.specs.Short.{ShortR}
-use Rattle.who.specs.Least.{None, Least}
+use Rattle.who.specs.Least.{Never, Least}
 use Rattle.who.specs.Turns.{positions, turns, class_page, file_page}
-use Rattle.who.proofs.Leasts.{least-end, least_by}
+use Rattle.who.proofs.Leasts.{least_by}
 use Rattle.who.proofs.Classes.{data-run, sub-other, index-other, class-none}
 
 -- ---- all trees are in the image
@@ -84,12 +85,12 @@ two-class : (c x : ℕ) → c < 3 → x ≡ 0 → (1 < c) ⊎ (0 < x) → 2 ≡ 
 two-class c x h e (inl a) = omega arith
 two-class c x h e (inr a) = absurd (let o : ⊥ = omega (arith, e, a) in o)
 
-pub run-file : (v : Vol) (n x t m c : ℕ) → file_at v n ≡ root_by x t m → x ≡ 0 → c < 3 → (1 < c) ⊎ (0 < x) → (p k r : ℕ)
+pub run-file : (v : Vol) (n x t m c : ℕ) → file_at v n ≡ root_by x t m → x ≡ 0 → c < 3 → (1 < c) ⊎ (0 < x) → (p k : ℕ) (r : Option ℕ)
     → Least (λ (i : ℕ). upto i m (t + i) ≡ p) k positions r → Least (λ (i : ℕ). class_page v (file_at v n) c i ≡ p) k positions r
 run-file v n x t m c same e h o p k r =
     let q : 2 ≡ c = two-class c x h e o in
-    least_by (λ (i : ℕ). upto i m (t + i)) (λ (i : ℕ). class_page v (file_at v n) c i) p k positions r
-    (λ i l. sym (data-run v x t m i e) ∙ ap (λ (b : ℕ). class_page v (root_by x t m) b i) q ∙ ap (λ (s : Root). class_page v s c i) (sym same))
+    least_by (λ (i : ℕ). upto i m (t + i)) (λ (i : ℕ). class_page v (file_at v n) c i) p k positions
+    (λ i l. sym (data-run v x t m i e) ∙ ap (λ (b : ℕ). class_page v (root_by x t m) b i) q ∙ ap (λ (s : Root). class_page v s c i) (sym same)) r
 
 pub plain-file : (v : Vol) (n q : ℕ) → q ≡ object_page v n → (x : ℕ) → x ≡ flags (entry_in v q n) 30 → (c k : ℕ) → ((1 < c) ⊎ (0 < x) → ⊥) → class_page v (file_at v n) c k ≡ 0
 plain-file v n q at x a c k h = elim (eq-zero-or-pos (used (entry_in v q n))) [
@@ -100,20 +101,16 @@ plain-file v n q at x a c k h = elim (eq-zero-or-pos (used (entry_in v q n))) [
       ap (λ (r : Root). class_page v r c k) (file-in v n q at u x t m a refl refl) ∙ blockless v x t m c k h
 ]
 
-module _ (v : Vol) (p c x i : ℕ) (pos : 0 < p) where
-  pub page-absent : (q : ℕ) → q ≡ page_at v (object_file v) i → q ≡ 0 → 8388608 * i ≤ x → x ≤ 8388608 * i + 8388608
-      → Least (λ (y : ℕ). file_page v c y ≡ p) x (8388608 * i + 8388608) (8388608 * i + 8388608)
-  page-absent q at z h l = least-end (λ (y : ℕ). file_page v c y ≡ p) x (8388608 * i + 8388608) (8388608 * i + 8388608) l (omega arith)
-      (λ y s t e. let d : y / 8388608 ≡ i = omega arith in omega (arith, e, absent-file v q i c y at z d))
+pub page-absent : (v : Vol) (p c x i : ℕ) → 0 < p → (q : ℕ) → q ≡ page_at v (object_file v) i → q ≡ 0 → 8388608 * i ≤ x → Never (λ (y : ℕ). file_page v c y ≡ p) x (8388608 * i + 8388608)
+page-absent v p c x i pos q at z h y s t e = let d : y / 8388608 ≡ i = omega arith in omega (arith, e, absent-file v q i c y at z d)
 
 -- the object file ends at n
-pub files-end : (img : List ℕ) (n p c x y : ℕ) → 0 < p → Ends img n → x ≤ turns → 8388608 * n ≤ y → None (λ (k : ℕ). file_page (vol img) c k ≡ p) x y
-    → Least (λ (k : ℕ). file_page (vol img) c k ≡ p) x turns turns
-files-end img n p c x y pos d h l none = least-end (λ (k : ℕ). file_page (vol img) c k ≡ p) x turns turns h (omega arith)
-    (λ k s t e. elim (dec_lt k y) [
-      | yes m ↦ none k s m e
-      | no m ↦
-          let g : page_at (vol img) (object_file (vol img)) (k / 8388608) ≡ 0 = d.none (k / 8388608) (omega arith) (omega arith) in
-          let z : file_page (vol img) c k ≡ 0 = absent-file (vol img) 0 (k / 8388608) c k (sym g) refl refl in
-          omega (arith, e, z)
-    ])
+pub files-end : (img : List ℕ) (n p c x y : ℕ) → 0 < p → Ends img n → 8388608 * n ≤ y → Never (λ (k : ℕ). file_page (vol img) c k ≡ p) x y
+    → Never (λ (k : ℕ). file_page (vol img) c k ≡ p) x turns
+files-end img n p c x y pos d l none k s t e = elim (dec_lt k y) [
+  | yes m ↦ none k s m e
+  | no m ↦
+      let g : page_at (vol img) (object_file (vol img)) (k / 8388608) ≡ 0 = d.none (k / 8388608) (omega arith) (omega arith) in
+      let z : file_page (vol img) c k ≡ 0 = absent-file (vol img) 0 (k / 8388608) c k (sym g) refl refl in
+      omega (arith, e, z)
+]

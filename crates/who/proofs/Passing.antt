@@ -2,9 +2,11 @@
 use mathlib.Core.Path.{◌≡◌, refl, sym, ap, ap₂, ◌∙◌, subst}
 use mathlib.Core.List.{List}
 use mathlib.Core.Bool.{Bool, true, false}
-use Prim.Native.Nat.{ℕ, ◌+◌, ◌*◌, ◌/◌, ◌%◌, ◌≤◌, ◌<◌}
+use Prim.Native.Nat.{ℕ, min, ◌+◌, ◌*◌, ◌/◌, ◌%◌, ◌≤◌, ◌<◌}
 use native.Mathlib.Decide.{dec_lt, ℕ_discrete}
 use native.Mathlib.Omega.{arith}
+use Rattle.std.specs.Option.{is_some}
+use Rattle.std.proofs.Common.{Option, None, Some}
 use Rattle.sums.specs.Sum.{is-other}
 use Rattle.book.specs.Words.{Vol, vol}
 use Rattle.book.specs.Pointers.{slot}
@@ -15,9 +17,8 @@ use Rattle.walk.specs.Short.{Short, ShortR}
 use Rattle.walk.proofs.Short.{root-short}
 use Rattle.book.specs.Image.{pages, most_pages}
 use Rattle.bits.specs.Marks.{Unmarked, Marking}
-use Rattle.who.specs.Least.{None, Least}
+use Rattle.who.specs.Least.{Never, Least}
 use Rattle.who.specs.Search.{Vain, VainUnder, Passed, Search}
-use Rattle.who.proofs.Leasts.{least-end}
 
 passed_none : (P N : ℕ) → P ≤ N → (A : ℕ → Type 0) (m : List ℕ) → Unmarked N m → Passed P A m
 passed_none P N h A m d = record { room = omega (arith, h, d.room); all = λ b e. absurd (let z : ⊥ = omega (arith, e, d.none b) in z) }
@@ -46,11 +47,9 @@ module _ (img : List ℕ) (p : ℕ) (seen tops : List ℕ) (d : Search img p see
 
 -- ---- in vain is nowhere
 
-pub vain-least : (v : Vol) (p b n : ℕ) → n ≤ 512 → Vain v p b → Least (λ (k : ℕ). slot v b k ≡ p) n 512 512
-vain-least v p b n h a = least-end (λ (k : ℕ). slot v b k ≡ p) n 512 512 h (omega arith) (λ i s t e. a i t e)
-
-pub least-vain : (v : Vol) (p b n r : ℕ) → n ≡ 0 → 512 ≤ r → Least (λ (k : ℕ). slot v b k ≡ p) n 512 r → Vain v p b
-least-vain v p b n r z o d k h e = d.none k (omega arith) (omega (arith, d.to)) e
+pub least-vain : (v : Vol) (p b n : ℕ) (r : Option ℕ) → n ≡ 0 → is_some r ≡ false → Least (λ (k : ℕ). slot v b k ≡ p) n 512 r → Vain v p b
+least-vain v p b n None z s d = λ k h e. d k (omega arith) h e
+least-vain v p b n (Some r) z s d = let t : true ≡ false = s in let o : ◌≡◌ {A = ℕ} 0 1 = cc in absurd (let q : ⊥ = omega arith in q)
 
 -- ---- slots that are not filled
 
@@ -62,15 +61,19 @@ pub end-one : (v : Vol) (x t m n z : ℕ) → x ≡ 1 → ShortR v (root_by x t 
 unfolding Short
 end-one v x t m n z e s h f = record { most = h; none = λ k l i. (root-short v x t m n s 0 e (omega arith) k i).0 (omega (arith, f k l i)) }
 
+-- z slots of a subindex block, 512 at most, hold n positions
+pub slots-hold : (n d z k : ℕ) → d ≡ n / 512 + min 1 (n % 512) → z ≡ min d 512 → z ≤ k → k < 512 → n ≤ k * 512
+slots-hold n d z k e f h l = omega arith
+
 pub end-two : (v : Vol) (x t m n z : ℕ) → x ≡ 2 → ShortR v (root_by x t m) n → z ≤ 512 → ((k : ℕ) → z ≤ k → k < 512 → n ≤ k * 512) → SlotsEnd v t z
 unfolding Short
 end-two v x t m n z e s h f = record { most = h; none = λ k l i. (root-short v x t m n s 1 e (omega arith) k i).0 (f k l i) }
 
-pub slots-least : (v : Vol) (p b n z k : ℕ) → 0 < p → n ≤ 512 → SlotsEnd v b z → z ≤ k → None (λ (i : ℕ). slot v b i ≡ p) n k → Least (λ (i : ℕ). slot v b i ≡ p) n 512 512
-slots-least v p b n z k pos h d l none = least-end (λ (i : ℕ). slot v b i ≡ p) n 512 512 h (omega arith) (λ i s t e. elim (dec_lt i k) [
+pub slots-none : (v : Vol) (p b n z k : ℕ) → 0 < p → SlotsEnd v b z → z ≤ k → Never (λ (i : ℕ). slot v b i ≡ p) n k → Never (λ (i : ℕ). slot v b i ≡ p) n 512
+slots-none v p b n z k pos d l none i s t e = elim (dec_lt i k) [
   | yes o ↦ none i s o e
   | no o ↦ omega (arith, e, d.none i (omega arith) t)
-])
+]
 
 -- ---- under a subindex block
 
@@ -85,7 +88,7 @@ under-slot v t b k j e h =
     ap₂ (λ (x y : ℕ). slot v (slot v t x) y) q s ∙ ap (λ (x : ℕ). slot v x j) (sym e)
 
 -- under slots that are not filled
-pub under-past : (v : Vol) (p t n z x : ℕ) → 0 < p → SlotsEnd v t z → 512 * z ≤ x → None (λ (k : ℕ). under v t k ≡ p) n x → None (λ (k : ℕ). under v t k ≡ p) n 262144
+pub under-past : (v : Vol) (p t n z x : ℕ) → 0 < p → SlotsEnd v t z → 512 * z ≤ x → Never (λ (k : ℕ). under v t k ≡ p) n x → Never (λ (k : ℕ). under v t k ≡ p) n 262144
 under-past v p t n z x pos d l none i s h e = elim (dec_lt i x) [
   | yes o ↦ none i s o e
   | no o ↦
@@ -93,8 +96,8 @@ under-past v p t n z x pos d l none i s h e = elim (dec_lt i x) [
       omega (arith, e, g)
 ]
 
-pub under-least : (v : Vol) (p t n : ℕ) → n ≤ 262144 → VainUnder v p t → Least (λ (k : ℕ). under v t k ≡ p) n 262144 262144
-under-least v p t n h a = least-end (λ (k : ℕ). under v t k ≡ p) n 262144 262144 h (omega arith) (λ i s t e. a (i / 512) (omega arith) (i % 512) (omega arith) e)
+pub vain-under : (v : Vol) (p t n : ℕ) → VainUnder v p t → Never (λ (k : ℕ). under v t k ≡ p) n 262144
+vain-under v p t n a i s h e = a (i / 512) (omega arith) (i % 512) (omega arith) e
 
-pub under-vain : (v : Vol) (p t n y : ℕ) → n ≡ 0 → 262144 ≤ y → None (λ (k : ℕ). under v t k ≡ p) n y → VainUnder v p t
-under-vain v p t n y z o d k h j l e = d (512 * k + j) (omega arith) (omega arith) (under-slot v t (slot v t k) k j refl l ∙ e)
+pub under-vain : (v : Vol) (p t n : ℕ) → n ≡ 0 → Never (λ (k : ℕ). under v t k ≡ p) n 262144 → VainUnder v p t
+under-vain v p t n z d k h j l e = d (512 * k + j) (omega arith) (omega arith) (under-slot v t (slot v t k) k j refl l ∙ e)

@@ -19,9 +19,9 @@ use Rattle.laws.specs.Count.Reach.{Within, below-bits, below-users, below-object
 use Rattle.laws.specs.Count.Who.{holds-held}
 use Rattle.walk.specs.Held.{Volume}
 use Rattle.walk.proofs.Short.{rules-short}
-use Rattle.who.specs.Least.{None, Least}
+use Rattle.who.specs.Least.{Never, Here}
 use Rattle.who.specs.Turns.{positions, all_turns, turn_of, turn_page, holder_at}
-use Rattle.who.proofs.Leasts.{none_yet, none-on}
+use Rattle.who.proofs.Leasts.{none-on}
 use Rattle.who.proofs.Turning.{Turn, Has, turn-ahead, holder-turn, turn-has}
 
 -- ---- what the search asks for
@@ -73,7 +73,7 @@ module _ (P : ℕ) (v : Vol) (w : Within P v) (few : P ≤ positions) (p : ℕ) 
   at-holds y h e = let d = has y h e in holds-held P v p (holder_at y) pos d.exists d.page
 
   -- no holder comes before the first from x on
-  later : (x r : ℕ) → Least A x all_turns r → (h : Holder) → Turn P v p h → x ≤ turn_of h → r ≤ turn_of h
+  later : (x r : ℕ) → Here A x all_turns r → (h : Holder) → Turn P v p h → x ≤ turn_of h → r ≤ turn_of h
   later x r d h t l = elim (dec_lt (turn_of h) r) [
     | yes o ↦ absurd (d.none (turn_of h) l o t.page)
     | no o ↦ omega arith
@@ -85,7 +85,7 @@ module _ (P : ℕ) (v : Vol) (w : Within P v) (few : P ≤ positions) (p : ℕ) 
 
   -- ---- one holder
 
-  pub told_none : Rule2 P v → None A 0 all_turns → Told P v p Free
+  pub told_none : Rule2 P v → Never A 0 all_turns → Told P v p Free
   unfolding Told
   told_none two none = inl (
     elim (eq-zero-or-pos (holders P v p)) [
@@ -101,39 +101,35 @@ module _ (P : ℕ) (v : Vol) (w : Within P v) (few : P ≤ positions) (p : ℕ) 
   told_at r e h = inr (at-holds r h e)
 
   -- searched in three parts: from 0 to b, from b to c, from there on
-  pub none-three : (b c r s t : ℕ) → Least A 0 b r → b ≤ r → Least A b c s → c ≤ s → Least A c all_turns t → all_turns ≤ t → None A 0 all_turns
-  none-three b c r s t d h e i f j = none-on A 0 c all_turns t (none-on A 0 b c s (none-on A 0 0 b r (none_yet A 0 0 refl) d h) e i) f j
+  pub none-three : (b c : ℕ) → Never A 0 b → Never A b c → Never A c all_turns → Never A 0 all_turns
+  none-three b c d e f = none-on A 0 c all_turns (none-on A 0 b c d e) f
 
   -- ---- two holders
 
-  module _ (two : Rule2 P v) (many : 2 ≤ holders P v p) (r : ℕ) (d : Least A 0 all_turns r) where
-    pub first-turn : r < all_turns
-    first-turn =
-        let q = holder-two P v two p many in let t = turned q.0 q.3 in
-        omega (arith, later 0 r d q.0 t (omega arith), turn_low q.0 t)
+  module _ (two : Rule2 P v) (many : 2 ≤ holders P v p) where
+    pub some-turn : Never A 0 all_turns → ⊥
+    some-turn none = let q = holder-two P v two p many in let t = turned q.0 q.3 in none (turn_of q.0) (omega arith) (turn_low q.0 t) t.page
 
-    pub second-turn : (s : ℕ) → Least A (r + 1) all_turns s → s < all_turns
-    second-turn s e =
+    pub second-turn : (r : ℕ) → Here A 0 all_turns r → Never A (r + 1) all_turns → ⊥
+    second-turn r d none =
         let q = holder-two P v two p many in let h = q.0 in let k = q.1 in
         let t = turned h q.3 in let u = turned k q.4 in
         elim (dec_lt r (turn_of h)) [
-          | yes l ↦ omega (arith, later (r + 1) s e h t (omega arith), turn_low h t)
+          | yes l ↦ none (turn_of h) (omega arith) (turn_low h t) t.page
           | no l ↦ elim (dec_lt r (turn_of k)) [
-            | yes m ↦ omega (arith, later (r + 1) s e k u (omega arith), turn_low k u)
+            | yes m ↦ none (turn_of k) (omega arith) (turn_low k u) u.page
             | no m ↦
                 let x : turn_of h ≡ r = omega (arith, later 0 r d h t (omega arith)) in
                 let y : turn_of k ≡ r = omega (arith, later 0 r d k u (omega arith)) in
-                absurd (q.2 (same_turn h k t u (x ∙ sym y)))
+                q.2 (same_turn h k t u (x ∙ sym y))
           ]
         ]
 
-    pub first_two : (s : ℕ) → Least A (r + 1) all_turns s → FirstTwo P v p (holder_at r) (holder_at s)
-    first_two s e =
-        let hr : r < all_turns = first-turn in
-        let hs : s < all_turns = second-turn s e in
-        let a = has r hr (d.here hr) in let b = has s hs (e.here hs) in
-        let g : Holds P v p (holder_at r) = at-holds r hr (d.here hr) in
-        let h : Holds P v p (holder_at s) = at-holds s hs (e.here hs) in
+    pub first_two : (r s : ℕ) → Here A 0 all_turns r → Here A (r + 1) all_turns s → FirstTwo P v p (holder_at r) (holder_at s)
+    first_two r s d e =
+        let a = has r d.to d.here in let b = has s e.to e.here in
+        let g : Holds P v p (holder_at r) = at-holds r d.to d.here in
+        let h : Holds P v p (holder_at s) = at-holds s e.to e.here in
         let t = turned (holder_at r) g in let u = turned (holder_at s) h in
         record {
           first = g;

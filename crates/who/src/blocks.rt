@@ -10,23 +10,20 @@ ghost use Rattle.who.specs.Least.{Least};
 ghost use Rattle.who.specs.Turns.{positions};
 ghost use Rattle.who.specs.Search.{Search};
 
-use crate::POSITIONS;
 use bits::marks::{mark, mark_of};
 use page::read::slot_at;
 
-// The first slot from n on of the block in page b that has page p, 512 where none has. Slots from z on are not filled.
-fn slots_from(img: &[u16], b: usize, n: usize, z: usize, p: usize) -> usize
+// The first slot from n on of the block in page b that has page p. Slots from z on are not filled.
+fn slots_from(img: &[u16], b: usize, n: usize, z: usize, p: usize) -> Option<usize>
     requires { (b < pages img.now) × SlotsEnd (vol img.now) b z × (n ≤ 512) × (0 < p) }
     ensures { Least (λ (k : ℕ). slot (vol img.now) b k ≡ p) n 512 result }
 {
-    let mut k: usize = n;
-    while k < z {
+    for k in n..z {
         if slot_at(img, b, k) == p {
-            return k;
+            return Some(k);
         }
-        k += 1;
     }
-    512
+    None
 }
 
 // The same, of a block that may be marked.
@@ -38,22 +35,18 @@ fn block_from(
     n: usize,
     z: usize,
     p: usize,
-) -> usize
+) -> Option<usize>
     requires { Search img.now p seen.old tops.now × (b < pages img.now) × SlotsEnd (vol img.now) b z × (n ≤ 512) }
     ensures { Least (λ (k : ℕ). slot (vol img.now) b k ≡ p) n 512 result × Search img.now p seen.new tops.now }
 {
     if mark_of(seen, b) != 0 {
-        return 512;
+        return None;
     }
-    let k = slots_from(img, b, n, z, p);
-    if k < 512 {
-        return k;
-    }
-    if n == 0 {
+    let found = slots_from(img, b, n, z, p);
+    if n == 0 && found.is_none() {
         mark(seen, b);
-        return 512;
     }
-    512
+    found
 }
 
 // The first position from n on of the block in page b, a file of one level or the index blocks of one of two.
@@ -65,18 +58,14 @@ pub fn level_from(
     n: usize,
     z: usize,
     p: usize,
-) -> usize
+) -> Option<usize>
     requires { Search img.now p seen.old tops.now × (b < pages img.now) × SlotsEnd (vol img.now) b z × (n ≤ positions) }
     ensures { Least (λ (k : ℕ). upto k 512 (slot (vol img.now) b k) ≡ p) n positions result × Search img.now p seen.new tops.now }
 {
     if 512 < n {
-        return POSITIONS;
+        return None;
     }
-    let k = block_from(img, seen, tops, b, n, z, p);
-    if k < 512 {
-        return k;
-    }
-    POSITIONS
+    block_from(img, seen, tops, b, n, z, p)
 }
 
 // The first position from n on under the subindex block in page t, of which slots from z on are not filled.
@@ -88,27 +77,23 @@ pub fn tree_from(
     n: usize,
     z: usize,
     p: usize,
-) -> usize
+) -> Option<usize>
     requires { Search img.now p seen.old tops.old × Reach img.now (tree 2 t) × SlotsEnd (vol img.now) t z × (n ≤ positions) }
     ensures { Least (λ (k : ℕ). slot (vol img.now) (slot (vol img.now) t (k / 512)) (k % 512) ≡ p) n positions result × Search img.now p seen.new tops.new }
 {
     if mark_of(tops, t) != 0 {
-        return POSITIONS;
+        return None;
     }
-    let end = 512 * z;
-    let mut x: usize = n;
-    while x < end {
-        let k = x / 512;
+    let mut from = n % 512;
+    for k in n / 512..z {
         let b = slot_at(img, t, k);
-        let j = block_from(img, seen, tops, b, x % 512, 512, p);
-        if j < 512 {
-            return 512 * k + j;
+        if let Some(j) = block_from(img, seen, tops, b, from, 512, p) {
+            return Some(512 * k + j);
         }
-        x = 512 * k + 512;
+        from = 0;
     }
     if n == 0 {
         mark(tops, t);
-        return POSITIONS;
     }
-    POSITIONS
+    None
 }

@@ -12,8 +12,8 @@ ghost use Rattle.who.specs.Least.{Least};
 ghost use Rattle.who.specs.Turns.{positions, turns, class_page, file_page};
 ghost use Rattle.who.specs.Search.{Search};
 
+use crate::POSITIONS;
 use crate::roots::{class_from, run_from};
-use crate::{POSITIONS, TURNS};
 use page::OBJECTS;
 use page::entry::{PAGES, POINTER};
 use page::read::{flags_at, page_at};
@@ -24,13 +24,7 @@ use tree::root::root_page;
 fn may_have(class: usize, flags: u16) -> bool
     ensures { Decides result ((1 < class) ⊎ (0 < flags)) }
 {
-    if 1 < class {
-        return true;
-    }
-    if 0 < flags {
-        return true;
-    }
-    false
+    1 < class || 0 < flags
 }
 
 // The first position from n on in the file of object entry e, which is on page q.
@@ -43,16 +37,16 @@ fn entry_from(
     e: usize,
     n: usize,
     p: usize,
-) -> usize
+) -> Option<usize>
     requires { Search img.now p seen.old tops.old × Volume img.now × (class < 3) × (e < 65536) × (q ≡ object_page (vol img.now) e) × (q < pages img.now) × (n ≤ positions) }
     ensures { Least (λ (k : ℕ). class_page (vol img.now) (file_at (vol img.now) e) class k ≡ p) n positions result × Search img.now p seen.new tops.new }
 {
     let flags = entry_flags(img, q, e, POINTER);
     if !may_have(class, flags) {
-        return POSITIONS;
+        return None;
     }
     if !entry_used(img, q, e) {
-        return POSITIONS;
+        return None;
     }
     let top = entry_page(img, q, e, POINTER);
     let count = entry_two(img, q, e, PAGES) as usize;
@@ -65,7 +59,7 @@ fn entry_from(
 // The turns of the 32 files on a page of the object file.
 const PAGE_TURNS: usize = 8388608;
 
-// From turn x on, in the files whose entries are on page q, which is page i of the object file; the next page's first turn where there is none.
+// From turn x on, in the files whose entries are on page q, which is page i of the object file.
 fn page_from(
     img: &[u16],
     seen: &mut [u16],
@@ -75,24 +69,21 @@ fn page_from(
     i: usize,
     x: usize,
     p: usize,
-) -> usize
+) -> Option<usize>
     requires { Search img.now p seen.old tops.old × Volume img.now × (class < 3) × (i < object_pages) × (q ≡ page_at (vol img.now) (object_file (vol img.now)) i) × (q < pages img.now) × (8388608 * i ≤ x) × (x ≤ 8388608 * i + 8388608) }
     ensures { Least (λ (y : ℕ). file_page (vol img.now) class y ≡ p) x (8388608 * i + 8388608) result × Search img.now p seen.new tops.new }
 {
-    let z = PAGE_TURNS * i + PAGE_TURNS;
     if q == 0 {
-        return z;
+        return None;
     }
-    let mut y: usize = x;
-    while y < z {
-        let e = y / POSITIONS;
-        let k = entry_from(img, seen, tops, class, q, e, y % POSITIONS, p);
-        if k < POSITIONS {
-            return POSITIONS * e + k;
+    let mut from = x % POSITIONS;
+    for e in x / POSITIONS..32 * i + 32 {
+        if let Some(k) = entry_from(img, seen, tops, class, q, e, from, p) {
+            return Some(POSITIONS * e + k);
         }
-        y = POSITIONS * e + POSITIONS;
+        from = 0;
     }
-    z
+    None
 }
 
 // From turn x on, in all files. The object file ends at position `ends`.
@@ -104,23 +95,19 @@ pub fn files_from(
     class: usize,
     x: usize,
     p: usize,
-) -> usize
+) -> Option<usize>
     requires { Search img.now p seen.old tops.old × Volume img.now × Ends img.now ends × (class < 3) × (x ≤ turns) }
     ensures { Least (λ (y : ℕ). file_page (vol img.now) class y ≡ p) x turns result × Search img.now p seen.new tops.new }
 {
     let flags = flags_at(img, 0, OBJECTS);
     let top = page_at(img, 0, OBJECTS) as usize;
-    let z = PAGE_TURNS * ends;
-    let mut y: usize = x;
-    while y < z {
-        let i = y / PAGE_TURNS;
-        let next = PAGE_TURNS * i + PAGE_TURNS;
+    let mut from = x;
+    for i in x / PAGE_TURNS..ends {
         let q = root_page(img, flags, top, 0, i);
-        let k = page_from(img, seen, tops, class, q, i, y, p);
-        if k < next {
-            return k;
+        if let Some(y) = page_from(img, seen, tops, class, q, i, from, p) {
+            return Some(y);
         }
-        y = next;
+        from = PAGE_TURNS * i + PAGE_TURNS;
     }
-    TURNS
+    None
 }

@@ -22,7 +22,7 @@ use page::read::{flags_at, page_at};
 use page::{BITS, OBJECT_PAGES, OBJECTS, USERS, WORDS};
 
 // From position n on in the bit file.
-fn bits_from(img: &[u16], n: usize, p: usize) -> usize
+fn bits_from(img: &[u16], n: usize, p: usize) -> Option<usize>
     requires { Volume img.now × (0 < p) × (n ≤ positions) }
     ensures { Least (λ (k : ℕ). page_at (vol img.now) (bit_file (pages img.now) (vol img.now)) k ≡ p) n positions result }
 {
@@ -41,31 +41,37 @@ fn master_from(
     class: usize,
     n: usize,
     p: usize,
-) -> usize
+) -> Option<usize>
     requires { Search img.now p seen.old tops.old × (class < 3) × (k < 1023) × Reach img.now (root_at (vol img.now 0) k 0) × ShortR (vol img.now) (root_at (vol img.now 0) k 0) count × (n ≤ positions) }
     ensures { Least (λ (i : ℕ). class_page (vol img.now) (root_at (vol img.now 0) k 0) class i ≡ p) n positions result × Search img.now p seen.new tops.new }
 {
     let flags = flags_at(img, 0, k);
     if flags == 0 {
-        return POSITIONS;
+        return None;
     }
     let top = page_at(img, 0, k) as usize;
     class_from(img, seen, tops, class, flags, top, count, n, p)
 }
 
 // The user file's index block, which is at position 0.
-fn user_index_from(img: &[u16], seen: &mut [u16], tops: &mut [u16], n: usize, p: usize) -> usize
+fn user_index_from(
+    img: &[u16],
+    seen: &mut [u16],
+    tops: &mut [u16],
+    n: usize,
+    p: usize,
+) -> Option<usize>
     requires { Search img.now p seen.old tops.old × Volume img.now × (n ≤ positions) }
     ensures { Least (λ (i : ℕ). upto i 1 (index_at (vol img.now) (user_file (vol img.now)) 0) ≡ p) n positions result × Search img.now p seen.new tops.new }
 {
     if 0 < n {
-        return POSITIONS;
+        return None;
     }
-    let k = master_from(img, seen, tops, USERS, 8, 1, 0, p);
+    let k = master_from(img, seen, tops, USERS, 8, 1, 0, p)?;
     if k == 0 {
-        return 0;
+        return Some(0);
     }
-    POSITIONS
+    None
 }
 
 // From position n on in one kind of system pages.
@@ -76,12 +82,12 @@ fn system_from(
     kind: usize,
     n: usize,
     p: usize,
-) -> usize
+) -> Option<usize>
     requires { Search img.now p seen.old tops.old × Volume img.now × (kind < 8) × (n ≤ positions) }
     ensures { Least (λ (i : ℕ). kind_page (pages img.now) (vol img.now) kind i ≡ p) n positions result × Search img.now p seen.new tops.new }
 {
     if kind < 2 {
-        return POSITIONS;
+        return None;
     }
     if kind == 2 {
         return bits_from(img, n, p);
@@ -104,7 +110,7 @@ fn kind_from(
     kind: usize,
     x: usize,
     p: usize,
-) -> usize
+) -> Option<usize>
     requires { Search img.now p seen.old tops.old × Volume img.now × Ends img.now ends × (kind < 11) × (x ≤ turns) }
     ensures { Least (λ (y : ℕ). kind_page (pages img.now) (vol img.now) kind y ≡ p) x turns result × Search img.now p seen.new tops.new }
 {
@@ -112,13 +118,9 @@ fn kind_from(
         return files_from(img, seen, tops, ends, kind - 8, x, p);
     }
     if POSITIONS < x {
-        return TURNS;
+        return None;
     }
-    let k = system_from(img, seen, tops, kind, x, p);
-    if k < POSITIONS {
-        return k;
-    }
-    TURNS
+    system_from(img, seen, tops, kind, x, p)
 }
 
 // From turn x on, in kinds below `kinds`, one after the other.
@@ -130,25 +132,22 @@ fn kinds_from(
     x: usize,
     kinds: usize,
     p: usize,
-) -> usize
+) -> Option<usize>
     requires { Search img.now p seen.old tops.old × Volume img.now × Ends img.now ends × (x ≤ turns * kinds) × (kinds ≤ 11) }
     ensures { Least (λ (y : ℕ). turn_page (pages img.now) (vol img.now) y ≡ p) x (turns * kinds) result }
 {
-    let z = TURNS * kinds;
-    let mut y: usize = x;
-    while y < z {
-        let kind = y / TURNS;
-        let k = kind_from(img, seen, tops, ends, kind, y % TURNS, p);
-        if k < TURNS {
-            return TURNS * kind + k;
+    let mut from = x % TURNS;
+    for kind in x / TURNS..kinds {
+        if let Some(y) = kind_from(img, seen, tops, ends, kind, from, p) {
+            return Some(TURNS * kind + y);
         }
-        y = TURNS * kind + TURNS;
+        from = 0;
     }
-    z
+    None
 }
 
 // The same; here the marks are made, as many as the volume asks for.
-pub fn turn_from(img: &[u16], ends: usize, x: usize, kinds: usize, p: usize) -> usize
+pub fn turn_from(img: &[u16], ends: usize, x: usize, kinds: usize, p: usize) -> Option<usize>
     requires { Volume img.now × Ends img.now ends × (0 < p) × (x ≤ turns * kinds) × (kinds ≤ 11) }
     ensures { Least (λ (y : ℕ). turn_page (pages img.now) (vol img.now) y ≡ p) x (turns * kinds) result }
 {

@@ -8,16 +8,8 @@ pub mod kinds;
 pub mod roots;
 pub mod tell;
 
-use book::Holder;
-
-// The first two holders of a page.
-#[derive(Clone, Copy)]
-pub struct TwoHolders {
-    pub first: Holder,
-    pub second: Holder,
-}
-
-// The positions of a root, the turns of a kind, the first turns of the files' blocks and of their data pages, and all turns.
+// A kind and a class stay numbers: they are digits of a turn, and `turn_by`, `kind_page` and `class_page` in specs/ count by them.
+// The positions of a root, the turns of a kind, the first turns of the files' blocks and of their data pages.
 pub const POSITIONS: usize = 262144;
 
 pub const TURNS: usize = 17179869184;
@@ -25,5 +17,3 @@ pub const TURNS: usize = 17179869184;
 pub const BLOCK_TURNS: usize = 137438953472;
 
 pub const DATA_TURNS: usize = 171798691840;
-
-pub const ALL_TURNS: usize = 188978561024;

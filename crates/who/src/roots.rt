@@ -8,73 +8,43 @@ ghost use Rattle.who.specs.Least.{Least};
 ghost use Rattle.who.specs.Turns.{positions, class_page};
 ghost use Rattle.who.specs.Search.{Search};
 
-use crate::POSITIONS;
 use crate::blocks::{level_from, tree_from};
 
 // Where page top alone is, at position 0.
-pub fn top_from(top: usize, n: usize, p: usize) -> usize
+pub fn top_from(top: usize, n: usize, p: usize) -> Option<usize>
     requires { (0 < p) × (n ≤ positions) }
     ensures { Least (λ (k : ℕ). upto k 1 top ≡ p) n positions result }
 {
-    if 0 < n {
-        return POSITIONS;
+    if n == 0 && top == p {
+        return Some(0);
     }
-    if top == p {
-        return 0;
-    }
-    POSITIONS
+    None
 }
 
 // In the run of count pages from page top on.
-pub fn run_from(top: usize, count: usize, n: usize, p: usize) -> usize
+pub fn run_from(top: usize, count: usize, n: usize, p: usize) -> Option<usize>
     requires { (0 < p) × (n ≤ positions) × (count ≤ positions) }
     ensures { Least (λ (k : ℕ). upto k count (top + k) ≡ p) n positions result }
 {
-    if p < top {
-        return POSITIONS;
+    let k = p.checked_sub(top)?;
+    if n <= k && k < count {
+        return Some(k);
     }
-    let k = p - top;
-    if k < n {
-        return POSITIONS;
-    }
-    if k < count {
-        return k;
-    }
-    POSITIONS
+    None
 }
 
 // The subindex block.
-fn subindex_from(flags: u16, top: usize, n: usize, p: usize) -> usize
+fn subindex_from(flags: u16, top: usize, n: usize, p: usize) -> Option<usize>
     requires { (0 < p) × (n ≤ positions) }
     ensures { (v : Vol) (m : ℕ) → Least (λ (k : ℕ). class_page v (root_by flags top m) 0 k ≡ p) n positions result }
 {
     if flags == 2 {
         return top_from(top, n, p);
     }
-    POSITIONS
+    None
 }
 
-// How many slots of an index block so many pages fill, at most.
-fn index_slots(count: usize) -> usize
-    ensures { (result ≤ 512) × ((k : ℕ) → result ≤ k → k < 512 → count ≤ k) }
-{
-    if count < 512 {
-        return count;
-    }
-    512
-}
-
-// How many slots of a subindex block so many pages fill, at most.
-fn subindex_slots(count: usize) -> usize
-    ensures { (result ≤ 512) × ((k : ℕ) → result ≤ k → k < 512 → count ≤ k * 512) }
-{
-    if count < 261633 {
-        return (count + 511) / 512;
-    }
-    512
-}
-
-// The index blocks.
+// The index blocks. So many pages fill no more of a subindex block's 512 slots than z.
 fn index_from(
     img: &[u16],
     seen: &mut [u16],
@@ -84,7 +54,7 @@ fn index_from(
     count: usize,
     n: usize,
     p: usize,
-) -> usize
+) -> Option<usize>
     requires { Search img.now p seen.old tops.now × Reach img.now (root_by flags top count) × ShortR (vol img.now) (root_by flags top count) count × (n ≤ positions) }
     ensures { Least (λ (k : ℕ). class_page (vol img.now) (root_by flags top count) 1 k ≡ p) n positions result × Search img.now p seen.new tops.now }
 {
@@ -92,13 +62,13 @@ fn index_from(
         return top_from(top, n, p);
     }
     if flags == 2 {
-        let z = subindex_slots(count);
+        let z = count.div_ceil(512).min(512);
         return level_from(img, seen, tops, top, n, z, p);
     }
-    POSITIONS
+    None
 }
 
-// The data pages of an indexed file.
+// The data pages of an indexed file. So many fill no more of its block's 512 slots than z.
 fn data_from(
     img: &[u16],
     seen: &mut [u16],
@@ -108,19 +78,19 @@ fn data_from(
     count: usize,
     n: usize,
     p: usize,
-) -> usize
+) -> Option<usize>
     requires { Search img.now p seen.old tops.old × Reach img.now (root_by flags top count) × ShortR (vol img.now) (root_by flags top count) count × (n ≤ positions) × (0 < flags) }
     ensures { Least (λ (k : ℕ). class_page (vol img.now) (root_by flags top count) 2 k ≡ p) n positions result × Search img.now p seen.new tops.new }
 {
     if flags == 1 {
-        let z = index_slots(count);
+        let z = count.min(512);
         return level_from(img, seen, tops, top, n, z, p);
     }
     if flags == 2 {
-        let z = subindex_slots(count);
+        let z = count.div_ceil(512).min(512);
         return tree_from(img, seen, tops, top, n, z, p);
     }
-    POSITIONS
+    None
 }
 
 // The pages of a class of an indexed file.
@@ -134,7 +104,7 @@ pub fn class_from(
     count: usize,
     n: usize,
     p: usize,
-) -> usize
+) -> Option<usize>
     requires { Search img.now p seen.old tops.old × (class < 3) × Reach img.now (root_by flags top count) × ShortR (vol img.now) (root_by flags top count) count × (n ≤ positions) × (0 < flags) }
     ensures { Least (λ (k : ℕ). class_page (vol img.now) (root_by flags top count) class k ≡ p) n positions result × Search img.now p seen.new tops.new }
 {

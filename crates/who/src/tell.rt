@@ -11,7 +11,7 @@ ghost use Rattle.walk.specs.Held.{Volume};
 ghost use Rattle.who.specs.Turns.{all_turns, file_role, holder_by, holder_at};
 
 use crate::kinds::turn_from;
-use crate::{ALL_TURNS, BLOCK_TURNS, DATA_TURNS, POSITIONS, TURNS, TwoHolders};
+use crate::{BLOCK_TURNS, DATA_TURNS, POSITIONS, TURNS};
 use book::{FileHolder, Holder, Role};
 use page::BITS;
 use page::read::page_at;
@@ -22,13 +22,11 @@ fn role(class: usize, position: u32) -> Role
     requires { class < 3 }
     ensures { result ≡ file_role class position }
 {
-    if class == 0 {
-        return Role::Subindex;
+    match class {
+        0 => Role::Subindex,
+        1 => Role::Index { position },
+        _ => Role::Data { position },
     }
-    if class == 1 {
-        return Role::Index { position };
-    }
-    Role::Data { position }
 }
 
 // The page at this position of a kind of system pages.
@@ -36,28 +34,16 @@ fn system_holder(kind: usize, position: u32) -> Holder
     requires { kind < 8 }
     ensures { (e : ℕ) → result ≡ holder_by kind e position }
 {
-    if kind == 0 {
-        return Holder::Free;
+    match kind {
+        0 => Holder::Free,
+        1 => Holder::Master,
+        2 => Holder::BitFile { position },
+        3 => Holder::UserIndex,
+        4 => Holder::UserPage { position },
+        5 => Holder::ObjectSubindex,
+        6 => Holder::ObjectIndex { position },
+        _ => Holder::ObjectPage { position },
     }
-    if kind == 1 {
-        return Holder::Master;
-    }
-    if kind == 2 {
-        return Holder::BitFile { position };
-    }
-    if kind == 3 {
-        return Holder::UserIndex;
-    }
-    if kind == 4 {
-        return Holder::UserPage { position };
-    }
-    if kind == 5 {
-        return Holder::ObjectSubindex;
-    }
-    if kind == 6 {
-        return Holder::ObjectIndex { position };
-    }
-    Holder::ObjectPage { position }
 }
 
 // The page at this position of a class in the file of object entry e.
@@ -101,30 +87,24 @@ pub fn who(img: &[u16], p: usize) -> Holder
         return Holder::Free;
     }
     let ends = object_ends(img);
-    let system = turn_from(img, ends, 0, 8, p);
-    if system < BLOCK_TURNS {
+    if let Some(system) = turn_from(img, ends, 0, 8, p) {
         return holder_at(system);
     }
-    let data = turn_from(img, ends, DATA_TURNS, 11, p);
-    if data < ALL_TURNS {
+    if let Some(data) = turn_from(img, ends, DATA_TURNS, 11, p) {
         return holder_at(data);
     }
-    let block = turn_from(img, ends, BLOCK_TURNS, 10, p);
-    if block < DATA_TURNS {
+    if let Some(block) = turn_from(img, ends, BLOCK_TURNS, 10, p) {
         return holder_at(block);
     }
     Holder::Free
 }
 
 // The first two who hold page p, which is held twice at least. The object file ends at position `ends`.
-pub fn first_two(img: &[u16], ends: usize, p: usize) -> TwoHolders
+pub fn first_two(img: &[u16], ends: usize, p: usize) -> (Holder, Holder)
     requires { Volume img.now × Rule2 (pages img.now) (vol img.now) × Ends img.now ends × (p < pages img.now) × (2 ≤ holders (pages img.now) (vol img.now) p) }
-    ensures { FirstTwo (pages img.now) (vol img.now) p result.first result.second }
+    ensures { FirstTwo (pages img.now) (vol img.now) p result.0 result.1 }
 {
-    let x = turn_from(img, ends, 0, 11, p);
-    let y = turn_from(img, ends, x + 1, 11, p);
-    TwoHolders {
-        first: holder_at(x),
-        second: holder_at(y),
-    }
+    let x = turn_from(img, ends, 0, 11, p).unwrap();
+    let y = turn_from(img, ends, x + 1, 11, p).unwrap();
+    (holder_at(x), holder_at(y))
 }

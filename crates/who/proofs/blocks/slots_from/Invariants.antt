@@ -1,13 +1,10 @@
 -- `who::blocks::slots_from` meets its contract. Assumes nothing.
 use mathlib.Core.Path.{◌≡◌}
-use Prim.Native.Nat.{ℕ, ◌-◌, ◌≤◌}
+use Prim.Native.Nat.{ℕ}
 use Rattle.book.specs.Words.{vol}
 use Rattle.book.specs.Pointers.{slot}
-use Rattle.who.specs.Least.{None}
+use Rattle.who.specs.Least.{Never}
 use Rattle.who.proofs.blocks.slots_from.Given as goal
 
 abbrev pub invariant-loop-k : goal.invariant-loop-k
-invariant-loop-k l = (l.n ≤ l.k) × (l.k ≤ 512) × None (λ (i : ℕ). slot (vol l.img) l.b i ≡ l.p) l.n l.k
-
-abbrev pub decreases-loop-k : goal.decreases-loop-k
-decreases-loop-k l = 512 - l.k
+invariant-loop-k l = Never (λ (i : ℕ). slot (vol l.img) l.b i ≡ l.p) l.n l.k

@@ -1,16 +1,18 @@
 -- `who::blocks::tree_from` meets its contract. Assumes nothing.
 use mathlib.Core.Path.{◌≡◌}
-use Prim.Native.Nat.{ℕ, ◌-◌, ◌≤◌}
+use Prim.Native.Nat.{ℕ, ◌+◌, ◌*◌, ◌≤◌, ◌<◌}
 use lib.ListN.{length}
 use Rattle.book.specs.Words.{vol}
-use Rattle.who.specs.Least.{None}
-use Rattle.who.specs.Turns.{positions}
+use Rattle.who.specs.Least.{Never}
 use Rattle.who.specs.Search.{Search}
 use Rattle.who.proofs.Passing.{under}
 use Rattle.who.proofs.blocks.tree_from.Given as goal
 
-abbrev pub invariant-loop-x : goal.invariant-loop-x
-invariant-loop-x l = (l.n ≤ l.x) × (l.x ≤ positions) × None (λ (k : ℕ). under (vol l.img) l.t k ≡ l.p) l.n l.x × Search l.img l.p l.seen l.tops × (length l.seen ≡ length l.initial.seen)
-
-abbrev pub decreases-loop-x : goal.decreases-loop-x
-decreases-loop-x l = positions - l.x
+abbrev pub invariant-loop-k : goal.invariant-loop-k
+invariant-loop-k l = record {
+  part : l.from < 512;
+  on : l.n ≤ 512 * l.k + l.from;
+  none : Never (λ (i : ℕ). under (vol l.img) l.t i ≡ l.p) l.n (512 * l.k + l.from);
+  search : Search l.img l.p l.seen l.tops;
+  kept : length l.seen ≡ length l.initial.seen;
+}

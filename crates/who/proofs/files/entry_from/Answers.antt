@@ -12,21 +12,21 @@ use Rattle.tree.proofs.Entries.{file-in, file-in-none}
 use Rattle.walk.proofs.Entries.{read_short}
 use Rattle.who.specs.Least.{Least}
 use Rattle.who.specs.Turns.{positions, class_page}
-use Rattle.who.proofs.Leasts.{least_zero}
+use Rattle.who.proofs.Leasts.{none_zero}
 use Rattle.who.proofs.Classes.{class-none}
 use Rattle.who.proofs.Filing.{reach-file, plain-file, run-file}
 use Rattle.who.proofs.files.entry_from.Goals as goal
 
 pub returns-then-not-may_have : goal.returns-then-not-may_have
 returns-then-not-may_have c = let v = vol c.args.img.now in (
-  least_zero (λ (k : ℕ). class_page v (file_at v c.args.e) c.args.class k) c.args.p c.args.n positions c.requires.0.page c.requires.6
+  none_zero (λ (k : ℕ). class_page v (file_at v c.args.e) c.args.class k) c.args.p c.args.n positions c.requires.0.page
       (λ k. plain-file v c.args.e c.args.q c.requires.4 c.entry_flags-flags.result c.entry_flags-flags.ensures.0 c.args.class k (fails c.may_have.result _ c.may_have.ensures c.if-not-may_have.true-raw)),
   c.requires.0,
 )
 
 pub returns-then-not-entry_used : goal.returns-then-not-entry_used
 returns-then-not-entry_used c = let v = vol c.args.img.now in (
-  least_zero (λ (k : ℕ). class_page v (file_at v c.args.e) c.args.class k) c.args.p c.args.n positions c.requires.0.page c.requires.6
+  none_zero (λ (k : ℕ). class_page v (file_at v c.args.e) c.args.class k) c.args.p c.args.n positions c.requires.0.page
       (λ k. class-none v (file_at v c.args.e) 0 c.args.class k (file-in-none v c.args.e c.args.q c.requires.4 (fails c.entry_used.result _ c.entry_used.ensures c.if-not-entry_used.true-raw))),
   c.requires.0,
 )

@@ -16,5 +16,5 @@ run_from-requires c = (c.requires.1, c.requires.2, omega (arith, c.bit_pages-cou
 pub returns : goal.returns
 unfolding bit_file page_at
 returns c = let v = vol c.args.img.now in
-    least_by (λ (i : ℕ). upto i c.bit_pages-count.result (c.page_at-start.result + i)) (λ (i : ℕ). page_at v (bit_file (pages c.args.img.now) v) i) c.args.p c.args.n positions c.run_from.result
-    (λ i h. ap₂ (λ (m s : ℕ). upto i m (s + i)) c.bit_pages-count.ensures c.page_at-start.ensures.0) c.run_from.ensures
+    least_by (λ (i : ℕ). upto i c.bit_pages-count.result (c.page_at-start.result + i)) (λ (i : ℕ). page_at v (bit_file (pages c.args.img.now) v) i) c.args.p c.args.n positions
+    (λ i h. ap₂ (λ (m s : ℕ). upto i m (s + i)) c.bit_pages-count.ensures c.page_at-start.ensures.0) c.run_from.result c.run_from.ensures

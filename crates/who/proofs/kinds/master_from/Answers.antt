@@ -9,7 +9,7 @@ use Rattle.tree.proofs.Reach.{reach-same, root-read}
 use Rattle.walk.proofs.Short.{short-same}
 use Rattle.who.specs.Least.{Least}
 use Rattle.who.specs.Turns.{positions, class_page}
-use Rattle.who.proofs.Leasts.{least_zero}
+use Rattle.who.proofs.Leasts.{none_zero}
 use Rattle.who.proofs.Classes.{by-run, by_count, class-none}
 use Rattle.who.proofs.kinds.master_from.Goals as goal
 
@@ -18,7 +18,7 @@ flags_at-flags-requires c = omega (arith, c.requires.3.some)
 
 pub returns-then-flags-eq0 : goal.returns-then-flags-eq0
 returns-then-flags-eq0 c = let v = vol c.args.img.now in let t = page (v 0) c.args.k in (
-  least_zero (λ (i : ℕ). class_page v (root_at (v 0) c.args.k 0) c.args.class i) c.args.p c.args.n positions c.requires.0.page c.requires.5
+  none_zero (λ (i : ℕ). class_page v (root_at (v 0) c.args.k 0) c.args.class i) c.args.p c.args.n positions c.requires.0.page
       (λ i. class-none v (root_at (v 0) c.args.k 0) t c.args.class i (root-read (v 0) c.args.k 0 c.flags_at-flags.result t 0 c.flags_at-flags.ensures.0 refl refl ∙ by-run c.flags_at-flags.result t 0 c.if-flags-eq0.true)),
   c.requires.0,
 )

@@ -4,14 +4,14 @@ use native.Mathlib.Omega.{arith}
 use Rattle.book.specs.Words.{vol}
 use Rattle.book.specs.Image.{pages}
 use Rattle.who.specs.Turns.{positions, kind_page}
-use Rattle.who.proofs.Leasts.{least_zero}
+use Rattle.who.proofs.Leasts.{none_zero}
 use Rattle.who.proofs.Filing.{reach-users, reach-objects, short-users, short-objects}
 use Rattle.who.proofs.ByKind.{kind-bits, kind-index, kind-users, kind-objects, kind-low}
 use Rattle.who.proofs.kinds.system_from.Goals as goal
 
 pub returns-then-kind-lt2 : goal.returns-then-kind-lt2
 returns-then-kind-lt2 c = let P = pages c.args.img.now in let v = vol c.args.img.now in
-    (least_zero (λ (i : ℕ). kind_page P v c.args.kind i) c.args.p c.args.n positions c.requires.0.page c.requires.3 (λ i. kind-low P v c.args.kind i c.if-kind-lt2.true), c.requires.0)
+    (none_zero (λ (i : ℕ). kind_page P v c.args.kind i) c.args.p c.args.n positions c.requires.0.page (λ i. kind-low P v c.args.kind i c.if-kind-lt2.true), c.requires.0)
 
 pub bits_from-requires : goal.bits_from-requires
 bits_from-requires c = (c.requires.1, c.requires.0.page, c.requires.3)

@@ -3,12 +3,12 @@ use mathlib.Core.Path.{sym}
 use Prim.Native.Nat.{ℕ}
 use Rattle.book.specs.Trees.{root_by, upto}
 use Rattle.who.specs.Turns.{positions, class_page}
-use Rattle.who.proofs.Leasts.{least_by, least_zero}
+use Rattle.who.proofs.Leasts.{least_by, none_zero}
 use Rattle.who.proofs.Classes.{sub-two, sub-other}
 use Rattle.who.proofs.roots.subindex_from.Goals as goal
 
 pub returns-then-flags-eq2 : goal.returns-then-flags-eq2
-returns-then-flags-eq2 c = λ v m. least_by (λ (i : ℕ). upto i 1 c.args.top) (λ (i : ℕ). class_page v (root_by c.args.flags c.args.top m) 0 i) c.args.p c.args.n positions c.top_from.result (λ i h. sym (sub-two v c.args.flags c.args.top m i c.if-flags-eq2.true)) c.top_from.ensures
+returns-then-flags-eq2 c = λ v m. least_by (λ (i : ℕ). upto i 1 c.args.top) (λ (i : ℕ). class_page v (root_by c.args.flags c.args.top m) 0 i) c.args.p c.args.n positions (λ i h. sym (sub-two v c.args.flags c.args.top m i c.if-flags-eq2.true)) c.top_from.result c.top_from.ensures
 
 pub returns : goal.returns
-returns c = λ v m. least_zero (λ (i : ℕ). class_page v (root_by c.args.flags c.args.top m) 0 i) c.args.p c.args.n positions c.requires.0 c.requires.1 (λ i. sub-other v c.args.flags c.args.top m i c.if-flags-eq2.false)
+returns c = λ v m. none_zero (λ (i : ℕ). class_page v (root_by c.args.flags c.args.top m) 0 i) c.args.p c.args.n positions c.requires.0 (λ i. sub-other v c.args.flags c.args.top m i c.if-flags-eq2.false)

@@ -28,34 +28,33 @@ returns-then-test-eq0 c =
 pub object_ends-ends-requires : goal.object_ends-ends-requires
 object_ends-ends-requires c = ready-objects _ c.requires.0
 
-pub turn_from-system-requires : goal.turn_from-system-requires
-turn_from-system-requires c = (ready-volume _ c.requires.0, c.object_ends-ends.ensures, omega arith, omega arith, omega arith)
+pub turn_from-requires : goal.turn_from-requires
+turn_from-requires c = (ready-volume _ c.requires.0, c.object_ends-ends.ensures, omega arith, omega arith, omega arith)
 
-pub returns-then-system-lt-BLOCK_TURNS : goal.returns-then-system-lt-BLOCK_TURNS
-returns-then-system-lt-BLOCK_TURNS c = let d = ready-volume _ c.requires.0 in
+pub returns-in-Some : goal.returns-in-Some
+returns-in-Some c = let d = ready-volume _ c.requires.0 in
     subst (Told (pages c.args.img.now) (vol c.args.img.now) c.args.p) (sym c.holder_at.ensures)
-    (told_at (pages c.args.img.now) (vol c.args.img.now) d.within (omega (arith, c.requires.0.whole.most)) c.args.p (omega arith) c.turn_from-system.result (c.turn_from-system.ensures.here c.if-system-lt-BLOCK_TURNS.true) (omega arith))
+    (told_at (pages c.args.img.now) (vol c.args.img.now) d.within (omega (arith, c.requires.0.whole.most)) c.args.p (omega arith) c.in-Some.system c.in-Some.ensures.here (omega (arith, c.in-Some.ensures.to)))
 
-pub turn_from-data-requires : goal.turn_from-data-requires
-turn_from-data-requires c = (ready-volume _ c.requires.0, c.object_ends-ends.ensures, omega arith, omega arith, omega arith)
+pub turn_from-requires-2 : goal.turn_from-requires-2
+turn_from-requires-2 c = (ready-volume _ c.requires.0, c.object_ends-ends.ensures, omega arith, omega arith, omega arith)
 
-pub returns-then-data-lt-ALL_TURNS : goal.returns-then-data-lt-ALL_TURNS
-returns-then-data-lt-ALL_TURNS c = let d = ready-volume _ c.requires.0 in
-    subst (Told (pages c.args.img.now) (vol c.args.img.now) c.args.p) (sym c.holder_at-then-data-lt-ALL_TURNS.ensures)
-    (told_at (pages c.args.img.now) (vol c.args.img.now) d.within (omega (arith, c.requires.0.whole.most)) c.args.p (omega (arith, c.if-p-eq0.false)) c.turn_from-data.result (c.turn_from-data.ensures.here c.if-data-lt-ALL_TURNS.true) (omega arith))
+pub returns-in-Some-turn_from : goal.returns-in-Some-turn_from
+returns-in-Some-turn_from c = let d = ready-volume _ c.requires.0 in
+    subst (Told (pages c.args.img.now) (vol c.args.img.now) c.args.p) (sym c.holder_at-in-Some-turn_from.ensures)
+    (told_at (pages c.args.img.now) (vol c.args.img.now) d.within (omega (arith, c.requires.0.whole.most)) c.args.p (omega arith) c.in-Some-turn_from.data c.in-Some-turn_from.ensures.here c.in-Some-turn_from.ensures.to)
 
-pub turn_from-block-requires : goal.turn_from-block-requires
-turn_from-block-requires c = (ready-volume _ c.requires.0, c.object_ends-ends.ensures, omega arith, omega arith, omega arith)
+pub turn_from-requires-3 : goal.turn_from-requires-3
+turn_from-requires-3 c = (ready-volume _ c.requires.0, c.object_ends-ends.ensures, omega arith, omega arith, omega arith)
 
-pub returns-then-block-lt-DATA_TURNS : goal.returns-then-block-lt-DATA_TURNS
-returns-then-block-lt-DATA_TURNS c = let d = ready-volume _ c.requires.0 in
-    subst (Told (pages c.args.img.now) (vol c.args.img.now) c.args.p) (sym c.holder_at-then-block-lt-DATA_TURNS.ensures)
-    (told_at (pages c.args.img.now) (vol c.args.img.now) d.within (omega (arith, c.requires.0.whole.most)) c.args.p (omega (arith, c.if-p-eq0.false)) c.turn_from-block.result (c.turn_from-block.ensures.here c.if-block-lt-DATA_TURNS.true) (omega arith))
+pub returns-in-Some-turn_from-2 : goal.returns-in-Some-turn_from-2
+returns-in-Some-turn_from-2 c = let d = ready-volume _ c.requires.0 in
+    subst (Told (pages c.args.img.now) (vol c.args.img.now) c.args.p) (sym c.holder_at-in-Some-turn_from-2.ensures)
+    (told_at (pages c.args.img.now) (vol c.args.img.now) d.within (omega (arith, c.requires.0.whole.most)) c.args.p (omega arith) c.in-Some-turn_from-2.block c.in-Some-turn_from-2.ensures.here (omega (arith, c.in-Some-turn_from-2.ensures.to)))
 
 pub returns : goal.returns
 returns c =
     let d = ready-volume _ c.requires.0 in let P = pages c.args.img.now in let v = vol c.args.img.now in
     let few : P ≤ positions = omega (arith, c.requires.0.whole.most) in let pos : 0 < c.args.p = omega (arith, c.if-p-eq0.false) in
     told_none P v d.within few c.args.p pos c.requires.0.sound.r2
-    (none-three P v d.within few c.args.p pos 137438953472 171798691840 c.turn_from-system.result c.turn_from-block.result c.turn_from-data.result
-    c.turn_from-system.ensures c.if-system-lt-BLOCK_TURNS.false c.turn_from-block.ensures c.if-block-lt-DATA_TURNS.false c.turn_from-data.ensures c.if-data-lt-ALL_TURNS.false)
+    (none-three P v d.within few c.args.p pos 137438953472 171798691840 c.in_default.ensures c.in_default-turn_from-2.ensures c.in_default-turn_from.ensures)
