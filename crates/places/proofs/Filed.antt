@@ -14,8 +14,7 @@ use Rattle.book.specs.Decides.{Decides}
 use Rattle.tree.specs.Reach.{entry_in}
 use Rattle.tree.proofs.Entries.{object-in}
 use Rattle.book.specs.declared.Place.{Place}
-use Rattle.places.specs.declared.Fault.{Fault}
-use Rattle.places.specs.declared.Fault.TheVariants.{Nowhere, At}
+use Rattle.std.proofs.Common.{Option, None, Some}
 use Rattle.book.specs.Spots.{Spots, spot, ◌then◌, at, AllHold, First}
 use Rattle.book.specs.Places.{in_object, Must, pointers, PointerRight, block_spots, file_spots}
 use Rattle.places.specs.Found.{Finds, ObjectAt}
@@ -47,20 +46,20 @@ right-wrong P (suc (suc (suc x))) t n h s = s
 
 -- ---- the blocks
 
-pub block-found : (P : ℕ) (v : Vol) (b c m k : ℕ) (r : Fault) → b ≡ c → k ≡ m → Finds (pointers v b (Must P k)) r → Finds (pointers v c (Must P m)) r
+pub block-found : (P : ℕ) (v : Vol) (b c m k : ℕ) (r : Option Place) → b ≡ c → k ≡ m → Finds (pointers v b (Must P k)) r → Finds (pointers v c (Must P m)) r
 block-found P v b c m k r e f d = subst₂ (λ (x y : ℕ). Finds (pointers v x (Must P y)) r) e f d
 
 pub slot-inside : (P : ℕ) (v : Vol) (t m : ℕ) → AllHold (pointers v t (Must P m)) → (i : ℕ) → i < 512 → slot v t i < P
 unfolding AllHold pointers
 slot-inside P v t m a i h = (a i h).0
 
-pub then_found : (s t : Spots) (r : Fault) → AllHold s → Finds t r → Finds (s then t) r
+pub then_found : (s t : Spots) (r : Option Place) → AllHold s → Finds t r → Finds (s then t) r
 unfolding AllHold First
-then_found s t Nowhere a d = (a, d)
-then_found s t (At q) a d = inr (a, d)
+then_found s t None a d = (a, d)
+then_found s t (Some q) a d = inr (a, d)
 
 -- by the flags of a pointer that is right
-module _ (P : ℕ) (v : Vol) (x t n : ℕ) (r : Fault) where
+module _ (P : ℕ) (v : Vol) (x t n : ℕ) (r : Option Place) where
   flagged : (y : ℕ) → x ≡ y → Finds (block_spots P v y t n) r → Finds (block_spots P v x t n) r
   flagged y e d = subst (λ (z : ℕ). Finds (block_spots P v z t n) r) (sym e) d
 
@@ -133,7 +132,7 @@ module _ (img : List ℕ) (total q e : ℕ) (d : ObjectAt img total q e) (x t n 
   unfolding First AllHold file_spots
   pointer-wrong i p j h = inr (bytes-right i, inl (here 30 p j, λ a. h (pointer_back a)))
 
-  pub file-found : b ≡ bytes_of n → PointerRight total x t n → (r : Fault) → Finds (block_spots (pages img) v x t n) r → Finds S r
+  pub file-found : b ≡ bytes_of n → PointerRight total x t n → (r : Option Place) → Finds (block_spots (pages img) v x t n) r → Finds S r
   unfolding AllHold file_spots
   file-found i k r f =
       let pointed = spot (in_object v e file_pointer) (PointerRight (pages img) (flags w 30) (page w 30) (two w 26)) in

@@ -11,7 +11,7 @@ use Rattle.book.specs.Spots.{spot, each, AllHold, First}
 use Rattle.book.specs.Places.{in_master, May, pointers, spots5_by, spots5}
 use Rattle.heads.specs.Span.{Span}
 use Rattle.heads.specs.Fine.{Unused}
-use Rattle.places.specs.declared.Fault.{Fault}
+use Rattle.std.proofs.Common.{Option}
 use Rattle.places.specs.Found.{Finds}
 use Rattle.places.proofs.Filed.{then_found}
 
@@ -22,7 +22,7 @@ module _ (P : ℕ) (v : Vol) (t : ℕ) where
   unfolding First spots5_by Span
   users-above q e n = inl (e, n)
 
-  pub index-found : (r : Fault) → Span (Unused (user v)) 64 256 → Finds (pointers v t (May P 512)) r → Finds (spots5_by P v 1 t) r
+  pub index-found : (r : Option Place) → Span (Unused (user v)) 64 256 → Finds (pointers v t (May P 512)) r → Finds (spots5_by P v 1 t) r
   unfolding AllHold spots5_by Span
   index-found r s d = then_found (spot (in_master object_pointer) (Span (Unused (user v)) 64 256)) (pointers v t (May P 512)) r s d
 
@@ -32,7 +32,7 @@ module _ (P : ℕ) (v : Vol) (t : ℕ) where
   unfolding First spots5_by
   subindex-wrong q f = inl f
 
-  pub indexes-found : (r : Fault) → AllHold (pointers v t (May P 4)) → Finds (each 4 (λ i. pointers v (slot v t i) (May P 512))) r → Finds (spots5_by P v 2 t) r
+  pub indexes-found : (r : Option Place) → AllHold (pointers v t (May P 4)) → Finds (each 4 (λ i. pointers v (slot v t i) (May P 512))) r → Finds (spots5_by P v 2 t) r
   unfolding spots5_by
   indexes-found r a d = then_found _ _ r a d
 
@@ -47,7 +47,7 @@ module _ (P : ℕ) (v : Vol) (t : ℕ) where
 
 -- x and t are the flags and the page of the object pointer
 module _ (P : ℕ) (v : Vol) (x t : ℕ) (a : x ≡ flags (v 0) object_pointer) (e : t ≡ page (v 0) object_pointer) where
-  pub found-by : (r : Fault) (y : ℕ) → x ≡ y → Finds (spots5_by P v y t) r → Finds (spots5 P v) r
+  pub found-by : (r : Option Place) (y : ℕ) → x ≡ y → Finds (spots5_by P v y t) r → Finds (spots5 P v) r
   unfolding spots5
   found-by r y q d = subst₂ (λ (f p : ℕ). Finds (spots5_by P v f p) r) (sym q ∙ a) e d
 

@@ -6,7 +6,7 @@ use Rattle.book.specs.Pointers.{slot}
 use Rattle.book.specs.declared.Place.{Place}
 use Rattle.book.specs.Spots.{Spots, spot, at, AllHold, First}
 use Rattle.book.specs.Places.{Filled, pointers}
-use Rattle.places.specs.declared.Fault.{Fault}
+use Rattle.std.proofs.Common.{Option}
 use Rattle.places.specs.Found.{Finds}
 
 -- the row of slot s
@@ -24,7 +24,7 @@ module _ (P T : ℕ) (e : T ≡ P) (v : Vol) (b least m s x : ℕ) (i : x ≡ sl
 
 -- ---- all pointers of a block, as code has read where it is and how many are allowed
 
-pub pointers-found : (P : ℕ) (v : Vol) (least b c k m : ℕ) (r : Fault) → b ≡ c → k ≡ m → Finds (pointers v b (Filled P least k)) r → Finds (pointers v c (Filled P least m)) r
+pub pointers-found : (P : ℕ) (v : Vol) (least b c k m : ℕ) (r : Option Place) → b ≡ c → k ≡ m → Finds (pointers v b (Filled P least k)) r → Finds (pointers v c (Filled P least m)) r
 pointers-found P v least b c k m r e f d = subst₂ (λ (x y : ℕ). Finds (pointers v x (Filled P least y)) r) e f d
 
 pub pointers-below : (P : ℕ) (v : Vol) (least t m : ℕ) → AllHold (pointers v t (Filled P least m)) → (i : ℕ) → i < 512 → slot v t i < P

@@ -16,11 +16,12 @@ use Rattle.laws.specs.Place.Rule7.{shape-all, shape-by}
 use Rattle.tree.specs.Reach.{entry_in}
 use Rattle.shape.specs.Shapes.{EntryRight, FilesRight}
 use Rattle.shape.proofs.Objects.{at_right}
-use Rattle.places.specs.declared.Fault.{Fault}
+use Rattle.std.proofs.Common.{Option}
 use Rattle.places.specs.Found.{Finds, ObjectAt}
 use Rattle.places.specs.Rows.{shape_spots, file_row, FilesOn}
 use Rattle.places.proofs.Finding.{finds-when}
 use Rattle.places.proofs.Passing.{each-found, part-found}
+use Rattle.book.specs.declared.Place.{Place}
 
 module _ (P : ℕ) (v : Vol) where
   file-all : (e : ℕ) → (0 < used (object v e) → FileShape P v e) → AllHold (file_row P v e)
@@ -49,7 +50,7 @@ module _ (P : ℕ) (v : Vol) where
       here e h i = omega arith
 
   -- the first position whose files are not right
-  pub position-found : (n : ℕ) → n < object_pages → FilesRight P v 0 (32 * n) → (FilesRight P v (32 * n) (32 * n + 32) → ⊥) → (r : Fault) → Finds (each 32 (λ k. file_row P v (32 * n + k))) r → Finds (spots7 P v) r
+  pub position-found : (n : ℕ) → n < object_pages → FilesRight P v 0 (32 * n) → (FilesRight P v (32 * n) (32 * n + 32) → ⊥) → (r : Option Place) → Finds (each 32 (λ k. file_row P v (32 * n + k))) r → Finds (spots7 P v) r
   unfolding spots7
   position-found n h f w r d = part-found 65536 (file_row P v) (32 * n) (files-passed (32 * n) f) 32 (omega arith) (page-wrong n w) r d
 
@@ -78,6 +79,6 @@ module _ (img : List ℕ) (total q n k : ℕ) (d : FilesOn img total q n) (h : k
       | no l ↦ absurd (w (at_right v n k q h d.on P (λ u. absurd (l u))))
     ]
 
-    pub entry_found : FilesRight P v (32 * n) (32 * n + k) → (r : Fault) → Finds (shape_spots P v (32 * n + k)) r → Finds (each 32 (λ i. file_row P v (32 * n + i))) r
+    pub entry_found : FilesRight P v (32 * n) (32 * n + k) → (r : Option Place) → Finds (shape_spots P v (32 * n + k)) r → Finds (each 32 (λ i. file_row P v (32 * n + i))) r
     entry_found f r g = each-found 32 (λ i. file_row P v (32 * n + i)) k (page-passed P v (32 * n) k f) h
         (λ a. w (at_right v n k q h d.on P (all-file P v (32 * n + k) a))) r (finds-when (used (object v (32 * n + k))) _ used-at r g)

@@ -27,15 +27,20 @@ use Rattle.laws.specs.Place.Rule7.{rule7}
 use Rattle.heads.proofs.Judged.{asked-holds}
 use Rattle.walk.specs.Held.{Volume}
 use Rattle.walk.proofs.Short.{rules-short}
-use Rattle.places.specs.declared.Fault.{Fault}
-use Rattle.places.specs.declared.Fault.TheVariants.{Nowhere, At}
+use Rattle.std.specs.Option.{unwrap_or}
+use Rattle.std.proofs.Common.{Option, None, Some}
 use Rattle.places.specs.Found.{Finds}
 use Rattle.places.specs.Tell.{Breaks, place_of, plainly}
 
+-- as code reads it
+pub place-or : (f : Option Place) → unwrap_or f (at 0 0) ≡ place_of f
+place-or None = refl
+place-or (Some q) = refl
+
 -- where not all places of a row hold, the one found is the first
-found_first : (s : Spots) (f : Fault) → Finds s f → (AllHold s → ⊥) → First s (place_of f)
-found_first s Nowhere d n = absurd (n d)
-found_first s (At q) d n = d
+found_first : (s : Spots) (f : Option Place) → Finds s f → (AllHold s → ⊥) → First s (place_of f)
+found_first s None d n = absurd (n d)
+found_first s (Some q) d n = d
 
 module _ (img : List ℕ) (ten : Bool) (r : ℕ) (B : Breaks img ten r) where
   abbrev P : ℕ
@@ -45,12 +50,12 @@ module _ (img : List ℕ) (ten : Bool) (r : ℕ) (B : Breaks img ten r) where
   v = vol img
 
   -- a rule other than 8
-  plainly-at : (k : ℕ) → r ≡ k → (k ≡ 8 → ⊥) → (f : Fault) → First (spots_of ten P v k) (place_of f) → (b : Break) → b ≡ plainly k f → BrokenBy ten P v b
+  plainly-at : (k : ℕ) → r ≡ k → (k ≡ 8 → ⊥) → (f : Option Place) → First (spots_of ten P v k) (place_of f) → (b : Break) → b ≡ plainly k f → BrokenBy ten P v b
   unfolding PairFor
   plainly-at k e ne f d b q = subst (λ (x : Break). BrokenBy ten P v x) (sym q)
       record { rule = subst (Lowest (rules_of ten P v)) e B.lowest; place = d; pair = (λ h. absurd (ne h), λ h. (refl, refl)) }
 
-  module _ (f : Fault) (b : Break) where
+  module _ (f : Option Place) (b : Break) where
     pub told1 : r ≡ 1 → Finds (spots1 P v) f → b ≡ plainly 1 f → BrokenBy ten P v b
     unfolding spots_of nth
     told1 e d = plainly-at 1 e (λ h. omega (arith, h)) f (found_first (spots1 P v) f d (λ a. fails1 ten P v r B.lowest e (rule1 P v a))) b
@@ -90,7 +95,7 @@ module _ (img : List ℕ) (ten : Bool) (r : ℕ) (B : Breaks img ten r) where
 
   -- ---- rule 8
 
-  pub first-held : r ≡ 8 → (f : Fault) → Finds (spots8 P v) f → (q : Place) → q ≡ place_of f → First (spots8 P v) q
+  pub first-held : r ≡ 8 → (f : Option Place) → Finds (spots8 P v) f → (q : Place) → q ≡ place_of f → First (spots8 P v) q
   first-held e f d q i = subst (First (spots8 P v)) (sym i) (found_first (spots8 P v) f d (λ a. fails8 ten P v r B.lowest e (rule8 P v a)))
 
   -- its place is a page of the image that two hold

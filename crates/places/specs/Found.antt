@@ -1,5 +1,5 @@
 -- What the code that looks for a place asks for and tells. Assumes nothing.
-use Rattle.std.specs.Prelude.{◌≡◌, List, ◌⊎◌, ℕ, ◌*◌, ◌≤◌, ◌<◌, length}
+use Rattle.std.specs.Prelude.{Option, None, Some, ◌≡◌, List, ◌⊎◌, ℕ, ◌*◌, ◌≤◌, ◌<◌, length}
 use Rattle.book.specs.Words.{Vol, vol}
 use Rattle.book.specs.Pointers.{flags, page, Zero, Inside, indexed, subindexed, user_pointer, object_pointer}
 use Rattle.book.specs.Trees.{root_by}
@@ -13,15 +13,14 @@ use Rattle.tree.specs.Ends.{Ends}
 use Rattle.tree.specs.Reach.{Reach}
 use Rattle.shape.specs.Objects.{ObjectsAt}
 use Rattle.heads.specs.Twins.{On}
-use Rattle.places.specs.declared.Fault.{Fault}
-use Rattle.places.specs.declared.Fault.TheVariants.{Nowhere, At}
 use Rattle.book.specs.Spots.{Spots, spot, when, AllHold, First}
 use Rattle.book.specs.Places.{in_user}
+use Rattle.book.specs.declared.Place.{Place}
 
 -- all places of s hold, or this is the first that does not
-abbrev pub Finds : Spots → Fault → Type 0
-Finds s Nowhere = AllHold s
-Finds s (At q) = First s q
+abbrev pub Finds : Spots → Option Place → Type 0
+Finds s None = AllHold s
+Finds s (Some q) = First s q
 
 -- what rule 2 asks for at the object pointer: it is zero exactly when the user pointer is
 abbrev pub ObjectsRight : ℕ → Vol → Type 0

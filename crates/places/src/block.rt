@@ -8,7 +8,6 @@ ghost use Rattle.book.specs.Spots.{at};
 ghost use Rattle.places.specs.Found.{Finds};
 ghost use Rattle.book.specs.Places.{Filled, pointers};
 
-use crate::Fault;
 use book::Place;
 use page::read::slot_at;
 
@@ -31,31 +30,21 @@ fn filled(total: usize, least: usize, m: usize, s: usize, x: usize) -> bool
         return false;
     }
     if s < m {
-        if x < least {
-            return false;
-        }
-        return true;
+        return least <= x;
     }
-    if x != 0 {
-        return false;
-    }
-    true
+    x == 0
 }
 
 // The first of the 512 pointers of block b that is not so.
-pub(crate) fn block(img: &[u16], total: usize, least: usize, m: usize, b: usize) -> Fault
+pub(crate) fn block(img: &[u16], total: usize, least: usize, m: usize, b: usize) -> Option<Place>
     requires { Block img.now total b }
     ensures { Finds (pointers (vol img.now) b (Filled (pages img.now) least m)) result }
 {
-    let mut s: usize = 0;
-    while s < 512 {
+    for s in 0..512 {
         let x = slot_at(img, b, s);
         if !filled(total, least, m, s, x) {
-            return Fault::At {
-                place: slot_place(b, s),
-            };
+            return Some(slot_place(b, s));
         }
-        s += 1;
     }
-    Fault::Nowhere
+    None
 }

@@ -10,9 +10,9 @@ ghost use Rattle.book.specs.Places.{spots10};
 ghost use Rattle.tree.specs.Ends.{Ends};
 ghost use Rattle.places.specs.Found.{Finds, Counting, count_row};
 
-use crate::Fault;
 use crate::entry::place_of;
 use crate::master::master_place;
+use book::Place;
 use page::entry::USED;
 use page::read::{flags_at, page_at};
 use page::{OBJECTS, UNRESERVED};
@@ -20,51 +20,43 @@ use shape::rule10::{sum_ok, user_ok};
 use tree::root::user_page;
 
 // The place of user u's used count, if he is used and it is not the pages of his files.
-fn used_count(img: &[u16], flags: u16, top: usize, ends: usize, u: usize) -> Fault
+fn used_count(img: &[u16], flags: u16, top: usize, ends: usize, u: usize) -> Option<Place>
     requires { Counting img.now flags top ends × (u < 256) }
     ensures { Finds (count_row (vol img.now) u) result }
 {
     let q = user_page(img, u);
     if !user_ok(img, flags, top, ends, q, u) {
-        return Fault::At {
-            place: place_of(q, u, USED),
-        };
+        return Some(place_of(q, u, USED));
     }
-    Fault::Nowhere
+    None
 }
 
 // The first such place.
-fn used_counts(img: &[u16], flags: u16, top: usize, ends: usize) -> Fault
+fn used_counts(img: &[u16], flags: u16, top: usize, ends: usize) -> Option<Place>
     requires { Counting img.now flags top ends }
     ensures { Finds (each 256 (count_row (vol img.now))) result }
 {
-    let mut u: usize = 0;
-    while u < 256 {
-        let found = used_count(img, flags, top, ends, u);
-        if let Fault::At { place } = found {
-            return Fault::At { place };
+    for u in 0..256 {
+        if let Some(place) = used_count(img, flags, top, ends, u) {
+            return Some(place);
         }
-        u += 1;
     }
-    Fault::Nowhere
+    None
 }
 
 // The first place that breaks rule 10, where a walk over rule 8 has visited so many pages, and the object file ends at `ends`.
-pub fn first10(img: &[u16], total: usize, visits: u32, ends: usize) -> Fault
+pub fn first10(img: &[u16], total: usize, visits: u32, ends: usize) -> Option<Place>
     requires { Whole img.now × (total ≡ pages img.now) × Rule2 (pages img.now) (vol img.now) × Rule3 (pages img.now) (vol img.now) × Rule5 (pages img.now) (vol img.now)
         × Rule6 (user (vol img.now)) (object (vol img.now)) × Rule7 (pages img.now) (vol img.now) × (visits ≡ 1 + all (pages img.now) (vol img.now) some) × Ends img.now ends }
     ensures { Finds (spots10 (pages img.now) (vol img.now)) result }
 {
     let flags = flags_at(img, 0, OBJECTS);
     let top = page_at(img, 0, OBJECTS) as usize;
-    let found = used_counts(img, flags, top, ends);
-    if let Fault::At { place } = found {
-        return Fault::At { place };
+    if let Some(place) = used_counts(img, flags, top, ends) {
+        return Some(place);
     }
     if !sum_ok(img, total, visits) {
-        return Fault::At {
-            place: master_place(UNRESERVED),
-        };
+        return Some(master_place(UNRESERVED));
     }
-    Fault::Nowhere
+    None
 }

@@ -9,9 +9,9 @@ ghost use Rattle.tree.specs.Ends.{Ends};
 ghost use Rattle.places.specs.Found.{Finds};
 ghost use Rattle.places.specs.Rows.{FilesOn, file_row};
 
-use crate::Fault;
 use crate::file::file;
 use bits::marks::most_marks;
+use book::Place;
 use page::OBJECTS;
 use page::read::{flags_at, page_at};
 use shape::file::entry_ok;
@@ -19,25 +19,23 @@ use shape::rule7::position_ok;
 use tree::root::root_page;
 
 // The first place of the 32 files whose entries are on object page q, the one at position n.
-fn page_files(img: &[u16], total: usize, q: usize, n: usize) -> Fault
+fn page_files(img: &[u16], total: usize, q: usize, n: usize) -> Option<Place>
     requires { FilesOn img.now total q n }
     ensures { Finds (each 32 (λ k. file_row (pages img.now) (vol img.now) (32 * n + k))) result }
 {
     let e = 32 * n;
     let mut seen = most_marks();
     let mut trees = most_marks();
-    let mut k: usize = 0;
-    while k < 32 {
+    for k in 0..32 {
         if !entry_ok(img, total, &mut seen, &mut trees, q, e + k) {
             return file(img, total, q, e + k);
         }
-        k += 1;
     }
-    Fault::Nowhere
+    None
 }
 
 // The first place that breaks rule 7, where the object file ends at `ends`.
-pub fn first7(img: &[u16], total: usize, ends: usize) -> Fault
+pub fn first7(img: &[u16], total: usize, ends: usize) -> Option<Place>
     requires { Whole img.now × (total ≡ pages img.now) × Rule2 (pages img.now) (vol img.now) × Rule5 (pages img.now) (vol img.now) × Ends img.now ends }
     ensures { Finds (spots7 (pages img.now) (vol img.now)) result }
 {
@@ -45,13 +43,11 @@ pub fn first7(img: &[u16], total: usize, ends: usize) -> Fault
     let top = page_at(img, 0, OBJECTS) as usize;
     let mut seen = most_marks();
     let mut trees = most_marks();
-    let mut n: usize = 0;
-    while n < ends {
+    for n in 0..ends {
         if !position_ok(img, total, &mut seen, &mut trees, flags, top, n) {
             let q = root_page(img, flags, top, 0, n);
             return page_files(img, total, q, n);
         }
-        n += 1;
     }
-    Fault::Nowhere
+    None
 }

@@ -12,7 +12,6 @@ ghost use Rattle.places.specs.Low.{Meeting, Unopened, Meets₂};
 ghost use Rattle.places.specs.Found.{Finds};
 ghost use Rattle.book.specs.Places.{spots8};
 
-use crate::Fault;
 use crate::meet::{meet_root, meet_run};
 use bits::bit_pages;
 use bits::marks::{mark, most_marks};
@@ -65,10 +64,8 @@ fn meet_files(
     ensures { Meets₂ (pages img.now) (vol img.now) marks.old ones.old twos.old lowest (λ p. sum end (λ e. weigh_r (vol img.now) (file_at (vol img.now) e) (hit p))) marks.new ones.new twos.new result }
 {
     let mut low = lowest;
-    let mut e: usize = 0;
-    while e < end {
+    for e in 0..end {
         low = meet_file(img, marks, ones, twos, low, e);
-        e += 1;
     }
     low
 }
@@ -112,7 +109,7 @@ fn meet_all(
 }
 
 // The first place that breaks rule 8: word 0 of the lowest page that two hold. The object file ends at position `ends`.
-pub fn first8(img: &[u16], total: usize, ends: usize) -> Fault
+pub fn first8(img: &[u16], total: usize, ends: usize) -> Option<Place>
     requires { Volume img.now × (total ≡ pages img.now) × Ends img.now ends }
     ensures { Finds (spots8 (pages img.now) (vol img.now)) result }
 {
@@ -122,12 +119,10 @@ pub fn first8(img: &[u16], total: usize, ends: usize) -> Fault
     mark(&mut marks, 0);
     let low = meet_all(img, &mut marks, &mut ones, &mut twos, total, ends);
     if total <= low {
-        return Fault::Nowhere;
+        return None;
     }
-    Fault::At {
-        place: Place {
-            page: low as u32,
-            word: 0,
-        },
-    }
+    Some(Place {
+        page: low as u32,
+        word: 0,
+    })
 }

@@ -11,57 +11,51 @@ ghost use Rattle.tree.specs.Reach.{Reach};
 ghost use Rattle.heads.specs.Slots.{Block};
 ghost use Rattle.places.specs.Found.{Finds};
 
-use crate::Fault;
 use crate::block::block;
 use crate::master::master_place;
+use book::Place;
 use heads::objects::low_users;
 use page::read::{flags_at, page_at, slot_at};
 use page::{INDEXED, OBJECTS, SUBINDEXED};
 
 // The first place of an indexed object file: the master page's pointer where a user above 63 is used, else in index block t.
-fn index_block(img: &[u16], total: usize, t: usize) -> Fault
+fn index_block(img: &[u16], total: usize, t: usize) -> Option<Place>
     requires { Block img.now total t × Reach img.now (user_file (vol img.now)) }
     ensures { Finds (spots5_by (pages img.now) (vol img.now) 1 t) result }
 {
     if !low_users(img) {
-        return Fault::At {
-            place: master_place(OBJECTS),
-        };
+        return Some(master_place(OBJECTS));
     }
     block(img, total, 0, 512, t)
 }
 
 // The first place of the four index blocks under subindex block t.
-fn four_blocks(img: &[u16], total: usize, t: usize) -> Fault
+fn four_blocks(img: &[u16], total: usize, t: usize) -> Option<Place>
     requires { Block img.now total t × AllHold (pointers (vol img.now) t (May (pages img.now) 4)) }
     ensures { Finds (each 4 (λ i. pointers (vol img.now) (slot (vol img.now) t i) (May (pages img.now) 512))) result }
 {
-    let mut i: usize = 0;
-    while i < 4 {
+    for i in 0..4 {
         let b = slot_at(img, t, i);
-        let found = block(img, total, 0, 512, b);
-        if let Fault::At { place } = found {
-            return Fault::At { place };
+        if let Some(place) = block(img, total, 0, 512, b) {
+            return Some(place);
         }
-        i += 1;
     }
-    Fault::Nowhere
+    None
 }
 
 // The first place of a subindexed object file: in subindex block t, then in the index blocks.
-fn subindex_block(img: &[u16], total: usize, t: usize) -> Fault
+fn subindex_block(img: &[u16], total: usize, t: usize) -> Option<Place>
     requires { Block img.now total t }
     ensures { Finds (spots5_by (pages img.now) (vol img.now) 2 t) result }
 {
-    let found = block(img, total, 0, 4, t);
-    if let Fault::At { place } = found {
-        return Fault::At { place };
+    if let Some(place) = block(img, total, 0, 4, t) {
+        return Some(place);
     }
     four_blocks(img, total, t)
 }
 
 // The first place that breaks rule 5.
-pub fn first5(img: &[u16], total: usize) -> Fault
+pub fn first5(img: &[u16], total: usize) -> Option<Place>
     requires { Whole img.now × (total ≡ pages img.now) × Rule2 (pages img.now) (vol img.now) × Rule3 (pages img.now) (vol img.now) }
     ensures { Finds (spots5 (pages img.now) (vol img.now)) result }
 {
@@ -73,5 +67,5 @@ pub fn first5(img: &[u16], total: usize) -> Fault
     if flags == SUBINDEXED {
         return subindex_block(img, total, t);
     }
-    Fault::Nowhere
+    None
 }

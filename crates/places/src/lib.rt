@@ -1,4 +1,5 @@
-// Where an image is broken: the first place that breaks a rule, for refusal 3. Each rule has its finder, which is asked only after the rule was judged broken.
+// Where an image is broken: the first place that breaks a rule, for refusal 3. Each rule has its finder, which is asked only after the rule was judged broken;
+// it answers the first place that does not hold, or None where all do.
 #![tactic(auto)]
 
 mod block;
@@ -15,12 +16,3 @@ pub mod objects;
 pub mod reserved;
 pub mod tell;
 pub mod users;
-
-use book::Place;
-
-// What looking through a row of places finds: the first that does not hold, or that all do.
-#[derive(Clone, Copy)]
-pub enum Fault {
-    Nowhere,
-    At { place: Place },
-}

@@ -7,7 +7,6 @@ ghost use Rattle.book.specs.Rules.{Rule2};
 ghost use Rattle.book.specs.Places.{in_master, spots1, spots2, spots3};
 ghost use Rattle.places.specs.Found.{Finds, ObjectsRight};
 
-use crate::Fault;
 use crate::block::block;
 use book::Place;
 use heads::master::{inside_at, rule1, rule2, zero_at};
@@ -27,21 +26,17 @@ pub(crate) fn master_place(k: usize) -> Place
 }
 
 // The first place that breaks rule 1: where the name is legal, it is the bit pointer.
-pub fn first1(img: &[u16], total: usize) -> Fault
+pub fn first1(img: &[u16], total: usize) -> Option<Place>
     requires { Whole img.now × (total ≡ pages img.now) }
     ensures { Finds (spots1 (pages img.now) (vol img.now)) result }
 {
     if !legal_at(img, 0, VOLUME, 1, 16) {
-        return Fault::At {
-            place: master_place(VOLUME),
-        };
+        return Some(master_place(VOLUME));
     }
     if !rule1(img, total) {
-        return Fault::At {
-            place: master_place(BITS),
-        };
+        return Some(master_place(BITS));
     }
-    Fault::Nowhere
+    None
 }
 
 // Whether the object pointer is right beside the user pointer: both are zero, or it leads to an index or subindex block and the user pointer is not zero.
@@ -52,32 +47,25 @@ fn objects_ok(img: &[u16], total: usize) -> bool
     if zero_at(img, USERS) {
         return zero_at(img, OBJECTS);
     }
-    if inside_at(img, total, OBJECTS, INDEXED) {
-        return true;
-    }
-    inside_at(img, total, OBJECTS, SUBINDEXED)
+    inside_at(img, total, OBJECTS, INDEXED) || inside_at(img, total, OBJECTS, SUBINDEXED)
 }
 
 // The first place that breaks rule 2: where the object pointer is right, it is the user pointer.
-pub fn first2(img: &[u16], total: usize) -> Fault
+pub fn first2(img: &[u16], total: usize) -> Option<Place>
     requires { Whole img.now × (total ≡ pages img.now) }
     ensures { Finds (spots2 (pages img.now) (vol img.now)) result }
 {
     if !objects_ok(img, total) {
-        return Fault::At {
-            place: master_place(OBJECTS),
-        };
+        return Some(master_place(OBJECTS));
     }
     if !rule2(img, total) {
-        return Fault::At {
-            place: master_place(USERS),
-        };
+        return Some(master_place(USERS));
     }
-    Fault::Nowhere
+    None
 }
 
 // The first place that breaks rule 3.
-pub fn first3(img: &[u16], total: usize) -> Fault
+pub fn first3(img: &[u16], total: usize) -> Option<Place>
     requires { Whole img.now × (total ≡ pages img.now) × Rule2 (pages img.now) (vol img.now) }
     ensures { Finds (spots3 (pages img.now) (vol img.now)) result }
 {

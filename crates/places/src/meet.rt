@@ -35,13 +35,11 @@ pub(crate) fn meet_run(marks: &mut [u16; 8796], lowest: usize, start: usize, n: 
     ensures { Meets marks.old lowest (λ p. sum n (λ i. hit p (start + i))) marks.new result }
 {
     let mut low = lowest;
-    let mut i: usize = 0;
-    while i < n {
+    for i in 0..n {
         if low <= start + i {
             return low;
         }
         low = meet(marks, low, start + i);
-        i += 1;
     }
     low
 }
@@ -52,10 +50,8 @@ fn meet_pages(img: &[u16], marks: &mut [u16; 8796], lowest: usize, t: usize) -> 
     ensures { Meets marks.old lowest (under (vol img.now) 0 t) marks.new result }
 {
     let mut low = lowest;
-    let mut k: usize = 0;
-    while k < 512 {
+    for k in 0..512 {
         low = meet(marks, low, slot_at(img, t, k));
-        k += 1;
     }
     low
 }
@@ -65,10 +61,7 @@ fn open_block(opened: &mut [u16; 17592], t: usize) -> bool
     requires { (t < most_pages) × (length opened.old ≡ opened_size) }
     ensures { Opening opened.old t opened.new result }
 {
-    if mark(opened, 2 * t) {
-        return true;
-    }
-    mark(opened, 2 * t + 1)
+    mark(opened, 2 * t) || mark(opened, 2 * t + 1)
 }
 
 // Meets index block t and its pages; a block that was opened twice is not opened again.
@@ -104,11 +97,9 @@ fn meet_indexes(
     ensures { Meets₁ (pages img.now) (vol img.now) marks.old ones.old lowest (under (vol img.now) 1 t) marks.new ones.new result }
 {
     let mut low = lowest;
-    let mut k: usize = 0;
-    while k < 512 {
+    for k in 0..512 {
         let b = slot_at(img, t, k);
         low = meet_index(img, marks, ones, low, b);
-        k += 1;
     }
     low
 }

@@ -25,8 +25,5 @@ pub(crate) fn name_ok(
     requires { On img.now (root_by flags top 0) q y × (q < pages img.now) × (0 < used (entry (vol img.now) (root_by flags top 0) y)) × TypeBytes n × (base ≤ y) }
     ensures { Decides result (LegalName (entry (vol img.now) (root_by flags top 0) y) 1 × Fresh (entry (vol img.now) (root_by flags top 0)) n base y) }
 {
-    if !entry_legal(img, q, y, NAME, 1, 16) {
-        return false;
-    }
-    fresh(img, flags, top, n, base, q, y)
+    entry_legal(img, q, y, NAME, 1, 16) && fresh(img, flags, top, n, base, q, y)
 }

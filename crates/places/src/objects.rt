@@ -14,9 +14,9 @@ ghost use Rattle.heads.specs.Twins.{FilesApart};
 ghost use Rattle.places.specs.Found.{Finds};
 ghost use Rattle.places.specs.Rows.{Objects, UsedObject, object_row};
 
-use crate::Fault;
 use crate::entry::place_of;
 use crate::named::name_ok;
+use book::Place;
 use heads::objects::page_ok;
 use heads::stamps::room;
 use heads::stored::entry_legal;
@@ -28,67 +28,54 @@ use tree::entry::{entry_used, entry_word};
 use tree::root::{root_page, user_page};
 
 // The first of the places of file f of user u, which is used and lies on page q.
-fn used_object(img: &[u16], flags: u16, top: usize, q: usize, u: usize, f: usize) -> Fault
+fn used_object(img: &[u16], flags: u16, top: usize, q: usize, u: usize, f: usize) -> Option<Place>
     requires { UsedObject img.now flags top q u f }
     ensures { Finds (object_spots (vol img.now) u f (file_entry u f)) result }
 {
     let e = 256 * u + f;
     let p = user_page(img, u);
     if !entry_used(img, p, u) {
-        return Fault::At {
-            place: place_of(q, e, 0),
-        };
+        return Some(place_of(q, e, 0));
     }
     if !name_ok(img, flags, top, 4, 256 * u, q, e) {
-        return Fault::At {
-            place: place_of(q, e, NAME),
-        };
+        return Some(place_of(q, e, NAME));
     }
     if !entry_legal(img, q, e, TYPE, 0, 4) {
-        return Fault::At {
-            place: place_of(q, e, TYPE),
-        };
+        return Some(place_of(q, e, TYPE));
     }
     if entry_word(img, q, e, OWNER) as usize != u {
-        return Fault::At {
-            place: place_of(q, e, OWNER),
-        };
+        return Some(place_of(q, e, OWNER));
     }
     if entry_word(img, q, e, NUMBER) as usize != e {
-        return Fault::At {
-            place: place_of(q, e, NUMBER),
-        };
+        return Some(place_of(q, e, NUMBER));
     }
-    Fault::Nowhere
+    None
 }
 
 // The same of any file: an unused one has no places.
-fn any_object(img: &[u16], flags: u16, top: usize, u: usize, f: usize) -> Fault
+fn any_object(img: &[u16], flags: u16, top: usize, u: usize, f: usize) -> Option<Place>
     requires { Objects img.now flags top × (u < 256) × (f < 256) }
     ensures { Finds (object_row (vol img.now) u f) result }
 {
     let e = 256 * u + f;
     let q = root_page(img, flags, top, 0, e / 32);
     if !entry_used(img, q, e) {
-        return Fault::Nowhere;
+        return None;
     }
     used_object(img, flags, top, q, u, f)
 }
 
 // The first of the places of the 256 files of user u.
-fn all_objects(img: &[u16], flags: u16, top: usize, u: usize) -> Fault
+fn all_objects(img: &[u16], flags: u16, top: usize, u: usize) -> Option<Place>
     requires { Objects img.now flags top × (u < 256) }
     ensures { Finds (each 256 (object_row (vol img.now) u)) result }
 {
-    let mut f: usize = 0;
-    while f < 256 {
-        let found = any_object(img, flags, top, u, f);
-        if let Fault::At { place } = found {
-            return Fault::At { place };
+    for f in 0..256 {
+        if let Some(place) = any_object(img, flags, top, u, f) {
+            return Some(place);
         }
-        f += 1;
     }
-    Fault::Nowhere
+    None
 }
 
 // Whether each of the 256 objects from `base` on is unused or right, but for names that are the same.
@@ -96,13 +83,10 @@ fn each_right(img: &[u16], flags: u16, top: usize, base: usize) -> bool
     requires { Objects img.now flags top × (base % 32 ≡ 0) × (base + 256 ≤ 65536) }
     ensures { Decides result (Span (FileFine (user (vol img.now)) (entry (vol img.now) (root_by flags top 0))) base (base + 256)) }
 {
-    let end = base + 256;
-    let mut first = base;
-    while first < end {
-        if !page_ok(img, flags, top, first) {
+    for i in 0..8 {
+        if !page_ok(img, flags, top, base + 32 * i) {
             return false;
         }
-        first += 32;
     }
     true
 }
@@ -121,30 +105,27 @@ fn all_right(img: &[u16], flags: u16, top: usize, u: usize) -> bool
 }
 
 // The first of the places of the files of user u, where the judge's tests are asked first.
-fn user_objects(img: &[u16], flags: u16, top: usize, u: usize) -> Fault
+fn user_objects(img: &[u16], flags: u16, top: usize, u: usize) -> Option<Place>
     requires { Objects img.now flags top × (u < 256) }
     ensures { Finds (each 256 (object_row (vol img.now) u)) result }
 {
     if !all_right(img, flags, top, u) {
         return all_objects(img, flags, top, u);
     }
-    Fault::Nowhere
+    None
 }
 
 // The first place that breaks rule 6.
-pub fn first6(img: &[u16]) -> Fault
+pub fn first6(img: &[u16]) -> Option<Place>
     requires { Whole img.now × Rule2 (pages img.now) (vol img.now) × Rule3 (pages img.now) (vol img.now) × Rule5 (pages img.now) (vol img.now) }
     ensures { Finds (spots6 (vol img.now)) result }
 {
     let flags = flags_at(img, 0, OBJECTS);
     let top = page_at(img, 0, OBJECTS) as usize;
-    let mut u: usize = 0;
-    while u < 256 {
-        let found = user_objects(img, flags, top, u);
-        if let Fault::At { place } = found {
-            return Fault::At { place };
+    for u in 0..256 {
+        if let Some(place) = user_objects(img, flags, top, u) {
+            return Some(place);
         }
-        u += 1;
     }
-    Fault::Nowhere
+    None
 }

@@ -7,7 +7,6 @@ ghost use Rattle.book.specs.Spots.{at};
 ghost use Rattle.places.specs.Found.{Finds, Reserved};
 ghost use Rattle.book.specs.Places.{spots9};
 
-use crate::Fault;
 use bits::PAGE_BITS;
 use bits::marks::mark_of;
 use book::Place;
@@ -24,18 +23,14 @@ fn bit_place(b: usize, p: usize) -> Place
 }
 
 // The first place that breaks rule 9; the bit file begins at page b, and the marks are those of the held pages.
-pub fn first9(img: &[u16], b: usize, marks: &[u16], total: usize) -> Fault
+pub fn first9(img: &[u16], b: usize, marks: &[u16], total: usize) -> Option<Place>
     requires { Reserved img.now total b marks.now }
     ensures { Finds (spots9 (pages img.now) (vol img.now)) result }
 {
-    let mut p: usize = 0;
-    while p < total {
+    for p in 0..total {
         if bits::test(img, b, p) != mark_of(marks, p) {
-            return Fault::At {
-                place: bit_place(b, p),
-            };
+            return Some(bit_place(b, p));
         }
-        p += 1;
     }
-    Fault::Nowhere
+    None
 }

@@ -6,7 +6,6 @@ ghost use Rattle.book.specs.Broken.{BrokenBy};
 ghost use Rattle.tree.specs.Ends.{Ends};
 ghost use Rattle.places.specs.Tell.{Breaks, place_of, plainly};
 
-use crate::Fault;
 use crate::counts::first10;
 use crate::files::first7;
 use crate::held::first8;
@@ -25,17 +24,14 @@ use walk::volume::mark_all;
 use who::tell::first_two;
 
 // The place that was found. A rule that is broken has one.
-fn place_of(fault: Fault) -> Place
+fn place_of(fault: Option<Place>) -> Place
     ensures { result ≡ place_of fault }
 {
-    match fault {
-        Fault::At { place } => place,
-        Fault::Nowhere => Place { page: 0, word: 0 },
-    }
+    fault.unwrap_or(Place { page: 0, word: 0 })
 }
 
 // A rule other than 8, broken there.
-fn plain(rule: u32, fault: Fault) -> Break
+fn plain(rule: u32, fault: Option<Place>) -> Break
     ensures { result ≡ plainly rule fault }
 {
     Break {
@@ -53,9 +49,7 @@ fn tell_held(img: &[u16], ten: bool, total: usize, ends: usize) -> Break
 {
     let place = place_of(first8(img, total, ends));
     let p = place.page;
-    let two = first_two(img, ends, p as usize);
-    let first = two.first;
-    let second = two.second;
+    let (first, second) = first_two(img, ends, p as usize);
     Break {
         rule: 8,
         place: Place { page: p, word: 0 },
@@ -87,16 +81,12 @@ fn tell_objects(img: &[u16], ten: bool, total: usize, rule: u32) -> Break
     ensures { BrokenBy ten (pages img.now) (vol img.now) result }
 {
     let ends = object_ends(img);
-    if rule == 6 {
-        return plain(6, first6(img));
+    match rule {
+        6 => plain(6, first6(img)),
+        7 => plain(7, first7(img, total, ends)),
+        8 => tell_held(img, ten, total, ends),
+        _ => tell_counts(img, ten, total, ends, rule),
     }
-    if rule == 7 {
-        return plain(7, first7(img, total, ends));
-    }
-    if rule == 8 {
-        return tell_held(img, ten, total, ends);
-    }
-    tell_counts(img, ten, total, ends, rule)
 }
 
 // What refusal 3 tells of an image whose lowest broken rule, of all ten or of those of the pointers alone, is this one.
@@ -105,20 +95,12 @@ pub fn tell(img: &[u16], ten: bool, rule: u32) -> Break
     ensures { BrokenBy ten (pages img.now) (vol img.now) result }
 {
     let total = img.len() / WORDS;
-    if rule == 1 {
-        return plain(1, first1(img, total));
+    match rule {
+        1 => plain(1, first1(img, total)),
+        2 => plain(2, first2(img, total)),
+        3 => plain(3, first3(img, total)),
+        4 => plain(4, first4(img, ten)),
+        5 => plain(5, first5(img, total)),
+        _ => tell_objects(img, ten, total, rule),
     }
-    if rule == 2 {
-        return plain(2, first2(img, total));
-    }
-    if rule == 3 {
-        return plain(3, first3(img, total));
-    }
-    if rule == 4 {
-        return plain(4, first4(img, ten));
-    }
-    if rule == 5 {
-        return plain(5, first5(img, total));
-    }
-    tell_objects(img, ten, total, rule)
 }

@@ -10,9 +10,9 @@ ghost use Rattle.tree.specs.Reach.{entry_in};
 ghost use Rattle.places.specs.Found.{Finds, Users, UserAt};
 ghost use Rattle.book.specs.Places.{user_spots, spots4};
 
-use crate::Fault;
 use crate::entry::place_of;
 use crate::named::name_ok;
+use book::Place;
 use heads::users::within;
 use page::USERS;
 use page::entry::{INDEX, NAME, USED};
@@ -25,61 +25,49 @@ fn own(img: &[u16], q: usize, u: usize) -> bool
     requires { q < pages img.now }
     ensures { Decides result (entry_in (vol img.now) q u 18 ≡ u) }
 {
-    if entry_word(img, q, u, INDEX) as usize != u {
-        return false;
-    }
-    true
+    entry_word(img, q, u, INDEX) as usize == u
 }
 
 // The first of the places of user u that are asked, who is used and lies on page q of the file with these flags and top page.
-fn used_user(img: &[u16], ten: bool, flags: u16, top: usize, q: usize, u: usize) -> Fault
+fn used_user(img: &[u16], ten: bool, flags: u16, top: usize, q: usize, u: usize) -> Option<Place>
     requires { UserAt img.now flags top q u }
     ensures { Finds (user_spots ten (vol img.now) u) result }
 {
     if !name_ok(img, flags, top, 0, 0, q, u) {
-        return Fault::At {
-            place: place_of(q, u, NAME),
-        };
+        return Some(place_of(q, u, NAME));
     }
     if !within(img, ten, q, u) {
-        return Fault::At {
-            place: place_of(q, u, USED),
-        };
+        return Some(place_of(q, u, USED));
     }
     if !own(img, q, u) {
-        return Fault::At {
-            place: place_of(q, u, INDEX),
-        };
+        return Some(place_of(q, u, INDEX));
     }
-    Fault::Nowhere
+    None
 }
 
 // The same of any user: an unused one has no places.
-fn any_user(img: &[u16], ten: bool, flags: u16, top: usize, u: usize) -> Fault
+fn any_user(img: &[u16], ten: bool, flags: u16, top: usize, u: usize) -> Option<Place>
     requires { Users img.now flags top × (u < 256) }
     ensures { Finds (when (used (user (vol img.now) u)) (user_spots ten (vol img.now) u)) result }
 {
     let q = root_page(img, flags, top, 0, u / 32);
     if !entry_used(img, q, u) {
-        return Fault::Nowhere;
+        return None;
     }
     used_user(img, ten, flags, top, q, u)
 }
 
 // The first place that breaks rule 4, by what is asked.
-pub fn first4(img: &[u16], ten: bool) -> Fault
+pub fn first4(img: &[u16], ten: bool) -> Option<Place>
     requires { Whole img.now × Rule2 (pages img.now) (vol img.now) × Rule3 (pages img.now) (vol img.now) }
     ensures { Finds (spots4 ten (vol img.now)) result }
 {
     let flags = flags_at(img, 0, USERS);
     let top = page_at(img, 0, USERS) as usize;
-    let mut u: usize = 0;
-    while u < 256 {
-        let found = any_user(img, ten, flags, top, u);
-        if let Fault::At { place } = found {
-            return Fault::At { place };
+    for u in 0..256 {
+        if let Some(place) = any_user(img, ten, flags, top, u) {
+            return Some(place);
         }
-        u += 1;
     }
-    Fault::Nowhere
+    None
 }

@@ -8,7 +8,7 @@ use native.Mathlib.Omega.{arith}
 use Rattle.places.proofs.block.block.Goals as goal
 
 pub loop-s-init : goal.loop-s-init
-loop-s-init c = (omega arith, passed_none _)
+loop-s-init c = passed_none _
 
 pub slot_at-x-requires : goal.slot_at-x-requires
 slot_at-x-requires c = (omega (arith, c.requires.inside), omega arith)
@@ -19,14 +19,14 @@ slot_place-requires c = (omega (arith, c.requires.inside, c.requires.most, c.req
 pub returns-then-not-filled : goal.returns-then-not-filled
 unfolding pointers
 returns-then-not-filled c = let P = pages c.args.img.now in let v = vol c.args.img.now in
-    each_first 512 (slot_row P v c.args.b c.args.least c.args.m) _ c.loop-s.s (omega arith) c.loop-s.invariant.1
+    each_first 512 (slot_row P v c.args.b c.args.least c.args.m) _ c.loop-s.s (omega arith) c.loop-s.invariant
     (slot-wrong P c.args.total c.requires.count v c.args.b c.args.least c.args.m c.loop-s.s c.slot_at-x.result c.slot_at-x.ensures.0 _ c.slot_place.ensures (fails c.filled.result _ c.filled.ensures c.if-not-filled.true-raw))
 
 pub loop-s-preserved : goal.loop-s-preserved
 loop-s-preserved c = let P = pages c.args.img.now in let v = vol c.args.img.now in
-    (omega arith, passed-more (slot_row P v c.args.b c.args.least c.args.m) c.loop-s.s c.loop-s.invariant.1 (slot-right P c.args.total c.requires.count v c.args.b c.args.least c.args.m c.loop-s.s c.slot_at-x.result c.slot_at-x.ensures.0 (holds c.filled.result _ c.filled.ensures c.if-not-filled.false-raw)))
+    passed-more (slot_row P v c.args.b c.args.least c.args.m) c.loop-s.s c.loop-s.invariant (slot-right P c.args.total c.requires.count v c.args.b c.args.least c.args.m c.loop-s.s c.slot_at-x.result c.slot_at-x.ensures.0 (holds c.filled.result _ c.filled.ensures c.if-not-filled.false-raw))
 
 pub returns : goal.returns
 unfolding pointers
 returns c = let P = pages c.args.img.now in let v = vol c.args.img.now in
-    each_all 512 c.loop-s.s (slot_row P v c.args.b c.args.least c.args.m) (omega arith) c.loop-s.invariant.1
+    each_all 512 c.loop-s.s (slot_row P v c.args.b c.args.least c.args.m) (omega arith) c.loop-s.invariant

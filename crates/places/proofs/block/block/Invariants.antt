@@ -2,11 +2,7 @@ use Rattle.places.proofs.Pointed.{slot_row}
 use Rattle.book.specs.Spots.{Passed}
 use Rattle.book.specs.Image.{pages}
 use Rattle.book.specs.Words.{vol}
-use Prim.Native.Nat.{◌≤◌, ◌-◌}
 use Rattle.places.proofs.block.block.Given as goal
 
 abbrev pub invariant-loop-s : goal.invariant-loop-s
-invariant-loop-s l = (l.s ≤ 512) × Passed (slot_row (pages l.img) (vol l.img) l.b l.least l.m) l.s
-
-abbrev pub decreases-loop-s : goal.decreases-loop-s
-decreases-loop-s l = 512 - l.s
+invariant-loop-s l = Passed (slot_row (pages l.img) (vol l.img) l.b l.least l.m) l.s

@@ -1,5 +1,4 @@
 use Rattle.places.proofs.Counted.{counts-right, counts-wrong, sum-right, sum-wrong}
-use Rattle.places.proofs.Finding.{found_at, found_right}
 use Rattle.shape.proofs.Users.{reach-users}
 use Rattle.shape.proofs.Objects.{objects-at}
 use Rattle.book.specs.Decides.{holds, fails}
@@ -7,8 +6,8 @@ use Rattle.book.specs.Image.{pages}
 use Rattle.book.specs.Words.{vol}
 use Rattle.places.proofs.counts.first10.Goals as goal
 
-pub used_counts-found-requires : goal.used_counts-found-requires
-used_counts-found-requires c =
+pub used_counts-requires : goal.used_counts-requires
+used_counts-requires c =
     record {
       objects = objects-at c.args.img.now _ _ c.requires.0 c.requires.2 c.requires.4 c.flags_at-flags.ensures.0 c.page_at-top.ensures.0;
       ends = c.requires.8;
@@ -17,14 +16,14 @@ used_counts-found-requires c =
       shapes = c.requires.6;
     }
 
-pub returns-in-At : goal.returns-in-At
-returns-in-At c = counts-wrong (pages c.args.img.now) (vol c.args.img.now) _ (found_at _ c.used_counts-found.result c.used_counts-found.ensures _ c.in-At.is)
+pub returns-in-Some : goal.returns-in-Some
+returns-in-Some c = counts-wrong (pages c.args.img.now) (vol c.args.img.now) _ c.in-Some.ensures
 
 pub sum_ok-requires : goal.sum_ok-requires
-sum_ok-requires c = (c.requires.0, c.requires.1, reach-users c.args.img.now c.requires.0 c.requires.2 c.requires.3, c.requires.7, c.requires.5, c.requires.6, counts-right (pages c.args.img.now) (vol c.args.img.now) c.requires.6 (found_right _ c.used_counts-found.result c.used_counts-found.ensures c.in_default.is))
+sum_ok-requires c = (c.requires.0, c.requires.1, reach-users c.args.img.now c.requires.0 c.requires.2 c.requires.3, c.requires.7, c.requires.5, c.requires.6, counts-right (pages c.args.img.now) (vol c.args.img.now) c.requires.6 c.in_default.ensures)
 
 pub returns-then-not-sum_ok : goal.returns-then-not-sum_ok
-returns-then-not-sum_ok c = sum-wrong (pages c.args.img.now) (vol c.args.img.now) _ c.master_place.ensures (found_right _ c.used_counts-found.result c.used_counts-found.ensures c.in_default.is) (fails c.sum_ok.result _ c.sum_ok.ensures c.if-not-sum_ok.true-raw)
+returns-then-not-sum_ok c = sum-wrong (pages c.args.img.now) (vol c.args.img.now) _ c.master_place.ensures c.in_default.ensures (fails c.sum_ok.result _ c.sum_ok.ensures c.if-not-sum_ok.true-raw)
 
 pub returns : goal.returns
-returns c = sum-right (pages c.args.img.now) (vol c.args.img.now) (found_right _ c.used_counts-found.result c.used_counts-found.ensures c.in_default.is) (holds c.sum_ok.result _ c.sum_ok.ensures c.if-not-sum_ok.false-raw)
+returns c = sum-right (pages c.args.img.now) (vol c.args.img.now) c.in_default.ensures (holds c.sum_ok.result _ c.sum_ok.ensures c.if-not-sum_ok.false-raw)

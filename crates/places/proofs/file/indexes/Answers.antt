@@ -10,31 +10,26 @@ use native.Mathlib.Omega.{arith}
 use Rattle.places.proofs.file.indexes.Goals as goal
 
 pub loop-i-init : goal.loop-i-init
-loop-i-init c = (omega arith, passed_none _)
+loop-i-init c = passed_none _
 
 pub slot_at-b-requires : goal.slot_at-b-requires
 slot_at-b-requires c = (omega (arith, c.requires.0.inside), omega (arith, c.requires.2))
 
-pub left-k-requires : goal.left-k-requires
-left-k-requires c = omega (arith, c.requires.2)
-
-pub block-found-requires : goal.block-found-requires
-block-found-requires c =
+pub block-requires : goal.block-requires
+block-requires c =
     let h = slot-inside (pages c.args.img.now) (vol c.args.img.now) c.args.t c.args.m c.requires.1 c.loop-i.i (omega (arith, c.requires.2)) in
     record { count = c.requires.0.count; most = c.requires.0.most; inside = omega (arith, h, c.slot_at-b.ensures.0) }
 
-pub returns-in-At : goal.returns-in-At
-returns-in-At c = let P = pages c.args.img.now in let v = vol c.args.img.now in
-    each_first c.args.m (λ i. pointers v (slot v c.args.t i) (Must P (c.args.n - i * 512))) _ c.loop-i.i (omega arith) c.loop-i.invariant.1
-    (found_at _ c.block-found.result (block-found P v c.slot_at-b.result (slot v c.args.t c.loop-i.i) (c.args.n - c.loop-i.i * 512) c.left-k.result c.block-found.result c.slot_at-b.ensures.0 c.left-k.ensures c.block-found.ensures) _ c.in-At.is)
+pub returns-in-Some : goal.returns-in-Some
+returns-in-Some c = let P = pages c.args.img.now in let v = vol c.args.img.now in
+    each_first c.args.m (λ i. pointers v (slot v c.args.t i) (Must P (c.args.n - i * 512))) _ c.loop-i.i (omega arith) c.loop-i.invariant
+    (found_at _ c.block.result (block-found P v c.slot_at-b.result (slot v c.args.t c.loop-i.i) (c.args.n - c.loop-i.i * 512) c.saturating_sub-k.result c.block.result c.slot_at-b.ensures.0 c.saturating_sub-k.ensures c.block.ensures) _ c.in-Some.is)
 
 pub loop-i-preserved : goal.loop-i-preserved
-loop-i-preserved c = let P = pages c.args.img.now in let v = vol c.args.img.now in (
-  omega arith,
-  passed-more (λ i. pointers v (slot v c.args.t i) (Must P (c.args.n - i * 512))) c.loop-i.i c.loop-i.invariant.1
-      (found_right _ c.block-found.result (block-found P v c.slot_at-b.result (slot v c.args.t c.loop-i.i) (c.args.n - c.loop-i.i * 512) c.left-k.result c.block-found.result c.slot_at-b.ensures.0 c.left-k.ensures c.block-found.ensures) c.in_default.is),
-)
+loop-i-preserved c = let P = pages c.args.img.now in let v = vol c.args.img.now in
+    passed-more (λ i. pointers v (slot v c.args.t i) (Must P (c.args.n - i * 512))) c.loop-i.i c.loop-i.invariant
+    (found_right _ c.block.result (block-found P v c.slot_at-b.result (slot v c.args.t c.loop-i.i) (c.args.n - c.loop-i.i * 512) c.saturating_sub-k.result c.block.result c.slot_at-b.ensures.0 c.saturating_sub-k.ensures c.block.ensures) c.in_default.is)
 
 pub returns : goal.returns
 returns c = let P = pages c.args.img.now in let v = vol c.args.img.now in
-    each_all c.args.m c.loop-i.i (λ i. pointers v (slot v c.args.t i) (Must P (c.args.n - i * 512))) (omega arith) c.loop-i.invariant.1
+    each_all c.args.m c.loop-i.i (λ i. pointers v (slot v c.args.t i) (Must P (c.args.n - i * 512))) (omega arith) c.loop-i.invariant

@@ -3,11 +3,8 @@ use Rattle.book.specs.Spots.{Passed}
 use Rattle.book.specs.Image.{pages}
 use Rattle.book.specs.Pointers.{slot}
 use Rattle.book.specs.Words.{vol}
-use Prim.Native.Nat.{◌≤◌, ◌-◌, ◌*◌}
+use Prim.Native.Nat.{◌-◌, ◌*◌}
 use Rattle.places.proofs.file.indexes.Given as goal
 
 abbrev pub invariant-loop-i : goal.invariant-loop-i
-invariant-loop-i l = (l.i ≤ l.m) × Passed (λ j. pointers (vol l.img) (slot (vol l.img) l.t j) (Must (pages l.img) (l.n - j * 512))) l.i
-
-abbrev pub decreases-loop-i : goal.decreases-loop-i
-decreases-loop-i l = l.m - l.i
+invariant-loop-i l = Passed (λ j. pointers (vol l.img) (slot (vol l.img) l.t j) (Must (pages l.img) (l.n - j * 512))) l.i

@@ -12,11 +12,11 @@ use Rattle.places.proofs.Shaped.{position-found}
 use Rattle.places.proofs.files.first7.Goals as goal
 
 pub loop-n-init : goal.loop-n-init
-loop-n-init c = (omega arith, recalled-none _ 140733 c.requires.0.most _ _ c.most_marks-seen.ensures c.most_marks-trees.ensures, right-none _ _ 0, search rules, search rules)
+loop-n-init c = (recalled-none _ 140733 c.requires.0.most _ _ c.most_marks-seen.ensures c.most_marks-trees.ensures, right-none _ _ 0, search rules, search rules)
 
 pub position_ok-requires : goal.position_ok-requires
 position_ok-requires c = (
-  record { whole = c.requires.0; count = c.requires.1; memory = c.loop-n.invariant.1 },
+  record { whole = c.requires.0; count = c.requires.1; memory = c.loop-n.invariant.0 },
   objects-at c.args.img.now _ _ c.requires.0 c.requires.2 c.requires.3 c.flags_at-flags.ensures.0 c.page_at-top.ensures.0,
   omega (arith, c.requires.4.most),
 )
@@ -37,14 +37,14 @@ page_files-requires c =
 
 pub returns-then-not-position_ok : goal.returns-then-not-position_ok
 returns-then-not-position_ok c = let v = vol c.args.img.now in let P = pages c.args.img.now in
-    position-found P v c.loop-n.n (omega (arith, c.requires.4.most)) c.loop-n.invariant.2
+    position-found P v c.loop-n.n (omega (arith, c.requires.4.most)) c.loop-n.invariant.1
     (failed (FilesRight P v (32 * c.loop-n.n) (32 * c.loop-n.n + 32)) _ c.position_ok.result c.position_ok.ensures c.if-not-position_ok.true-raw)
     c.page_files.result c.page_files.ensures
 
 pub loop-n-preserved : goal.loop-n-preserved
 loop-n-preserved c = let v = vol c.args.img.now in let P = pages c.args.img.now in
     let w = passed (FilesRight P v (32 * c.loop-n.n) (32 * c.loop-n.n + 32)) _ c.position_ok.result c.position_ok.ensures c.if-not-position_ok.false-raw in
-    (omega arith, w.1, right-page P v c.loop-n.n c.loop-n.invariant.2 w.0, omega arith, omega arith)
+    (w.1, right-page P v c.loop-n.n c.loop-n.invariant.1 w.0, omega arith, omega arith)
 
 pub returns : goal.returns
-returns c = all7 (pages c.args.img.now) (vol c.args.img.now) (right-all c.args.img.now c.args.ends c.requires.4 (λ e h. c.loop-n.invariant.2 e (omega arith)))
+returns c = all7 (pages c.args.img.now) (vol c.args.img.now) (right-all c.args.img.now c.args.ends c.requires.4 (λ e h. c.loop-n.invariant.1 e (omega arith)))

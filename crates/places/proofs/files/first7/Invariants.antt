@@ -1,5 +1,5 @@
 use mathlib.Core.Path.{◌≡◌}
-use Prim.Native.Nat.{◌-◌, ◌*◌, ◌≤◌}
+use Prim.Native.Nat.{◌*◌}
 use lib.ListN.{length}
 use Rattle.book.specs.Image.{pages}
 use Rattle.book.specs.Words.{vol}
@@ -8,8 +8,5 @@ use Rattle.shape.specs.Shapes.{FilesRight}
 use Rattle.places.proofs.files.first7.Given as goal
 
 abbrev pub invariant-loop-n : goal.invariant-loop-n
-invariant-loop-n l = (l.n ≤ l.ends) × Recalled l.img l.seen l.trees × FilesRight (pages l.img) (vol l.img) 0 (32 * l.n)
+invariant-loop-n l = Recalled l.img l.seen l.trees × FilesRight (pages l.img) (vol l.img) 0 (32 * l.n)
     × (length l.seen ≡ 8796) × (length l.trees ≡ 8796)
-
-abbrev pub decreases-loop-n : goal.decreases-loop-n
-decreases-loop-n l = l.ends - l.n

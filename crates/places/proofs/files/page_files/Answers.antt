@@ -16,13 +16,13 @@ pub overflow_mul-e : goal.overflow_mul-e
 overflow_mul-e c = omega (arith, c.requires.most)
 
 pub loop-k-init : goal.loop-k-init
-loop-k-init c = (omega arith, recalled-none _ 140733 c.requires.whole.most _ _ c.most_marks-seen.ensures c.most_marks-trees.ensures, right-none _ _ _, search rules, search rules)
+loop-k-init c = (recalled-none _ 140733 c.requires.whole.most _ _ c.most_marks-seen.ensures c.most_marks-trees.ensures, right-none _ _ _, search rules, search rules)
 
 pub overflow_add-e : goal.overflow_add-e
 overflow_add-e c = omega (arith, c.requires.most)
 
 pub entry_ok-requires : goal.entry_ok-requires
-entry_ok-requires c = (record { whole = c.requires.whole; count = c.requires.count; memory = c.loop-k.invariant.1 }, c.requires.inside)
+entry_ok-requires c = (record { whole = c.requires.whole; count = c.requires.count; memory = c.loop-k.invariant.0 }, c.requires.inside)
 
 pub overflow_add-e-then-not-entry_ok : goal.overflow_add-e-then-not-entry_ok
 overflow_add-e-then-not-entry_ok c = omega (arith, c.requires.most)
@@ -34,13 +34,13 @@ pub returns-then-not-entry_ok : goal.returns-then-not-entry_ok
 returns-then-not-entry_ok c = let v = vol c.args.img.now in let P = pages c.args.img.now in
     entry_found c.args.img.now c.args.total c.args.q c.args.n c.loop-k.k c.requires (omega arith)
     (failed (EntryRight P v (entry_in v c.args.q (32 * c.args.n + c.loop-k.k))) _ c.entry_ok.result c.entry_ok.ensures c.if-not-entry_ok.true-raw)
-    c.loop-k.invariant.2 c.file.result c.file.ensures
+    c.loop-k.invariant.1 c.file.result c.file.ensures
 
 pub loop-k-preserved : goal.loop-k-preserved
 loop-k-preserved c = let v = vol c.args.img.now in let P = pages c.args.img.now in
     let w = passed (EntryRight P v (entry_in v c.args.q (32 * c.args.n + c.loop-k.k))) _ c.entry_ok.result c.entry_ok.ensures c.if-not-entry_ok.false-raw in
-    (omega arith, w.1, right-more P v (32 * c.args.n) c.loop-k.k c.loop-k.invariant.2 (right-at v c.args.n c.loop-k.k c.args.q (omega arith) c.requires.on P w.0), omega arith, omega arith)
+    (w.1, right-more P v (32 * c.args.n) c.loop-k.k c.loop-k.invariant.1 (right-at v c.args.n c.loop-k.k c.args.q (omega arith) c.requires.on P w.0), omega arith, omega arith)
 
 pub returns : goal.returns
 returns c = let v = vol c.args.img.now in let P = pages c.args.img.now in
-    each_all 32 c.loop-k.k (λ i. file_row P v (32 * c.args.n + i)) (omega arith) (page-passed P v (32 * c.args.n) c.loop-k.k c.loop-k.invariant.2)
+    each_all 32 c.loop-k.k (λ i. file_row P v (32 * c.args.n + i)) (omega arith) (page-passed P v (32 * c.args.n) c.loop-k.k c.loop-k.invariant.1)

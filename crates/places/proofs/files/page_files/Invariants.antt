@@ -1,5 +1,5 @@
 use mathlib.Core.Path.{◌≡◌}
-use Prim.Native.Nat.{◌+◌, ◌-◌, ◌*◌, ◌≤◌}
+use Prim.Native.Nat.{◌+◌, ◌*◌}
 use lib.ListN.{length}
 use Rattle.book.specs.Image.{pages}
 use Rattle.book.specs.Words.{vol}
@@ -8,8 +8,5 @@ use Rattle.shape.specs.Shapes.{FilesRight}
 use Rattle.places.proofs.files.page_files.Given as goal
 
 abbrev pub invariant-loop-k : goal.invariant-loop-k
-invariant-loop-k l = (l.k ≤ 32) × Recalled l.img l.seen l.trees × FilesRight (pages l.img) (vol l.img) (32 * l.n) (32 * l.n + l.k)
+invariant-loop-k l = Recalled l.img l.seen l.trees × FilesRight (pages l.img) (vol l.img) (32 * l.n) (32 * l.n + l.k)
     × (length l.seen ≡ 8796) × (length l.trees ≡ 8796)
-
-abbrev pub decreases-loop-k : goal.decreases-loop-k
-decreases-loop-k l = 32 - l.k

@@ -7,18 +7,18 @@ use native.Mathlib.Omega.{arith}
 use Rattle.places.proofs.meet.meet_pages.Goals as goal
 
 pub loop-k-init : goal.loop-k-init
-loop-k-init c = (omega arith, turns-none _ _ (λ j p. weigh (vol c.args.img.now) 0 (slot (vol c.args.img.now) c.args.t j) (hit p)) c.requires.0)
+loop-k-init c = turns-none _ _ (λ j p. weigh (vol c.args.img.now) 0 (slot (vol c.args.img.now) c.args.t j) (hit p)) c.requires.0
 
 pub slot_at-requires : goal.slot_at-requires
 slot_at-requires c = (c.requires.1, omega arith)
 
 pub meet-low-requires : goal.meet-low-requires
-meet-low-requires c = room-on _ _ _ _ _ c.requires.0 c.loop-k.invariant.1
+meet-low-requires c = room-on _ _ _ _ _ c.requires.0 c.loop-k.invariant
 
 pub loop-k-preserved : goal.loop-k-preserved
 loop-k-preserved c = let v = vol c.args.img.now in
-    (omega arith, turns_more _ _ (λ j p. weigh v 0 (slot v c.args.t j) (hit p)) c.loop-k.k _ _ _ _ c.loop-k.invariant.1 (slot-met v c.args.t c.loop-k.k c.slot_at.result _ _ _ _ c.slot_at.ensures.0 c.meet-low.ensures))
+    turns_more _ _ (λ j p. weigh v 0 (slot v c.args.t j) (hit p)) c.loop-k.k _ _ _ _ c.loop-k.invariant (slot-met v c.args.t c.loop-k.k c.slot_at.result _ _ _ _ c.slot_at.ensures.0 c.meet-low.ensures)
 
 pub returns : goal.returns
 returns c = let v = vol c.args.img.now in
-    turns-end _ _ (λ j p. weigh v 0 (slot v c.args.t j) (hit p)) c.loop-k.k 512 (omega arith) _ _ c.loop-k.invariant.1
+    turns-end _ _ (λ j p. weigh v 0 (slot v c.args.t j) (hit p)) c.loop-k.k 512 (omega arith) _ _ c.loop-k.invariant

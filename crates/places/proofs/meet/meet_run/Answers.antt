@@ -6,16 +6,16 @@ use Prim.Native.Nat.{◌+◌}
 use Rattle.places.proofs.meet.meet_run.Goals as goal
 
 pub loop-i-init : goal.loop-i-init
-loop-i-init c = (omega arith, turns-none _ _ (λ j p. hit p (c.args.start + j)) c.requires.0)
+loop-i-init c = turns-none _ _ (λ j p. hit p (c.args.start + j)) c.requires.0
 
 pub returns-then-low-start : goal.returns-then-low-start
-returns-then-low-start c = turns-past _ _ (λ j p. hit p (c.args.start + j)) c.loop-i.i _ (omega arith) _ _ c.requires.0.most c.loop-i.invariant.1 (λ j p h l. hit_other p (c.args.start + j) (λ e. omega arith))
+returns-then-low-start c = turns-past _ _ (λ j p. hit p (c.args.start + j)) c.loop-i.i _ (omega arith) _ _ c.requires.0.most c.loop-i.invariant (λ j p h l. hit_other p (c.args.start + j) (λ e. omega arith))
 
 pub meet-low-requires : goal.meet-low-requires
-meet-low-requires c = room-on _ _ _ _ _ c.requires.0 c.loop-i.invariant.1
+meet-low-requires c = room-on _ _ _ _ _ c.requires.0 c.loop-i.invariant
 
 pub loop-i-preserved : goal.loop-i-preserved
-loop-i-preserved c = (omega arith, turns_more _ _ (λ j p. hit p (c.args.start + j)) c.loop-i.i _ _ _ _ c.loop-i.invariant.1 c.meet-low.ensures)
+loop-i-preserved c = turns_more _ _ (λ j p. hit p (c.args.start + j)) c.loop-i.i _ _ _ _ c.loop-i.invariant c.meet-low.ensures
 
 pub returns : goal.returns
-returns c = turns-end _ _ (λ j p. hit p (c.args.start + j)) c.loop-i.i _ (omega arith) _ _ c.loop-i.invariant.1
+returns c = turns-end _ _ (λ j p. hit p (c.args.start + j)) c.loop-i.i _ (omega arith) _ _ c.loop-i.invariant

@@ -1,11 +1,8 @@
 use Rattle.places.specs.Low.{Meets}
 use Rattle.book.specs.Holders.{hit}
 use Rattle.sums.specs.Sum.{sum}
-use Prim.Native.Nat.{◌+◌, ◌-◌, ◌≤◌}
+use Prim.Native.Nat.{◌+◌}
 use Rattle.places.proofs.meet.meet_run.Given as goal
 
 abbrev pub invariant-loop-i : goal.invariant-loop-i
-invariant-loop-i l = (l.i ≤ l.n) × Meets l.initial.marks l.lowest (λ p. sum l.i (λ j. hit p (l.start + j))) l.marks l.low
-
-abbrev pub decreases-loop-i : goal.decreases-loop-i
-decreases-loop-i l = l.n - l.i
+invariant-loop-i l = Meets l.initial.marks l.lowest (λ p. sum l.i (λ j. hit p (l.start + j))) l.marks l.low

@@ -1,6 +1,6 @@
-use mathlib.Core.Path.{sym, ap}
-use Rattle.places.specs.Tell.{place_of}
+use mathlib.Core.Path.{◌∙◌}
+use Rattle.places.proofs.Telling.{place-or}
 use Rattle.places.proofs.tell.place_of.Goals as goal
 
-pub returns-in-Nowhere : goal.returns-in-Nowhere
-returns-in-Nowhere c = sym (ap place_of c.in-Nowhere.is)
+pub returns : goal.returns
+returns c = c.unwrap_or.ensures ∙ place-or c.args.fault

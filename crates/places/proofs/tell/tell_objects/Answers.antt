@@ -10,14 +10,14 @@ object_ends-ends-requires c = record { some = omega (arith, c.requires.0.whole.l
 pub first6-requires : goal.first6-requires
 first6-requires c = (c.requires.0.whole, (above2 _ _ _ _ c.requires.0.lowest (omega arith)).0, (above3 _ _ _ _ c.requires.0.lowest (omega arith)).0, (above5 _ _ _ _ c.requires.0.lowest c.requires.1).0)
 
-pub returns-then-rule-eq6 : goal.returns-then-rule-eq6
-returns-then-rule-eq6 c = told6 _ _ _ c.requires.0 c.first6.result _ c.if-rule-eq6.true c.first6.ensures c.plain.ensures
+pub returns-in-6 : goal.returns-in-6
+returns-in-6 c = told6 _ _ _ c.requires.0 c.first6.result _ c.in-6.is c.first6.ensures c.plain.ensures
 
 pub first7-requires : goal.first7-requires
 first7-requires c = (c.requires.0.whole, c.requires.2, (above2 _ _ _ _ c.requires.0.lowest (omega arith)).0, (above5 _ _ _ _ c.requires.0.lowest c.requires.1).0, c.object_ends-ends.ensures)
 
-pub returns-then-rule-eq7 : goal.returns-then-rule-eq7
-returns-then-rule-eq7 c = told7 _ _ _ c.requires.0 c.first7.result _ c.if-rule-eq7.true c.first7.ensures c.plain-then-rule-eq7.ensures
+pub returns-in-7 : goal.returns-in-7
+returns-in-7 c = told7 _ _ _ c.requires.0 c.first7.result _ c.in-7.is c.first7.ensures c.plain-in-7.ensures
 
 pub tell_held-requires : goal.tell_held-requires
-tell_held-requires c = (breaks-at _ _ _ c.requires.0 c.if-rule-eq8.true, c.requires.2, c.object_ends-ends.ensures)
+tell_held-requires c = (breaks-at _ _ _ c.requires.0 c.in-8.is, c.requires.2, c.object_ends-ends.ensures)

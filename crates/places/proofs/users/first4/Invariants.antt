@@ -1,11 +1,7 @@
 use Rattle.book.specs.Places.{user_row}
 use Rattle.book.specs.Spots.{Passed}
 use Rattle.book.specs.Words.{vol}
-use Prim.Native.Nat.{◌≤◌, ◌-◌}
 use Rattle.places.proofs.users.first4.Given as goal
 
 abbrev pub invariant-loop-u : goal.invariant-loop-u
-invariant-loop-u l = (l.u ≤ 256) × Passed (user_row l.ten (vol l.img)) l.u
-
-abbrev pub decreases-loop-u : goal.decreases-loop-u
-decreases-loop-u l = 256 - l.u
+invariant-loop-u l = Passed (user_row l.ten (vol l.img)) l.u

@@ -1,7 +1,6 @@
 -- `who::kinds::bits_from` meets its contract. Assumes nothing.
 use mathlib.Core.Path.{ap₂}
 use Prim.Native.Nat.{ℕ, ◌+◌}
-use native.Mathlib.Omega.{arith}
 use Rattle.book.specs.Words.{vol}
 use Rattle.book.specs.Trees.{upto, page_at}
 use Rattle.book.specs.Bits.{bit_file}
@@ -9,9 +8,6 @@ use Rattle.book.specs.Image.{pages}
 use Rattle.who.specs.Turns.{positions}
 use Rattle.who.proofs.Leasts.{least_by}
 use Rattle.who.proofs.kinds.bits_from.Goals as goal
-
-pub run_from-requires : goal.run_from-requires
-run_from-requires c = (c.requires.1, c.requires.2, omega (arith, c.bit_pages-count.ensures, c.requires.0.whole.most))
 
 pub returns : goal.returns
 unfolding bit_file page_at

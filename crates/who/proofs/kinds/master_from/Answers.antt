@@ -13,18 +13,12 @@ use Rattle.who.proofs.Leasts.{none_zero}
 use Rattle.who.proofs.Classes.{by-run, by_count, class-none}
 use Rattle.who.proofs.kinds.master_from.Goals as goal
 
-pub flags_at-flags-requires : goal.flags_at-flags-requires
-flags_at-flags-requires c = omega (arith, c.requires.3.some)
-
 pub returns-then-flags-eq0 : goal.returns-then-flags-eq0
 returns-then-flags-eq0 c = let v = vol c.args.img.now in let t = page (v 0) c.args.k in (
   none_zero (λ (i : ℕ). class_page v (root_at (v 0) c.args.k 0) c.args.class i) c.args.p c.args.n positions c.requires.0.page
       (λ i. class-none v (root_at (v 0) c.args.k 0) t c.args.class i (root-read (v 0) c.args.k 0 c.flags_at-flags.result t 0 c.flags_at-flags.ensures.0 refl refl ∙ by-run c.flags_at-flags.result t 0 c.if-flags-eq0.true)),
   c.requires.0,
 )
-
-pub page_at-top-requires : goal.page_at-top-requires
-page_at-top-requires c = omega (arith, c.requires.3.some)
 
 pub class_from-requires : goal.class_from-requires
 class_from-requires c = let v = vol c.args.img.now in

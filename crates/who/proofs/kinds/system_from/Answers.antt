@@ -13,14 +13,8 @@ pub returns-then-kind-lt2 : goal.returns-then-kind-lt2
 returns-then-kind-lt2 c = let P = pages c.args.img.now in let v = vol c.args.img.now in
     (none_zero (λ (i : ℕ). kind_page P v c.args.kind i) c.args.p c.args.n positions c.requires.0.page (λ i. kind-low P v c.args.kind i c.if-kind-lt2.true), c.requires.0)
 
-pub bits_from-requires : goal.bits_from-requires
-bits_from-requires c = (c.requires.1, c.requires.0.page, c.requires.3)
-
 pub returns-then-kind-eq2 : goal.returns-then-kind-eq2
 returns-then-kind-eq2 c = (kind-bits (pages c.args.img.now) (vol c.args.img.now) c.args.p c.args.n positions c.bits_from.result c.args.kind c.if-kind-eq2.true c.bits_from.ensures, c.requires.0)
-
-pub user_index_from-requires : goal.user_index_from-requires
-user_index_from-requires c = (c.requires.0, c.requires.1, c.requires.3)
 
 pub returns-then-kind-eq3 : goal.returns-then-kind-eq3
 returns-then-kind-eq3 c = (kind-index (pages c.args.img.now) (vol c.args.img.now) c.args.p c.args.n positions c.user_index_from.result c.args.kind c.if-kind-eq3.true c.user_index_from.ensures.0, c.user_index_from.ensures.1)

@@ -1,6 +1,5 @@
 -- `who::roots::class_from` meets its contract. Assumes nothing.
 use mathlib.Core.Path.{sym}
-use native.Mathlib.Omega.{arith}
 use Rattle.book.specs.Words.{vol}
 use Rattle.who.proofs.Classes.{class-at}
 use Rattle.who.proofs.roots.class_from.Goals as goal
@@ -8,11 +7,3 @@ use Rattle.who.proofs.roots.class_from.Goals as goal
 pub returns-then-class-eq0 : goal.returns-then-class-eq0
 returns-then-class-eq0 c = let v = vol c.args.img.now in
     (class-at v c.args.flags c.args.top c.args.count c.args.p c.args.n c.subindex_from.result 0 c.args.class (sym c.if-class-eq0.true) (c.subindex_from.ensures v c.args.count), c.requires.0)
-
-pub returns-then-class-eq1 : goal.returns-then-class-eq1
-returns-then-class-eq1 c = let v = vol c.args.img.now in
-    (class-at v c.args.flags c.args.top c.args.count c.args.p c.args.n c.index_from.result 1 c.args.class (sym c.if-class-eq1.true) c.index_from.ensures.0, c.index_from.ensures.1)
-
-pub returns : goal.returns
-returns c = let v = vol c.args.img.now in
-    (class-at v c.args.flags c.args.top c.args.count c.args.p c.args.n c.data_from.result 2 c.args.class (omega arith) c.data_from.ensures.0, c.data_from.ensures.1)
