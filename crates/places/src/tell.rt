@@ -19,7 +19,6 @@ use book::{Break, Holder, Place};
 use page::read::page_at;
 use page::{BITS, WORDS};
 use tree::root::object_ends;
-use walk::Walk;
 use walk::volume::mark_all;
 use who::tell::first_two;
 
@@ -64,8 +63,7 @@ fn tell_counts(img: &[u16], ten: bool, total: usize, ends: usize, rule: u32) -> 
     ensures { BrokenBy ten (pages img.now) (vol img.now) result }
 {
     let mut marks = most_marks();
-    let w = mark_all(img, &mut marks, total, ends);
-    let Walk::On { visited } = w else {
+    let Some(visited) = mark_all(img, &mut marks, total, ends) else {
         return tell_held(img, ten, total, ends);
     };
     if rule == 9 {
