@@ -1,4 +1,5 @@
 -- Laws that proofs of this crate and of its users cite.
+pub mod Each
 pub mod Blocks
 pub mod Files
 pub mod Objects

@@ -49,6 +49,12 @@ module _ (v : Vol) (n k q : ℕ) (h : k < 32) (at : q ≡ object_page v (32 * n)
   unfolding FileShape
   at_right P f = subst (EntryRight P v) (sym entry-at) f
 
+-- all files of object page q, the one at position n
+pub right-entries : (v : Vol) (n q : ℕ) → q ≡ object_page v (32 * n) → (P : ℕ) → ((k : ℕ) → k < 32 → 0 ≤ k → EntryRight P v (entry_in v q (32 * n + k))) → FilesRight P v (32 * n) (32 * n + 32)
+right-entries v n q at P f e h i =
+    let s : 32 * n + (e - 32 * n) ≡ e = omega arith in
+    subst (λ (x : ℕ). 0 < used (object v x) → FileShape P v x) s (right-at v n (e - 32 * n) q (omega arith) at P (f (e - 32 * n) (omega arith) (omega arith)))
+
 -- ---- files in a row
 
 module _ (P : ℕ) (v : Vol) where

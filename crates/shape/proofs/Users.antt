@@ -62,13 +62,6 @@ module _ (v : Vol) (q first : ℕ) (f : first % 32 ≡ 0) (at : q ≡ user_page 
   pub users-absent : UsersRight v first (first + 32)
   users-absent u l h i = absurd (absent-user v q first u f h l at z i)
 
--- the users before, and those of the next page
-pub users-more : (v : Vol) (n : ℕ) → UsersRight v 0 n → UsersRight v n (n + 32) → UsersRight v 0 (n + 32)
-users-more v n f g u h i = elim (dec_lt u n) [
-  | yes l ↦ f u l i
-  | no l ↦ g u h (omega arith)
-]
-
 -- ---- sums
 
 -- the given pages

@@ -18,15 +18,11 @@ pub fn index_ok(img: &[u16], total: usize, b: usize, n: usize) -> bool
     requires { Whole img.now × (total ≡ pages img.now) × (0 < n) × (n ≤ 512) }
     ensures { Decides result (Filled (pages img.now) (vol img.now) 1 b n) }
 {
-    if b == 0 {
-        return false;
-    }
-    if total <= b {
+    if b == 0 || total <= b {
         return false;
     }
     let a = WORDS * b;
-    let z = a + WORDS;
-    filled(&img[a..z], n, 1, total)
+    filled(&img[a..a + WORDS], n, 1, total)
 }
 
 // Of n positions, those under slot k of a subindex block.
@@ -34,11 +30,7 @@ fn share(n: usize, k: usize) -> usize
     requires { (k < 512) × (k * 512 < n) }
     ensures { (result ≡ share_of 1 n k) × (0 < result) × (result ≤ 512) }
 {
-    let rest = n - k * 512;
-    if rest < 512 {
-        return rest;
-    }
-    512
+    (n - k * 512).min(512)
 }
 
 // Whether page b is an index block of n pages. A full one is marked as seen, and not read again: files may share blocks until rule 8 is judged.
@@ -70,12 +62,10 @@ fn indexes_ok(
     requires { Testing img.now total (Known img.now seen.old) × (length block.now ≡ 1024) × (n ≤ 262144) × (m ≡ (n + 511) / 512) }
     ensures { Tested (Indexes (pages img.now) (vol img.now) block.now n m) (Known img.now seen.new) result }
 {
-    let mut k: usize = 0;
-    while k < m {
+    for k in 0..m {
         if !index_once(img, total, seen, dword(block, 2 * k) as usize, share(n, k)) {
             return false;
         }
-        k += 1;
     }
     true
 }
@@ -86,11 +76,8 @@ fn subindex_block(img: &[u16], total: usize, seen: &mut [u16], block: &[u16], n:
     ensures { Tested (Indexes (pages img.now) (vol img.now) block.now n ((n + 511) / 512)
         × Unlinked block.now ((n + 511) / 512) 512) (Known img.now seen.new) result }
 {
-    let m = (n + 511) / 512;
-    if !indexes_ok(img, total, seen, block, n, m) {
-        return false;
-    }
-    unlinked(block, m, 512)
+    let m = n.div_ceil(512);
+    indexes_ok(img, total, seen, block, n, m) && unlinked(block, m, 512)
 }
 
 // Whether page t is a subindex block of n pages.
@@ -98,15 +85,11 @@ fn subindex_ok(img: &[u16], total: usize, seen: &mut [u16], t: usize, n: usize) 
     requires { Testing img.now total (Known img.now seen.old) × (512 < n) × (n ≤ 262144) }
     ensures { Tested (Filled (pages img.now) (vol img.now) 2 t n) (Known img.now seen.new) result }
 {
-    if t == 0 {
-        return false;
-    }
-    if total <= t {
+    if t == 0 || total <= t {
         return false;
     }
     let a = WORDS * t;
-    let z = a + WORDS;
-    subindex_block(img, total, seen, &img[a..z], n)
+    subindex_block(img, total, seen, &img[a..a + WORDS], n)
 }
 
 // Whether subindex block t, under which the tree is right, has n pages under it: the last one is there, and no next one.

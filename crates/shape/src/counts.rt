@@ -19,7 +19,7 @@ fn cost_of(n: u64) -> u64
     requires { n < 4294967296 }
     ensures { (result ≡ cost n) × (result < 8589934592) }
 {
-    let blocks = (n + 511) / 512;
+    let blocks = n.div_ceil(512);
     if n <= 512 {
         return n + blocks;
     }
@@ -46,8 +46,7 @@ fn entry_pages(img: &[u16], q: usize, e: usize) -> u64
         return 0;
     }
     let flags = entry_flags(img, q, e, POINTER);
-    let n = entry_two(img, q, e, PAGES) as u64;
-    charge_of(flags, n)
+    charge_of(flags, u64::from(entry_two(img, q, e, PAGES)))
 }
 
 // The pages of the files whose entries are on object page q, the one at position n.
@@ -57,10 +56,8 @@ fn page_pages(img: &[u16], q: usize, n: usize) -> u64
 {
     let e = 32 * n;
     let mut sum: u64 = 0;
-    let mut k: usize = 0;
-    while k < 32 {
+    for k in 0..32 {
         sum += entry_pages(img, q, e + k);
-        k += 1;
     }
     sum
 }
@@ -86,10 +83,8 @@ pub fn user_pages(img: &[u16], flags: u16, top: usize, ends: usize, u: usize) ->
         return 0;
     }
     let mut sum: u64 = 0;
-    let mut i: usize = 0;
-    while i < 8 {
+    for i in 0..8 {
         sum += position_pages(img, flags, top, 8 * u + i);
-        i += 1;
     }
     sum
 }

@@ -20,10 +20,7 @@ pub fn run_ok(total: usize, t: usize, n: usize) -> bool
     if n == 0 {
         return t == 0;
     }
-    if t == 0 {
-        return false;
-    }
-    t + n <= total
+    t != 0 && t + n <= total
 }
 
 // Whether page t is the index block of a file of n pages.
@@ -31,13 +28,7 @@ fn indexed_ok(img: &[u16], total: usize, seen: &mut [u16], t: usize, n: usize) -
     requires { Testing img.now total (Known img.now seen.old) }
     ensures { Tested (Indexed (pages img.now) (vol img.now) t n) (Known img.now seen.new) result }
 {
-    if n == 0 {
-        return false;
-    }
-    if 512 < n {
-        return false;
-    }
-    index_once(img, total, seen, t, n)
+    0 < n && n <= 512 && index_once(img, total, seen, t, n)
 }
 
 // Whether page t is the subindex block of a file of n pages.
@@ -52,13 +43,7 @@ fn subindexed_ok(
     requires { Testing img.now total (Recalled img.now seen.old trees.old) }
     ensures { Tested (Subindexed (pages img.now) (vol img.now) t n) (Recalled img.now seen.new trees.new) result }
 {
-    if n <= 512 {
-        return false;
-    }
-    if 262144 < n {
-        return false;
-    }
-    subindex_once(img, total, seen, trees, t, n)
+    512 < n && n <= 262144 && subindex_once(img, total, seen, trees, t, n)
 }
 
 // Whether a pointer with these flags to page t is that of a file of n pages.
@@ -74,23 +59,19 @@ fn shape_ok(
     requires { Testing img.now total (Recalled img.now seen.old trees.old) × (t < 4294967296) × (n < 4294967296) }
     ensures { Tested (Shape (pages img.now) (vol img.now) flags t n) (Recalled img.now seen.new trees.new) result }
 {
-    if flags == 0 {
-        return run_ok(total, t, n);
+    match flags {
+        0 => run_ok(total, t, n),
+        1 => indexed_ok(img, total, seen, t, n),
+        2 => subindexed_ok(img, total, seen, trees, t, n),
+        _ => false,
     }
-    if flags == 1 {
-        return indexed_ok(img, total, seen, t, n);
-    }
-    if flags == 2 {
-        return subindexed_ok(img, total, seen, trees, t, n);
-    }
-    false
 }
 
 // Whether these are the bytes of n pages.
 pub fn bytes_ok(n: u32, bytes: u32) -> bool
     ensures { Decides result (bytes ≡ bytes_of n) }
 {
-    bytes as u64 == PAGE_BYTES as u64 * (n as u64)
+    u64::from(bytes) == PAGE_BYTES as u64 * u64::from(n)
 }
 
 // Whether the file in entry e on page q has one of the shapes, its bytes right, all its pages in 1..total-1.

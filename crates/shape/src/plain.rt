@@ -19,19 +19,11 @@ fn plain_shape(img: &[u16], total: usize, flags: u16, t: usize, n: usize) -> boo
     requires { Whole img.now × (total ≡ pages img.now) × (t < 4294967296) × (n < 4294967296) }
     ensures { result ≡ true → Shape (pages img.now) (vol img.now) flags t n }
 {
-    if flags == 0 {
-        return run_ok(total, t, n);
+    match flags {
+        0 => run_ok(total, t, n),
+        1 => 0 < n && n < 512 && index_ok(img, total, t, n),
+        _ => false,
     }
-    if flags != 1 {
-        return false;
-    }
-    if n == 0 {
-        return false;
-    }
-    if 511 < n {
-        return false;
-    }
-    index_ok(img, total, t, n)
 }
 
 // The file in entry e on page q is such a one, and its bytes are right.
@@ -53,10 +45,7 @@ fn plain_entry(img: &[u16], total: usize, q: usize, e: usize) -> bool
     requires { Whole img.now × (total ≡ pages img.now) × (q < pages img.now) }
     ensures { result ≡ true → EntryRight (pages img.now) (vol img.now) (entry_in (vol img.now) q e) }
 {
-    if !entry_used(img, q, e) {
-        return true;
-    }
-    plain_file(img, total, q, e)
+    !entry_used(img, q, e) || plain_file(img, total, q, e)
 }
 
 // So are all files whose entries are on object page q, the one at position n.
@@ -65,14 +54,7 @@ fn plain_page(img: &[u16], total: usize, q: usize, n: usize) -> bool
     ensures { result ≡ true → FilesRight (pages img.now) (vol img.now) (32 * n) (32 * n + 32) }
 {
     let e = 32 * n;
-    let mut k: usize = 0;
-    while k < 32 {
-        if !plain_entry(img, total, q, e + k) {
-            return false;
-        }
-        k += 1;
-    }
-    true
+    (0..32).all(|k| plain_entry(img, total, q, e + k))
 }
 
 // So are all files whose entries are at position n of the object file, whose pointer has these flags and this page.
@@ -81,8 +63,5 @@ pub(crate) fn plain_position(img: &[u16], total: usize, flags: u16, top: usize, 
     ensures { result ≡ true → FilesRight (pages img.now) (vol img.now) (32 * n) (32 * n + 32) }
 {
     let q = root_page(img, flags, top, 0, n);
-    if q == 0 {
-        return true;
-    }
-    plain_page(img, total, q, n)
+    q == 0 || plain_page(img, total, q, n)
 }

@@ -28,7 +28,7 @@ pub fn user_ok(img: &[u16], flags: u16, top: usize, ends: usize, q: usize, u: us
     if !entry_used(img, q, u) {
         return true;
     }
-    entry_two(img, q, u, USED) as u64 == user_pages(img, flags, top, ends, u)
+    u64::from(entry_two(img, q, u, USED)) == user_pages(img, flags, top, ends, u)
 }
 
 // The same of the 32 users from `first` on, a page of them. An absent page has no used users.
@@ -40,15 +40,7 @@ pub fn page_ok(img: &[u16], flags: u16, top: usize, ends: usize, first: usize) -
     if q == 0 {
         return true;
     }
-    let end = first + 32;
-    let mut u = first;
-    while u < end {
-        if !user_ok(img, flags, top, ends, q, u) {
-            return false;
-        }
-        u += 1;
-    }
-    true
+    (first..first + 32).all(|u| user_ok(img, flags, top, ends, q, u))
 }
 
 // The same of all users.
@@ -56,14 +48,7 @@ pub fn users_ok(img: &[u16], flags: u16, top: usize, ends: usize) -> bool
     requires { ObjectsAt img.now flags top × Ends img.now ends × Reach img.now (user_file (vol img.now)) }
     ensures { Decides result (UsersRight (vol img.now) 0 256) }
 {
-    let mut first: usize = 0;
-    while first < 256 {
-        if !page_ok(img, flags, top, ends, first) {
-            return false;
-        }
-        first += 32;
-    }
-    true
+    (0..8).all(|k| page_ok(img, flags, top, ends, 32 * k))
 }
 
 // Whether unreserved, given and system pages make up P. The system pages are those visited less the users' own, which their used counts tell.
@@ -72,10 +57,10 @@ pub fn sum_ok(img: &[u16], total: usize, visits: u32) -> bool
         × Rule6 (user (vol img.now)) (object (vol img.now)) × Rule7 (pages img.now) (vol img.now) × UsersRight (vol img.now) 0 256 }
     ensures { Decides result (unreserved (vol img.now) + sum_of 256 (grant (user (vol img.now))) + system_pages (pages img.now) (vol img.now) ≡ pages img.now) }
 {
-    let unreserved = two_at(img, 0, UNRESERVED) as u64;
+    let unreserved = u64::from(two_at(img, 0, UNRESERVED));
     let given = users_sum(img, GIVEN);
     let taken = users_sum(img, USED);
-    unreserved + given + visits as u64 == total as u64 + taken
+    unreserved + given + u64::from(visits) == total as u64 + taken
 }
 
 // Whether rule 10 holds, where a walk over rule 8 has visited so many pages, and the object file ends at `ends`.
@@ -86,8 +71,5 @@ pub fn rule10(img: &[u16], total: usize, visits: u32, ends: usize) -> bool
 {
     let flags = flags_at(img, 0, OBJECTS);
     let top = page_at(img, 0, OBJECTS) as usize;
-    if !users_ok(img, flags, top, ends) {
-        return false;
-    }
-    sum_ok(img, total, visits)
+    users_ok(img, flags, top, ends) && sum_ok(img, total, visits)
 }

@@ -31,12 +31,10 @@ fn page_ok(
     ensures { Tested (FilesRight (pages img.now) (vol img.now) (32 * n) (32 * n + 32)) (Recalled img.now seen.new trees.new) result }
 {
     let e = 32 * n;
-    let mut k: usize = 0;
-    while k < 32 {
+    for k in 0..32 {
         if !entry_ok(img, total, seen, trees, q, e + k) {
             return false;
         }
-        k += 1;
     }
     true
 }
@@ -76,12 +74,10 @@ fn rest_ok(
 {
     let flags = flags_at(img, 0, OBJECTS);
     let top = page_at(img, 0, OBJECTS) as usize;
-    let mut n = first;
-    while n < ends {
+    for n in first..ends {
         if !position_ok(img, total, seen, trees, flags, top, n) {
             return false;
         }
-        n += 1;
     }
     true
 }
@@ -109,12 +105,10 @@ pub fn rule7(img: &[u16], total: usize, ends: usize) -> bool
 {
     let flags = flags_at(img, 0, OBJECTS);
     let top = page_at(img, 0, OBJECTS) as usize;
-    let mut n: usize = 0;
-    while n < ends {
+    for n in 0..ends {
         if !plain_position(img, total, flags, top, n) {
             return rest_recalled(img, total, ends, n);
         }
-        n += 1;
     }
     true
 }

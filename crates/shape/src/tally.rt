@@ -18,7 +18,7 @@ pub fn count_of(img: &[u16], q: usize, u: usize, k: usize) -> u64
     if !entry_used(img, q, u) {
         return 0;
     }
-    entry_two(img, q, u, k) as u64
+    u64::from(entry_two(img, q, u, k))
 }
 
 // The sum of the numbers at word k of the 32 users from `first` on, a page of them.
@@ -31,10 +31,8 @@ fn page_sum(img: &[u16], k: usize, first: usize) -> u64
         return 0;
     }
     let mut sum: u64 = 0;
-    let mut i: usize = 0;
-    while i < 32 {
+    for i in 0..32 {
         sum += count_of(img, q, first + i, k);
-        i += 1;
     }
     sum
 }
@@ -45,10 +43,8 @@ pub fn users_sum(img: &[u16], k: usize) -> u64
     ensures { (result ≡ sum_of 256 (λ u. count_in k (user (vol img.now) u))) × (result ≤ 256 * 4294967296) }
 {
     let mut sum: u64 = 0;
-    let mut first: usize = 0;
-    while first < 256 {
-        sum += page_sum(img, k, first);
-        first += 32;
+    for p in 0..8 {
+        sum += page_sum(img, k, 32 * p);
     }
     sum
 }

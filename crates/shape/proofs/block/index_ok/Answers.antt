@@ -2,16 +2,14 @@ use mathlib.Core.Path.{subst}
 use Prim.Native.Nat.{ℕ}
 use native.Mathlib.Omega.{arith}
 use Rattle.book.specs.Decides.{Decides}
+use Rattle.book.specs.Image.{pages}
 use Rattle.book.specs.Words.{vol}
 use Rattle.shape.specs.Shapes.{Filled}
 use Rattle.shape.proofs.Blocks.{filled-top, decides-index}
 use Rattle.shape.proofs.block.index_ok.Goals as goal
 
 pub returns-then-b-eq0 : goal.returns-then-b-eq0
-returns-then-b-eq0 c = λ f. omega (arith, (filled-top _ (vol c.args.img.now) c.args.n (omega arith) 1 c.args.b f).0)
-
-pub returns-then-total-b : goal.returns-then-total-b
-returns-then-total-b c = λ f. omega (arith, (filled-top _ (vol c.args.img.now) c.args.n (omega arith) 1 c.args.b f).1)
+returns-then-b-eq0 c = λ f. let t = filled-top (pages c.args.img.now) (vol c.args.img.now) c.args.n (omega arith) 1 c.args.b f in omega arith
 
 pub returns : goal.returns
 returns c =

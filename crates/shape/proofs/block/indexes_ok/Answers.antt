@@ -1,19 +1,13 @@
-use mathlib.Core.Path.{refl, sym, subst₂}
+use mathlib.Core.Path.{sym, subst₂}
 use Prim.Native.Nat.{ℕ}
-use borrow.Author.Count.{below_none, below_more}
+use borrow.Author.Count.{below_more}
 use Rattle.book.specs.Image.{pages}
 use Rattle.book.specs.Words.{vol}
 use Rattle.shape.specs.Shapes.{Filled, Indexes}
 use Rattle.tree.proofs.Blocks.{pointer_read}
-use Rattle.shape.proofs.Memory.{tested-no, tested-yes, passed, failed}
+use Rattle.shape.proofs.Memory.{tested-no, passed, failed}
 use native.Mathlib.Omega.{arith}
 use Rattle.shape.proofs.block.indexes_ok.Goals as goal
-
-pub loop-k-init : goal.loop-k-init
-loop-k-init c = (omega arith, c.requires.0.memory, below_none _, refl)
-
-pub index_once-requires : goal.index_once-requires
-index_once-requires c = (record { whole = c.requires.0.whole; count = c.requires.0.count; memory = c.loop-k.invariant.1 }, omega arith, omega arith)
 
 pub returns-then-not-index_once : goal.returns-then-not-index_once
 returns-then-not-index_once c = let P = pages c.args.img.now in let v = vol c.args.img.now in
@@ -25,7 +19,4 @@ pub loop-k-preserved : goal.loop-k-preserved
 loop-k-preserved c = let P = pages c.args.img.now in let v = vol c.args.img.now in
     let x = pointer_read c.args.block.now c.loop-k.k _ c.dword.ensures.0 in
     let w = passed _ _ c.index_once.result c.index_once.ensures c.if-not-index_once.false-raw in
-    (omega arith, w.1, below_more _ c.loop-k.k c.loop-k.invariant.2 (subst₂ (λ (p q : ℕ). Filled P v 1 p q) x c.share.ensures.0 w.0), omega arith)
-
-pub returns : goal.returns
-returns c = tested-yes (Indexes (pages c.args.img.now) (vol c.args.img.now) c.args.block.now c.args.n c.args.m) _ (λ k h. c.loop-k.invariant.2 k (omega arith)) c.loop-k.invariant.1
+    (w.1, below_more _ c.loop-k.k c.loop-k.invariant.1 (subst₂ (λ (p q : ℕ). Filled P v 1 p q) x c.share.ensures.0 w.0))

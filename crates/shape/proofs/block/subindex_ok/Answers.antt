@@ -6,10 +6,7 @@ use native.Mathlib.Omega.{arith}
 use Rattle.shape.proofs.block.subindex_ok.Goals as goal
 
 pub returns-then-t-eq0 : goal.returns-then-t-eq0
-returns-then-t-eq0 c = tested-no _ _ (λ f. omega (arith, (filled-top _ (vol c.args.img.now) c.args.n (omega arith) 2 c.args.t f).0))
-
-pub returns-then-total-t : goal.returns-then-total-t
-returns-then-total-t c = tested-no _ _ (λ f. omega (arith, (filled-top _ (vol c.args.img.now) c.args.n (omega arith) 2 c.args.t f).1))
+returns-then-t-eq0 c = tested-no _ _ (λ f. let t = filled-top (pages c.args.img.now) (vol c.args.img.now) c.args.n (omega arith) 2 c.args.t f in omega arith)
 
 pub returns : goal.returns
 returns c =

@@ -12,6 +12,6 @@ returns-then-not-entry_used c = (pages-unused (entry_in (vol c.args.img.now) c.a
 pub returns : goal.returns
 returns c = (
   c.charge_of.ensures.0 ∙ pages-used (entry_in (vol c.args.img.now) c.args.q c.args.e) (holds c.entry_used.result _ c.entry_used.ensures c.if-not-entry_used.false-raw)
-      _ _ c.entry_flags-flags.ensures.0 c.entry_two-n.ensures.0,
+      _ _ c.entry_flags-flags.ensures.0 (c.from.ensures ∙ c.entry_two.ensures.0),
   c.charge_of.ensures.1,
 )

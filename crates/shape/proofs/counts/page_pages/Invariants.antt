@@ -1,5 +1,5 @@
 use mathlib.Core.Path.{◌≡◌}
-use Prim.Native.Nat.{◌+◌, ◌-◌, ◌*◌, ◌≤◌}
+use Prim.Native.Nat.{◌+◌, ◌*◌, ◌≤◌}
 use Rattle.sums.specs.Sum.{sum as sum_of}
 use Rattle.book.specs.Entries.{object}
 use Rattle.book.specs.Words.{vol}
@@ -7,7 +7,4 @@ use Rattle.laws.specs.Count.Charge.{entry_pages}
 use Rattle.shape.proofs.counts.page_pages.Given as goal
 
 abbrev pub invariant-loop-k : goal.invariant-loop-k
-invariant-loop-k l = (l.k ≤ 32) × (l.sum ≡ sum_of l.k (λ i. entry_pages (object (vol l.img) (32 * l.n + i)))) × (l.sum ≤ l.k * 8589934592)
-
-abbrev pub decreases-loop-k : goal.decreases-loop-k
-decreases-loop-k l = 32 - l.k
+invariant-loop-k l = (l.sum ≡ sum_of l.k (λ i. entry_pages (object (vol l.img) (32 * l.n + i)))) × (l.sum ≤ l.k * 8589934592)

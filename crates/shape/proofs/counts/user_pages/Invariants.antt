@@ -1,12 +1,9 @@
 use mathlib.Core.Path.{◌≡◌}
-use Prim.Native.Nat.{◌+◌, ◌-◌, ◌*◌, ◌≤◌}
+use Prim.Native.Nat.{◌+◌, ◌*◌, ◌≤◌}
 use Rattle.sums.specs.Sum.{sum as sum_of}
 use Rattle.book.specs.Words.{vol}
 use Rattle.shape.specs.Counts.{pages_at}
 use Rattle.shape.proofs.counts.user_pages.Given as goal
 
 abbrev pub invariant-loop-i : goal.invariant-loop-i
-invariant-loop-i l = (l.i ≤ 8) × (l.sum ≡ sum_of l.i (λ j. pages_at (vol l.img) (8 * l.u + j))) × (l.sum ≤ l.i * 274877906944)
-
-abbrev pub decreases-loop-i : goal.decreases-loop-i
-decreases-loop-i l = 8 - l.i
+invariant-loop-i l = (l.sum ≡ sum_of l.i (λ j. pages_at (vol l.img) (8 * l.u + j))) × (l.sum ≤ l.i * 274877906944)

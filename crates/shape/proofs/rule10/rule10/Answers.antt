@@ -1,4 +1,8 @@
-use Rattle.book.specs.Decides.{holds, fails}
+use mathlib.Core.Path.{sym, subst}
+use mathlib.Core.Bool.{Bool}
+use Rattle.book.specs.Decides.{Decides}
+use Rattle.book.specs.Rules.{Rule10}
+use Rattle.page.proofs.Deciding.{told, untold}
 use Rattle.book.specs.Image.{pages}
 use Rattle.book.specs.Words.{vol}
 use Rattle.shape.proofs.Objects.{objects-at}
@@ -8,11 +12,12 @@ use Rattle.shape.proofs.rule10.rule10.Goals as goal
 pub users_ok-requires : goal.users_ok-requires
 users_ok-requires c = (objects-at c.args.img.now _ _ c.requires.0 c.requires.2 c.requires.4 c.flags_at-flags.ensures.0 c.page_at-top.ensures.0, c.requires.8, reach-users c.args.img.now c.requires.0 c.requires.2 c.requires.3)
 
-pub returns-then-not-users_ok : goal.returns-then-not-users_ok
-returns-then-not-users_ok c = wrong-10 (pages c.args.img.now) (vol c.args.img.now) c.requires.6 (fails c.users_ok.result _ c.users_ok.ensures c.if-not-users_ok.true-raw)
-
 pub sum_ok-requires : goal.sum_ok-requires
-sum_ok-requires c = (c.requires.0, c.requires.1, reach-users c.args.img.now c.requires.0 c.requires.2 c.requires.3, c.requires.7, c.requires.5, c.requires.6, holds c.users_ok.result _ c.users_ok.ensures c.if-not-users_ok.false-raw)
+sum_ok-requires c = (c.requires.0, c.requires.1, reach-users c.args.img.now c.requires.0 c.requires.2 c.requires.3, c.requires.7, c.requires.5, c.requires.6, told c.users_ok.result _ c.users_ok.ensures c.if-users_ok.true)
 
-pub returns : goal.returns
-returns c = decides-10 (pages c.args.img.now) (vol c.args.img.now) c.requires.6 c.sum_ok.result (holds c.users_ok.result _ c.users_ok.ensures c.if-not-users_ok.false-raw) c.sum_ok.ensures
+pub returns-then-users_ok : goal.returns-then-users_ok
+returns-then-users_ok c = decides-10 (pages c.args.img.now) (vol c.args.img.now) c.requires.6 c.sum_ok.result (told c.users_ok.result _ c.users_ok.ensures c.if-users_ok.true) c.sum_ok.ensures
+
+pub returns-else-users_ok : goal.returns-else-users_ok
+returns-else-users_ok c = let P = pages c.args.img.now in let v = vol c.args.img.now in
+    subst (λ (b : Bool). Decides b (Rule10 P v)) (sym c.if-users_ok.false) (wrong-10 P v c.requires.6 (untold c.users_ok.result _ c.users_ok.ensures c.if-users_ok.false))

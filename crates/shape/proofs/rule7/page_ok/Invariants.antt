@@ -1,6 +1,4 @@
-use mathlib.Core.Path.{◌≡◌}
-use Prim.Native.Nat.{◌+◌, ◌-◌, ◌*◌, ◌≤◌}
-use lib.ListN.{length}
+use Prim.Native.Nat.{◌+◌, ◌*◌}
 use Rattle.book.specs.Image.{pages}
 use Rattle.book.specs.Words.{vol}
 use Rattle.shape.specs.Seen.{Recalled}
@@ -8,8 +6,4 @@ use Rattle.shape.specs.Shapes.{FilesRight}
 use Rattle.shape.proofs.rule7.page_ok.Given as goal
 
 abbrev pub invariant-loop-k : goal.invariant-loop-k
-invariant-loop-k l = (l.k ≤ 32) × Recalled l.img l.seen l.trees × FilesRight (pages l.img) (vol l.img) (32 * l.n) (32 * l.n + l.k)
-    × (length l.seen ≡ length l.initial.seen) × (length l.trees ≡ length l.initial.trees)
-
-abbrev pub decreases-loop-k : goal.decreases-loop-k
-decreases-loop-k l = 32 - l.k
+invariant-loop-k l = Recalled l.img l.seen l.trees × FilesRight (pages l.img) (vol l.img) (32 * l.n) (32 * l.n + l.k)

@@ -1,19 +1,15 @@
-use mathlib.Core.Path.{refl}
 use Prim.Native.Nat.{◌+◌, ◌*◌}
 use Rattle.book.specs.Image.{pages}
 use Rattle.book.specs.Words.{vol}
 use Rattle.shape.specs.Shapes.{FilesRight}
-use Rattle.shape.proofs.Memory.{passed, failed}
-use Rattle.shape.proofs.Objects.{objects-at, right-page, right-all, all_right}
+use Rattle.shape.proofs.Memory.{failed}
+use Rattle.shape.proofs.Objects.{objects-at, right-all, all_right}
 use native.Mathlib.Omega.{arith}
 use Rattle.shape.proofs.rule7.rest_ok.Goals as goal
 
-pub loop-n-init : goal.loop-n-init
-loop-n-init c = (omega arith, c.requires.0.memory, c.requires.5, refl, refl)
-
 pub position_ok-requires : goal.position_ok-requires
 position_ok-requires c = (
-  record { whole = c.requires.0.whole; count = c.requires.0.count; memory = c.loop-n.invariant.1 },
+  record { whole = c.requires.0.whole; count = c.requires.0.count; memory = c.loop-n.invariant.0 },
   objects-at c.args.img.now _ _ c.requires.0.whole c.requires.1 c.requires.2 c.flags_at-flags.ensures.0 c.page_at-top.ensures.0,
   omega (arith, c.requires.3.most),
 )
@@ -23,10 +19,5 @@ returns-then-not-position_ok c = λ r.
     let v = vol c.args.img.now in let P = pages c.args.img.now in
     failed (FilesRight P v (32 * c.loop-n.n) (32 * c.loop-n.n + 32)) _ c.position_ok.result c.position_ok.ensures c.if-not-position_ok.true-raw (all_right P v r (32 * c.loop-n.n) (32 * c.loop-n.n + 32) (omega (arith, c.requires.3.most)))
 
-pub loop-n-preserved : goal.loop-n-preserved
-loop-n-preserved c = let v = vol c.args.img.now in let P = pages c.args.img.now in
-    let w = passed (FilesRight P v (32 * c.loop-n.n) (32 * c.loop-n.n + 32)) _ c.position_ok.result c.position_ok.ensures c.if-not-position_ok.false-raw in
-    (omega arith, w.1, right-page P v c.loop-n.n c.loop-n.invariant.2 w.0, omega arith, omega arith)
-
 pub returns : goal.returns
-returns c = right-all c.args.img.now c.args.ends c.requires.3 (λ e h. c.loop-n.invariant.2 e (omega arith))
+returns c = right-all c.args.img.now c.args.ends c.requires.3 (λ e h. c.loop-n.invariant.1 e (omega arith))

@@ -1,6 +1,4 @@
-use mathlib.Core.Path.{◌≡◌}
-use Prim.Native.Nat.{◌-◌, ◌*◌, ◌≤◌}
-use lib.ListN.{length}
+use Prim.Native.Nat.{◌*◌}
 use Rattle.book.specs.Image.{pages}
 use Rattle.book.specs.Words.{vol}
 use Rattle.shape.specs.Seen.{Recalled}
@@ -8,7 +6,4 @@ use Rattle.shape.specs.Shapes.{FilesRight}
 use Rattle.shape.proofs.rule7.rest_ok.Given as goal
 
 abbrev pub invariant-loop-n : goal.invariant-loop-n
-invariant-loop-n l = (l.n ≤ l.ends) × Recalled l.img l.seen l.trees × FilesRight (pages l.img) (vol l.img) 0 (32 * l.n) × (length l.seen ≡ length l.initial.seen) × (length l.trees ≡ length l.initial.trees)
-
-abbrev pub decreases-loop-n : goal.decreases-loop-n
-decreases-loop-n l = l.ends - l.n
+invariant-loop-n l = Recalled l.img l.seen l.trees × FilesRight (pages l.img) (vol l.img) 0 (32 * l.n)

@@ -10,4 +10,4 @@ pub returns-then-not-entry_used : goal.returns-then-not-entry_used
 returns-then-not-entry_used c = (count-unused c.args.k (entry_in (vol c.args.img.now) c.args.q c.args.u) (fails c.entry_used.result _ c.entry_used.ensures c.if-not-entry_used.true-raw), omega arith)
 
 pub returns : goal.returns
-returns c = (c.entry_two.ensures.0 ∙ count-used c.args.k (entry_in (vol c.args.img.now) c.args.q c.args.u) (holds c.entry_used.result _ c.entry_used.ensures c.if-not-entry_used.false-raw), c.entry_two.ensures.1)
+returns c = (c.from.ensures ∙ c.entry_two.ensures.0 ∙ count-used c.args.k (entry_in (vol c.args.img.now) c.args.q c.args.u) (holds c.entry_used.result _ c.entry_used.ensures c.if-not-entry_used.false-raw), omega (arith, c.entry_two.ensures.1))

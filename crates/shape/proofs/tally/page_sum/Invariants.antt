@@ -1,5 +1,5 @@
 use mathlib.Core.Path.{◌≡◌}
-use Prim.Native.Nat.{◌+◌, ◌-◌, ◌*◌, ◌≤◌}
+use Prim.Native.Nat.{◌+◌, ◌*◌, ◌≤◌}
 use Rattle.sums.specs.Sum.{sum as sum_of}
 use Rattle.book.specs.Entries.{user}
 use Rattle.book.specs.Words.{vol}
@@ -7,7 +7,4 @@ use Rattle.shape.specs.Counts.{count_in}
 use Rattle.shape.proofs.tally.page_sum.Given as goal
 
 abbrev pub invariant-loop-i : goal.invariant-loop-i
-invariant-loop-i l = (l.i ≤ 32) × (l.sum ≡ sum_of l.i (λ j. count_in l.k (user (vol l.img) (l.first + j)))) × (l.sum ≤ l.i * 4294967296)
-
-abbrev pub decreases-loop-i : goal.decreases-loop-i
-decreases-loop-i l = 32 - l.i
+invariant-loop-i l = (l.sum ≡ sum_of l.i (λ j. count_in l.k (user (vol l.img) (l.first + j)))) × (l.sum ≤ l.i * 4294967296)
