@@ -17,8 +17,7 @@ fn move_counts(img: &mut [u16], u: usize, g: u32, s: u32)
     ensures { vol img.new ≡ moved (vol img.old) u g s }
 {
     let q = user_page(img, u);
-    let place = EntryPlace::of(u);
-    let k = place.word;
+    let k = EntryPlace::of(u).word;
     put_two(img, q, k + GIVEN, g);
     put_two(img, 0, UNRESERVED, s);
 }

@@ -38,10 +38,8 @@ fn wipe_run(img: &mut [u16], b: usize, n: usize)
     requires { 1024 * (b + n) ≤ length img.old }
     ensures { vol img.new ≡ wipe_run (vol img.old) b n }
 {
-    let mut i: usize = 0;
-    while i < n {
+    for i in 0..n {
         zero_page(img, b + i);
-        i += 1;
     }
 }
 
@@ -50,10 +48,8 @@ fn set_run(img: &mut [u16], b: usize, n: usize)
     requires { (1024 * b + (b + n + 15) / 16 ≤ length img.old) × (1024 * (b + n) ≤ length img.old) }
     ensures { (P : ℕ) → BitsAt P (vol img.old) b → b + n ≤ P → vol img.new ≡ mark_run P (vol img.old) b n }
 {
-    let mut i: usize = 0;
-    while i < n {
+    for i in 0..n {
         bits::set(img, b, b + i);
-        i += 1;
     }
 }
 

@@ -7,7 +7,6 @@ ghost use Rattle.book.specs.Steps.{open_step};
 
 use page::entry::{EntryPlace, OPENS};
 use page::write::put_word;
-use std::num::wrapping_add_u16;
 use tree::entry::entry_word;
 use tree::root::object_page;
 
@@ -18,8 +17,6 @@ pub fn open_step(img: &mut [u16], e: usize)
 {
     let q = object_page(img, e);
     let opens = entry_word(img, q, e, OPENS);
-    let more = wrapping_add_u16(opens, 1);
-    let place = EntryPlace::of(e);
-    let k = place.word;
-    put_word(img, q, k + OPENS, more);
+    let k = EntryPlace::of(e).word;
+    put_word(img, q, k + OPENS, opens.wrapping_add(1));
 }

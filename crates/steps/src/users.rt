@@ -17,8 +17,7 @@ fn leave(img: &mut [u16], u: usize, g: u32, s: u32)
     ensures { vol img.new ≡ delete_user (vol img.old) u }
 {
     let q = user_page(img, u);
-    let place = EntryPlace::of(u);
-    let k = place.word;
+    let k = EntryPlace::of(u).word;
     clear_entry(img, q, k);
     put_two(img, 0, UNRESERVED, s + g);
 }

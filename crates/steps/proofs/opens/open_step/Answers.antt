@@ -1,4 +1,5 @@
 -- `steps::opens::open_step` meets its contract. Assumes nothing.
+use Rattle.std.proofs.Common.{refl}
 use Rattle.book.specs.Words.{vol}
 use Rattle.tree.proofs.Ready.{ready-objects}
 use Rattle.steps.proofs.Written.{opened-is}
@@ -9,5 +10,5 @@ object_page-q-requires c = ready-objects _ c.requires.0
 
 pub returns : goal.returns
 returns c =
-    opened-is (vol c.args.img.now) _ c.args.e c.object_page-q.result c.of-place.result.word c.entry_word-opens.result c.wrapping_add_u16-more.result
-    c.object_page-q.ensures.0 c.of-place.ensures.1 c.entry_word-opens.ensures c.wrapping_add_u16-more.ensures.value c.put_word.ensures
+    opened-is (vol c.args.img.now) _ c.args.e c.object_page-q.result c.of-k.result.word c.entry_word-opens.result _
+    c.object_page-q.ensures.0 c.of-k.ensures.1 c.entry_word-opens.ensures refl c.put_word.ensures

@@ -14,5 +14,5 @@ overflow_add-s c = record { fits = omega (arith, ready-room _ c.requires.0 c.arg
 
 pub returns : goal.returns
 returns c =
-    deleted-is (vol c.args.img.now) _ _ c.args.u c.user_page-q.result c.of-place.result.word c.user_page-q.ensures.0 c.of-place.ensures.1
+    deleted-is (vol c.args.img.now) _ _ c.args.u c.user_page-q.result c.of-k.result.word c.user_page-q.ensures.0 c.of-k.ensures.1
     c.args.g c.args.s c.requires.3 c.requires.4 c.clear_entry.ensures c.put_two.ensures
