@@ -15,15 +15,13 @@ ghost use Rattle.sound.specs.Late.{Early, JudgedLate};
 
 use book::{BrokenRule, Gate, Refusal, Verdict};
 use early::early;
-use walk::Walk;
 
 // Rules 8 to 10 of an image that keeps the first seven: the walk marks each held page and counts it. The object file ends at position `ends`.
 fn judge_marked(img: &[u16], marks: &mut [u16], total: usize, ends: usize) -> Verdict
     requires { Whole img.now × (total ≡ pages img.now) × Early true (pages img.now) (vol img.now) × Ends img.now ends × Unmarked (pages img.now) marks.old }
     ensures { JudgedLate (pages img.now) (vol img.now) result }
 {
-    let w = walk::volume::mark_all(img, marks, total, ends);
-    let Walk::On { visited } = w else {
+    let Some(visited) = walk::volume::mark_all(img, marks, total, ends) else {
         return Err(BrokenRule { rule: 8 });
     };
     let b = page::read::page_at(img, 0, page::BITS) as usize;
