@@ -1,5 +1,5 @@
 -- How format comes back: refused with 1 or 2, or done. Assumes nothing.
-use mathlib.Core.Path.{◌≡◌, refl, sym, subst}
+use mathlib.Core.Path.{◌≡◌, refl}
 use mathlib.Core.Logic.{inl, inr}
 use mathlib.Core.List.{List}
 use Prim.Native.Nat.{ℕ}
@@ -15,27 +15,17 @@ use Rattle.book.specs.Outcome.{Outcome, BrokenFor}
 use Rattle.book.specs.Calls.{format_call}
 use Rattle.book.specs.declared.Refusal.TheVariants.{Size, Argument}
 
--- the bit file lies in a volume of as many pages
-pub bit-arg : (P Q b : ℕ) → P ≡ Q → BitArg P b → BitArg Q b
-bit-arg P Q b e = subst (λ (n : ℕ). BitArg n b) e
-
 module _ (img name : List ℕ) (b : ℕ) where
-  pub format-size : (Whole img → ⊥) → Outcome (format_call img name b) img (refused_with 0 Size) img
+  pub format_size : (Whole img → ⊥) → Outcome (format_call img name b) img (refused_with 0 Size) img
   unfolding Outcome BrokenFor format_call Lowest
-  format-size h = inl record { number = inl (refl, h); value = refl; broken = (λ e. let z : ⊥ = omega (arith, e) in absurd z, λ e. refl); image = refl }
+  format_size h = inl record { number = inl (refl, h); value = refl; broken = (λ e. let z : ⊥ = omega (arith, e) in absurd z, λ e. refl); image = refl }
 
-  module _ (W : Whole img) (P : ℕ) (p : P ≡ pages img) where
-    pub format-argument : (NameText name × BitArg P b → ⊥) → Outcome (format_call img name b) img (refused_with 0 Argument) img
-    unfolding Outcome BrokenFor format_call Lowest
-    format-argument h =
-        inl record {
-          number = inr (W, inl (refl, λ a. h (a.0, bit-arg (pages img) P b (sym p) a.1)));
-          value = refl;
-          broken = (λ e. let z : ⊥ = omega (arith, e) in absurd z, λ e. refl);
-          image = refl;
-        }
+  pub format_argument : Whole img → (NameText name × BitArg (pages img) b → ⊥) → Outcome (format_call img name b) img (refused_with 0 Argument) img
+  unfolding Outcome BrokenFor format_call Lowest
+  format_argument W h = inl record { number = inr (W, inl (refl, h)); value = refl; broken = (λ e. let z : ⊥ = omega (arith, e) in absurd z, λ e. refl); image = refl }
 
-    pub format-done :
-        NameText name × BitArg P b → (img' : List ℕ) → vol img' ≡ format (pages img) (vol img) name b → length img' ≡ length img → Outcome (format_call img name b) img (done_with 0) img'
-    unfolding Outcome format_call Clear
-    format-done a img' e l = inr record { number = refl; clear = (W, ((a.0, bit-arg P (pages img) b p a.1), tt)); value = refl; broken = refl; image = e; size = l }
+  pub format_done : Whole img → NameText name × BitArg (pages img) b → (img' : List ℕ) → vol img' ≡ format (pages img) (vol img) name b → length img' ≡ length img → Outcome (format_call img name b) img (done_with 0) img'
+  unfolding Outcome format_call Clear
+  format_done W a img' e l = inr record { number = refl; clear = (W, (a, tt)); value = refl; broken = refl; image = e; size = l }
+
+pub ruleset formats = (format_size, format_argument, format_done)

@@ -2,6 +2,7 @@
 use mathlib.Core.Path.{◌≡◌, refl, sym}
 use mathlib.Core.List.{List}
 use Prim.Native.Nat.{ℕ}
+use Rattle.std.specs.Prelude.{Result, Err}
 use Rattle.book.specs.Words.{Vol, vol}
 use Rattle.book.specs.Rows.{Rows, Lowest, Clear}
 use Rattle.book.specs.Answers.{number_of, done_with, refused_with}
@@ -9,11 +10,9 @@ use Rattle.book.specs.Outcome.{asking, Gives}
 use Rattle.book.specs.Enter.{Fit, Entered}
 use Rattle.book.specs.Return.{Own, shut, refused, finished}
 use Rattle.book.specs.declared.Refusal.{Refusal}
-use Rattle.book.specs.declared.Gate.{Gate}
-use Rattle.book.specs.declared.Gate.TheVariants.{Shut}
 
 module _ {A : Type 0} (img : List ℕ) (args : Type 0) (rest : Rows) (none : A) (gives : A → Type 0) (after : Vol) where
-  pub gives-shut : {g : Gate} {w : Refusal} → Entered img args g → g ≡ Shut w → (x : A) → x ≡ none → Gives (asking img args rest none gives after) img x
+  pub gives-shut : {g : Result ℕ Refusal} {w : Refusal} → Entered img args g → g ≡ Err w → (x : A) → x ≡ none → Gives (asking img args rest none gives after) img x
   gives-shut {g} {w} h e x q = (refused_with none w, sym q, shut img args rest none gives after h e)
 
   pub gives-refused : Fit img args → (w : Refusal) → Own w → Lowest rest (number_of w) → (x : A) → x ≡ none → Gives (asking img args rest none gives after) img x

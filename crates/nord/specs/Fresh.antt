@@ -1,12 +1,10 @@
 -- Numbers 4, 5 and 8 of the calls that create a file: refused, or the user's lowest unused index. Assumes nothing.
-use Rattle.std.specs.Prelude.{◌≡◌, List, ℕ, ◌<◌}
+use Rattle.std.specs.Prelude.{◌≡◌, List, ℕ, ◌<◌, Result, Ok, Err}
 use Rattle.book.specs.Words.{Vol}
 use Rattle.book.specs.Entries.{new_file}
 use Rattle.book.specs.Calls.{HasUser, IsFile}
 use Rattle.book.specs.declared.Refusal.{Refusal}
 use Rattle.book.specs.declared.Refusal.TheVariants.{Size, Argument, Unsound, Missing, Taken, Kind, HasFiles, Full, Allowance, Unreserved, NoRun, Fill, Overdrawn, ShortList}
-use Rattle.book.specs.declared.Answer.{Answer}
-use Rattle.book.specs.declared.Answer.TheVariants.{Done, Refused}
 
 abbrev pub Stale : Vol → ℕ → List ℕ → List ℕ → Refusal → Type 0
 Stale v u name type Size = ⊥
@@ -30,6 +28,6 @@ pub record New (v : Vol) (u : ℕ) (name type : List ℕ) (f : ℕ) : Type 0 whe
   pub lowest : f ≡ new_file v u
   pub room : f < 256
 
-abbrev pub Fresh : Vol → ℕ → List ℕ → List ℕ → Answer → Type 0
-Fresh v u name type (Done f) = New v u name type f
-Fresh v u name type (Refused w) = Stale v u name type w
+abbrev pub Fresh : Vol → ℕ → List ℕ → List ℕ → Result ℕ Refusal → Type 0
+Fresh v u name type (Ok f) = New v u name type f
+Fresh v u name type (Err w) = Stale v u name type w

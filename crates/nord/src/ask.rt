@@ -1,4 +1,7 @@
 // The calls that change nothing: check, find a user or a file, a page's address, read a page, who holds a page.
+// An outcome is proved by what its call asks for, row by row.
+#![tactic(auto, using(crate::proofs::Outcomes::outcomes), unfolding(book::specs::Calls::address_call, book::specs::Calls::check_call, book::specs::Calls::find_file_call, book::specs::Calls::find_user_call, book::specs::Calls::position_rows, book::specs::Calls::who_call, book::specs::Outcome::call, book::specs::Rows::Clear, book::specs::Rows::Lowest))]
+
 ghost use Rattle.book.specs.Image.{pages, IndexArg, PageArg};
 ghost use Rattle.book.specs.Names.{NameText, TypeText};
 ghost use Rattle.book.specs.Answers.{numbers, holding};
@@ -7,19 +10,13 @@ ghost use Rattle.book.specs.Calls.{check_call, find_user_call, find_file_call, a
 ghost use Rattle.book.specs.Enter.{Known, Fit};
 
 use crate::enter::{enter_file, enter_name, enter_names, enter_page};
-use crate::width::short;
-use book::{Answer, Gate, Holding, Refusal};
-use seek::Found;
+use book::{Answer, Holding, Refusal};
 
 // Judges the image: done with the pages visited, or 3 with the lowest broken rule.
 pub fn check(img: &[u16]) -> Answer
     ensures { Outcome (check_call img.now) img.now (numbers result) img.now }
 {
-    let g = sound::gate(img, true);
-    match g {
-        Gate::Shut { why } => Answer::Refused { why },
-        Gate::Open { visits } => Answer::Done { value: visits },
-    }
+    sound::gate(img, true)
 }
 
 // Find user on a ready image: number 4, or the index.
@@ -27,13 +24,7 @@ fn find_user_open(img: &[u16], name: &[u8]) -> Answer
     requires { Fit img.now (NameText name.now) }
     ensures { Outcome (find_user_call img.now name.now) img.now (numbers result) img.now }
 {
-    let found = seek::find::find_user(img, name);
-    let Found::At { index } = found else {
-        return Answer::Refused {
-            why: Refusal::Missing,
-        };
-    };
-    Answer::Done { value: index }
+    seek::find::find_user(img, name).ok_or(Refusal::Missing)
 }
 
 // The index of the user of that name.
@@ -41,10 +32,7 @@ pub fn find_user(img: &[u16], known: bool, name: &[u8]) -> Answer
     requires { Known known img.now }
     ensures { Outcome (find_user_call img.now name.now) img.now (numbers result) img.now }
 {
-    let g = enter_name(img, known, name);
-    if let Gate::Shut { why } = g {
-        return Answer::Refused { why };
-    }
+    enter_name(img, known, name)?;
     find_user_open(img, name)
 }
 
@@ -54,17 +42,9 @@ fn find_file_open(img: &[u16], user: usize, name: &[u8], kind: &[u8]) -> Answer
     ensures { Outcome (find_file_call img.now user name.now kind.now) img.now (numbers result) img.now }
 {
     if !seek::users::has_user(img, user) {
-        return Answer::Refused {
-            why: Refusal::Missing,
-        };
+        return Err(Refusal::Missing);
     }
-    let found = seek::find::find_file(img, user, name, kind);
-    let Found::At { index } = found else {
-        return Answer::Refused {
-            why: Refusal::Missing,
-        };
-    };
-    Answer::Done { value: index }
+    seek::find::find_file(img, user, name, kind).ok_or(Refusal::Missing)
 }
 
 // The index of the user's file of that name and type.
@@ -72,10 +52,7 @@ pub fn find_file(img: &[u16], known: bool, user: usize, name: &[u8], kind: &[u8]
     requires { Known known img.now }
     ensures { Outcome (find_file_call img.now user name.now kind.now) img.now (numbers result) img.now }
 {
-    let g = enter_names(img, known, user, name, kind);
-    if let Gate::Shut { why } = g {
-        return Answer::Refused { why };
-    }
+    enter_names(img, known, user, name, kind)?;
     find_file_open(img, user, name, kind)
 }
 
@@ -85,12 +62,9 @@ fn address_open(img: &[u16], user: usize, file: usize, n: usize) -> Answer
     ensures { Outcome (address_call img.now user file n) img.now (numbers result) img.now }
 {
     if !seek::positions::has_position(img, user, file, n) {
-        return Answer::Refused {
-            why: Refusal::Missing,
-        };
+        return Err(Refusal::Missing);
     }
-    let value = short(seek::positions::address(img, user, file, n));
-    Answer::Done { value }
+    Ok(seek::positions::address(img, user, file, n) as u32)
 }
 
 // The page of position n of the user's file.
@@ -98,10 +72,7 @@ pub fn address(img: &[u16], known: bool, user: usize, file: usize, n: usize) -> 
     requires { Known known img.now }
     ensures { Outcome (address_call img.now user file n) img.now (numbers result) img.now }
 {
-    let g = enter_file(img, known, user, file);
-    if let Gate::Shut { why } = g {
-        return Answer::Refused { why };
-    }
+    enter_file(img, known, user, file)?;
     address_open(img, user, file, n)
 }
 
@@ -121,10 +92,9 @@ pub fn read_page(img: &[u16], known: bool, user: usize, file: usize, n: usize) -
     requires { Known known img.now }
     ensures { Gives (read_call img.now user file n) img.now result.now }
 {
-    let g = enter_file(img, known, user, file);
-    if let Gate::Shut { why: _ } = g {
+    let Ok(_) = enter_file(img, known, user, file) else {
         return seek::part::empty(img);
-    }
+    };
     read_page_open(img, user, file, n)
 }
 
@@ -133,9 +103,7 @@ fn who_holds_open(img: &[u16], p: usize) -> Holding
     requires { Fit img.now (PageArg (pages img.now) p) }
     ensures { Outcome (who_call img.now p) img.now (holding result) img.now }
 {
-    Holding::By {
-        holder: who::tell::who(img, p),
-    }
+    Ok(who::tell::who(img, p))
 }
 
 // Who holds page p, or that it is free.
@@ -143,9 +111,6 @@ pub fn who_holds(img: &[u16], known: bool, p: usize) -> Holding
     requires { Known known img.now }
     ensures { Outcome (who_call img.now p) img.now (holding result) img.now }
 {
-    let g = enter_page(img, known, p);
-    if let Gate::Shut { why } = g {
-        return Holding::Refused { why };
-    }
+    enter_page(img, known, p)?;
     who_holds_open(img, p)
 }

@@ -1,4 +1,7 @@
 // Calls that change a volume and allocate no page: format, delete a user, give and take pages, write a page, note an open.
+// An outcome is proved by what its call asks for, row by row.
+#![tactic(auto, using(crate::proofs::Outcomes::outcomes), unfolding(book::specs::Calls::delete_user_call, book::specs::Calls::give_call, book::specs::Calls::open_call, book::specs::Calls::position_rows, book::specs::Calls::take_call, book::specs::Calls::write_call, book::specs::Outcome::call, book::specs::Rows::Clear, book::specs::Rows::Lowest))]
+
 ghost use Rattle.std.specs.Prelude.{◌≤◌};
 ghost use Rattle.book.specs.Decides.{Decides};
 ghost use Rattle.book.specs.Names.{NameText};
@@ -9,8 +12,7 @@ ghost use Rattle.book.specs.Calls.{give_call, take_call, delete_user_call, open_
 ghost use Rattle.book.specs.Enter.{Known, Fit};
 
 use crate::enter::{enter_count, enter_data, enter_file, enter_user};
-use crate::width::short;
-use book::{Answer, Gate, Refusal};
+use book::{Answer, Refusal};
 use seek::files::entry_number;
 
 // Give on a ready image: numbers 4 and 10, then the step.
@@ -19,17 +21,13 @@ fn give_open(img: &mut [u16], user: usize, count: u32) -> Answer
     ensures { Outcome (give_call img.old user count) img.old (numbers result) img.new }
 {
     if !seek::users::has_user(img, user) {
-        return Answer::Refused {
-            why: Refusal::Missing,
-        };
+        return Err(Refusal::Missing);
     }
     if seek::users::unreserved(img) < count {
-        return Answer::Refused {
-            why: Refusal::Unreserved,
-        };
+        return Err(Refusal::Unreserved);
     }
     steps::counts::give_step(img, user, count);
-    Answer::Done { value: 0 }
+    Ok(0)
 }
 
 // Moves pages from unreserved to the user's given pages.
@@ -37,11 +35,8 @@ pub fn give(img: &mut [u16], known: bool, user: usize, count: usize) -> Answer
     requires { Known known img.old }
     ensures { Outcome (give_call img.old user count) img.old (numbers result) img.new }
 {
-    let g = enter_count(img, known, user, count);
-    if let Gate::Shut { why } = g {
-        return Answer::Refused { why };
-    }
-    give_open(img, user, short(count))
+    enter_count(img, known, user, count)?;
+    give_open(img, user, count as u32)
 }
 
 // Take on a ready image: numbers 4 and 9, then the step.
@@ -50,17 +45,13 @@ fn take_open(img: &mut [u16], user: usize, count: u32) -> Answer
     ensures { Outcome (take_call img.old user count) img.old (numbers result) img.new }
 {
     if !seek::users::has_user(img, user) {
-        return Answer::Refused {
-            why: Refusal::Missing,
-        };
+        return Err(Refusal::Missing);
     }
     if seek::users::spare(img, user) < count {
-        return Answer::Refused {
-            why: Refusal::Allowance,
-        };
+        return Err(Refusal::Allowance);
     }
     steps::counts::take_step(img, user, count);
-    Answer::Done { value: 0 }
+    Ok(0)
 }
 
 // Moves them back.
@@ -68,11 +59,8 @@ pub fn take(img: &mut [u16], known: bool, user: usize, count: usize) -> Answer
     requires { Known known img.old }
     ensures { Outcome (take_call img.old user count) img.old (numbers result) img.new }
 {
-    let g = enter_count(img, known, user, count);
-    if let Gate::Shut { why } = g {
-        return Answer::Refused { why };
-    }
-    take_open(img, user, short(count))
+    enter_count(img, known, user, count)?;
+    take_open(img, user, count as u32)
 }
 
 // Delete user on a ready image: numbers 4 and 7, then the step.
@@ -81,17 +69,13 @@ fn delete_user_open(img: &mut [u16], user: usize) -> Answer
     ensures { Outcome (delete_user_call img.old user) img.old (numbers result) img.new }
 {
     if !seek::users::has_user(img, user) {
-        return Answer::Refused {
-            why: Refusal::Missing,
-        };
+        return Err(Refusal::Missing);
     }
     if !seek::free::no_files(img, user) {
-        return Answer::Refused {
-            why: Refusal::HasFiles,
-        };
+        return Err(Refusal::HasFiles);
     }
     steps::users::delete_user_step(img, user);
-    Answer::Done { value: 0 }
+    Ok(0)
 }
 
 // Deletes a user that has no file.
@@ -99,10 +83,7 @@ pub fn delete_user(img: &mut [u16], known: bool, user: usize) -> Answer
     requires { Known known img.old }
     ensures { Outcome (delete_user_call img.old user) img.old (numbers result) img.new }
 {
-    let g = enter_user(img, known, user);
-    if let Gate::Shut { why } = g {
-        return Answer::Refused { why };
-    }
+    enter_user(img, known, user)?;
     delete_user_open(img, user)
 }
 
@@ -112,13 +93,11 @@ fn note_open_open(img: &mut [u16], user: usize, file: usize) -> Answer
     ensures { Outcome (open_call img.old user file) img.old (numbers result) img.new }
 {
     if !seek::files::has_file(img, user, file) {
-        return Answer::Refused {
-            why: Refusal::Missing,
-        };
+        return Err(Refusal::Missing);
     }
     let e = entry_number(user, file);
     steps::opens::open_step(img, e);
-    Answer::Done { value: 0 }
+    Ok(0)
 }
 
 // Notes an open of the user's file.
@@ -126,10 +105,7 @@ pub fn note_open(img: &mut [u16], known: bool, user: usize, file: usize) -> Answ
     requires { Known known img.old }
     ensures { Outcome (open_call img.old user file) img.old (numbers result) img.new }
 {
-    let g = enter_file(img, known, user, file);
-    if let Gate::Shut { why } = g {
-        return Answer::Refused { why };
-    }
+    enter_file(img, known, user, file)?;
     note_open_open(img, user, file)
 }
 
@@ -139,13 +115,11 @@ fn write_page_open(img: &mut [u16], user: usize, file: usize, n: usize, data: &[
     ensures { Outcome (write_call img.old user file n «data».now) img.old (numbers result) img.new }
 {
     if !seek::positions::has_position(img, user, file, n) {
-        return Answer::Refused {
-            why: Refusal::Missing,
-        };
+        return Err(Refusal::Missing);
     }
     let e = entry_number(user, file);
     steps::write::write_step(img, e, n, data);
-    Answer::Done { value: 0 }
+    Ok(0)
 }
 
 // Writes the page at position n of the user's file.
@@ -160,10 +134,7 @@ pub fn write_page(
     requires { Known known img.old }
     ensures { Outcome (write_call img.old user file n «data».now) img.old (numbers result) img.new }
 {
-    let g = enter_data(img, known, user, file, data);
-    if let Gate::Shut { why } = g {
-        return Answer::Refused { why };
-    }
+    enter_data(img, known, user, file, data)?;
     write_page_open(img, user, file, n, data)
 }
 
@@ -172,36 +143,23 @@ fn format_args(total: usize, name: &[u8], at: usize) -> bool
     requires { total ≤ most_pages }
     ensures { Decides result (NameText name.now × BitArg total at) }
 {
-    if !page::names::text(name, 1, 16) {
-        return false;
-    }
-    if at == 0 {
-        return false;
-    }
-    if total <= at {
-        return false;
-    }
-    if total - at < bits::bit_pages(total) {
-        return false;
-    }
-    true
+    page::names::text(name, 1, 16) && 0 < at && at < total && bits::bit_pages(total) <= total - at
 }
 
 // Makes a new volume whose bit file begins at page `at`. The image need not be sound.
+#[tactic(auto, using(crate::proofs::Format::formats))]
 pub fn format(img: &mut [u16], name: &[u8], at: usize) -> Answer
     ensures { Outcome (format_call img.old name.now at) img.old (numbers result) img.new }
 {
     if !sound::whole(img) {
-        return Answer::Refused { why: Refusal::Size };
+        return Err(Refusal::Size);
     }
     let total = img.len() / page::WORDS;
     if !format_args(total, name, at) {
-        return Answer::Refused {
-            why: Refusal::Argument,
-        };
+        return Err(Refusal::Argument);
     }
     steps::format::format_step(img, name, at);
-    Answer::Done { value: 0 }
+    Ok(0)
 }
 
 // The same with the bit file from the middle page on.

@@ -19,11 +19,9 @@ fn admit(img: &[u16], known: bool, ok: bool) -> Gate
         return sound::gate(img, ok);
     }
     if !ok {
-        return Gate::Shut {
-            why: Refusal::Argument,
-        };
+        return Err(Refusal::Argument);
     }
-    Gate::Open { visits: 0 }
+    Ok(0)
 }
 
 // No argument.
@@ -110,11 +108,5 @@ pub fn wrong(img: &[u16], known: bool) -> Answer
     requires { Known known img.now }
     ensures { Outcome (wrong_call img.now) img.now (numbers result) img.now }
 {
-    let g = admit(img, known, false);
-    if let Gate::Shut { why } = g {
-        return Answer::Refused { why };
-    }
-    Answer::Refused {
-        why: Refusal::Argument,
-    }
+    admit(img, known, false)
 }

@@ -1,4 +1,7 @@
 // Creating a file, indexed or contiguous; growing and shrinking it by one page; deleting it.
+// An outcome is proved by what its call asks for, row by row.
+#![tactic(auto, using(crate::proofs::Outcomes::outcomes), unfolding(book::specs::Calls::create_contiguous_call, book::specs::Calls::create_indexed_call, book::specs::Calls::delete_file_call, book::specs::Calls::grow_call, book::specs::Calls::shrink_call, book::specs::Outcome::call, book::specs::Rows::Clear, book::specs::Rows::Lowest))]
+
 ghost use Rattle.std.specs.Prelude.{◌<◌};
 ghost use Rattle.book.specs.Words.{vol};
 ghost use Rattle.book.specs.Names.{NameText, TypeText};
@@ -10,9 +13,7 @@ ghost use Rattle.book.specs.Calls.{create_indexed_call, create_contiguous_call, 
 ghost use Rattle.book.specs.Enter.{Known, Fit};
 
 use crate::enter::{enter_file, enter_names, enter_run};
-use crate::width::short;
-use book::{Answer, Gate, Refusal};
-use seek::Found;
+use book::{Answer, Refusal};
 
 // Numbers 4, 5 and 8 of the calls that create a file, then the user's lowest unused index.
 fn new_file(img: &[u16], user: usize, name: &[u8], kind: &[u8]) -> Answer
@@ -20,21 +21,16 @@ fn new_file(img: &[u16], user: usize, name: &[u8], kind: &[u8]) -> Answer
     ensures { Fresh (vol img.now) user name.now kind.now result }
 {
     if !seek::users::has_user(img, user) {
-        return Answer::Refused {
-            why: Refusal::Missing,
-        };
+        return Err(Refusal::Missing);
     }
-    let found = seek::find::find_file(img, user, name, kind);
-    if let Found::At { index: _ } = found {
-        return Answer::Refused {
-            why: Refusal::Taken,
-        };
+    if seek::find::find_file(img, user, name, kind).is_some() {
+        return Err(Refusal::Taken);
     }
     let f = seek::free::free_file(img, user);
     if 255 < f {
-        return Answer::Refused { why: Refusal::Full };
+        return Err(Refusal::Full);
     }
-    Answer::Done { value: short(f) }
+    Ok(f as u32)
 }
 
 // Create indexed on a ready image: numbers 4, 5, 8 and 10, then the step.
@@ -48,19 +44,14 @@ fn create_indexed_open(
     requires { Fit img.old (IndexArg user × NameText name.now × TypeText kind.now) }
     ensures { Outcome (create_indexed_call img.old user name.now kind.now created) img.old (numbers result) img.new }
 {
-    let fresh = new_file(img, user, name, kind);
-    let Answer::Done { value } = fresh else {
-        return fresh;
-    };
+    let value = new_file(img, user, name, kind)?;
     let f = value as usize;
     let e = seek::files::entry_number(user, f);
     if seek::users::unreserved(img) < seek::needs::file_need(img, e) {
-        return Answer::Refused {
-            why: Refusal::Unreserved,
-        };
+        return Err(Refusal::Unreserved);
     }
     making::file::create_indexed_step(img, user, f, name, kind, created);
-    Answer::Done { value }
+    Ok(value)
 }
 
 // Creates an empty indexed file of that name and type, at the user's lowest unused index.
@@ -75,10 +66,7 @@ pub fn create_indexed(
     requires { Known known img.old }
     ensures { Outcome (create_indexed_call img.old user name.now kind.now created) img.old (numbers result) img.new }
 {
-    let g = enter_names(img, known, user, name, kind);
-    if let Gate::Shut { why } = g {
-        return Answer::Refused { why };
-    }
+    enter_names(img, known, user, name, kind)?;
     create_indexed_open(img, user, name, kind, created)
 }
 
@@ -94,30 +82,21 @@ fn create_contiguous_open(
     requires { Fit img.old (IndexArg user × NameText name.now × TypeText kind.now × CountArg count) }
     ensures { Outcome (create_contiguous_call img.old user name.now kind.now created count) img.old (numbers result) img.new }
 {
-    let fresh = new_file(img, user, name, kind);
-    let Answer::Done { value } = fresh else {
-        return fresh;
-    };
+    let value = new_file(img, user, name, kind)?;
     let f = value as usize;
     if seek::users::spare(img, user) < count {
-        return Answer::Refused {
-            why: Refusal::Allowance,
-        };
+        return Err(Refusal::Allowance);
     }
     let e = seek::files::entry_number(user, f);
     if seek::users::unreserved(img) < seek::needs::file_need(img, e) {
-        return Answer::Refused {
-            why: Refusal::Unreserved,
-        };
+        return Err(Refusal::Unreserved);
     }
     let s = making::run::find_run(img, user, f, count);
     if s == 0 {
-        return Answer::Refused {
-            why: Refusal::NoRun,
-        };
+        return Err(Refusal::NoRun);
     }
     making::file::create_contiguous_step(img, user, f, name, kind, created, count, s);
-    Answer::Done { value }
+    Ok(value)
 }
 
 // Creates a contiguous file of that many pages, at the highest run that the system pages leave.
@@ -133,11 +112,8 @@ pub fn create_contiguous(
     requires { Known known img.old }
     ensures { Outcome (create_contiguous_call img.old user name.now kind.now created count) img.old (numbers result) img.new }
 {
-    let g = enter_run(img, known, user, name, kind, count);
-    if let Gate::Shut { why } = g {
-        return Answer::Refused { why };
-    }
-    create_contiguous_open(img, user, name, kind, created, short(count))
+    enter_run(img, known, user, name, kind, count)?;
+    create_contiguous_open(img, user, name, kind, created, count as u32)
 }
 
 // Grow on a ready image: numbers 4, 6 and 9, then the step.
@@ -146,21 +122,16 @@ fn grow_open(img: &mut [u16], user: usize, file: usize) -> Answer
     ensures { Outcome (grow_call img.old user file) img.old (numbers result) img.new }
 {
     if !seek::files::has_file(img, user, file) {
-        return Answer::Refused {
-            why: Refusal::Missing,
-        };
+        return Err(Refusal::Missing);
     }
     let e = seek::files::entry_number(user, file);
     if !seek::files::grows(img, e) {
-        return Answer::Refused { why: Refusal::Kind };
+        return Err(Refusal::Kind);
     }
     if seek::users::spare(img, user) < seek::needs::need(seek::files::page_count(img, e)) {
-        return Answer::Refused {
-            why: Refusal::Allowance,
-        };
+        return Err(Refusal::Allowance);
     }
-    let page = growth::grow::grow_step(img, user, file);
-    Answer::Done { value: page }
+    Ok(growth::grow::grow_step(img, user, file))
 }
 
 // Grows an indexed file by one page: done with the page's number.
@@ -168,10 +139,7 @@ pub fn grow(img: &mut [u16], known: bool, user: usize, file: usize) -> Answer
     requires { Known known img.old }
     ensures { Outcome (grow_call img.old user file) img.old (numbers result) img.new }
 {
-    let g = enter_file(img, known, user, file);
-    if let Gate::Shut { why } = g {
-        return Answer::Refused { why };
-    }
+    enter_file(img, known, user, file)?;
     grow_open(img, user, file)
 }
 
@@ -181,16 +149,14 @@ fn shrink_open(img: &mut [u16], user: usize, file: usize) -> Answer
     ensures { Outcome (shrink_call img.old user file) img.old (numbers result) img.new }
 {
     if !seek::files::has_file(img, user, file) {
-        return Answer::Refused {
-            why: Refusal::Missing,
-        };
+        return Err(Refusal::Missing);
     }
     let e = seek::files::entry_number(user, file);
     if !seek::files::shrinks(img, e) {
-        return Answer::Refused { why: Refusal::Kind };
+        return Err(Refusal::Kind);
     }
     growth::shrink::shrink_step(img, user, file);
-    Answer::Done { value: 0 }
+    Ok(0)
 }
 
 // Shrinks an indexed file by its last page.
@@ -198,10 +164,7 @@ pub fn shrink(img: &mut [u16], known: bool, user: usize, file: usize) -> Answer
     requires { Known known img.old }
     ensures { Outcome (shrink_call img.old user file) img.old (numbers result) img.new }
 {
-    let g = enter_file(img, known, user, file);
-    if let Gate::Shut { why } = g {
-        return Answer::Refused { why };
-    }
+    enter_file(img, known, user, file)?;
     shrink_open(img, user, file)
 }
 
@@ -211,12 +174,10 @@ fn delete_file_open(img: &mut [u16], user: usize, file: usize) -> Answer
     ensures { Outcome (delete_file_call img.old user file) img.old (numbers result) img.new }
 {
     if !seek::files::has_file(img, user, file) {
-        return Answer::Refused {
-            why: Refusal::Missing,
-        };
+        return Err(Refusal::Missing);
     }
     growth::delete::delete_file_step(img, user, file);
-    Answer::Done { value: 0 }
+    Ok(0)
 }
 
 // Deletes a file: its entry is cleared and its pages are freed.
@@ -224,9 +185,6 @@ pub fn delete_file(img: &mut [u16], known: bool, user: usize, file: usize) -> An
     requires { Known known img.old }
     ensures { Outcome (delete_file_call img.old user file) img.old (numbers result) img.new }
 {
-    let g = enter_file(img, known, user, file);
-    if let Gate::Shut { why } = g {
-        return Answer::Refused { why };
-    }
+    enter_file(img, known, user, file)?;
     delete_file_open(img, user, file)
 }

@@ -9,4 +9,3 @@ pub mod change;
 pub mod enter;
 pub mod files;
 pub mod users;
-mod width;
