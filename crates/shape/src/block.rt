@@ -97,10 +97,7 @@ fn count_ok(img: &[u16], t: usize, n: usize) -> bool
     requires { Subindex img.now t × (512 < n) × (n ≤ 262144) }
     ensures { Decides result (Filled (pages img.now) (vol img.now) 2 t n) }
 {
-    if root_page(img, 2, t, 0, n - 1) == 0 {
-        return false;
-    }
-    root_page(img, 2, t, 0, n) == 0
+    root_page(img, 2, t, 0, n - 1) != 0 && root_page(img, 2, t, 0, n) == 0
 }
 
 // Whether page t is a subindex block of n pages. A right one is marked, and gone through only once: when it is met again, the count alone is compared.
