@@ -1,7 +1,7 @@
 -- Where a file ends, as code finds it, and its entries from there on. Assumes nothing.
-use mathlib.Core.Path.{◌≡◌, refl, sym, ap, ◌∙◌, subst}
+use mathlib.Core.Path.{◌≡◌, refl, sym, ap, ◌∙◌}
 use mathlib.Core.List.{List}
-use Prim.Native.Nat.{ℕ, ◌+◌, ◌-◌, ◌*◌, ◌/◌, ◌%◌, ◌≤◌, ◌<◌}
+use Prim.Native.Nat.{ℕ, ◌*◌, ◌/◌, ◌≤◌, ◌<◌}
 use native.Mathlib.Decide.{dec_lt}
 use native.Mathlib.Omega.{arith}
 use Rattle.book.specs.Words.{Words, Vol, vol}
@@ -23,26 +23,6 @@ slots-none v b e = record { most = omega arith; none = λ k h l. ap (λ (x : ℕ
 -- from the block's part of the image
 pub slots-part : (img : List ℕ) (b n : ℕ) → 0 < b → End (part_of img b) n → SlotsEnd (vol img) b n
 slots-part img b n h d = record { most = d.most; none = λ k l i. sym (part-slot img b h k) ∙ d.none k i l }
-
--- index blocks i to 3 of a subindex block have no page
-module _ (v : Vol) (t : ℕ) where
-  pub tree_all : TreeEnd v t (512 * 4)
-  tree_all = record { most = omega arith; none = λ k h l. absurd (let z : ⊥ = omega arith in z) }
-
-  -- index block i - 1 is that of page b, which ends at n
-  pub tree-less : (i b n : ℕ) → 0 < i → TreeEnd v t (512 * i) → b ≡ slot v t (i - 1) → SlotsEnd v b n → TreeEnd v t (512 * (i - 1) + n)
-  tree-less i b n h d e s = record {
-    most = omega (arith, d.most, s.most);
-    none = λ k l j. elim (dec_lt k (512 * i)) [
-      | no o ↦ d.none k (omega arith) j
-      | yes o ↦
-          ap (λ (x : ℕ). slot v (slot v t x) (k % 512)) (let q : k / 512 ≡ i - 1 = omega arith in q) ∙ ap (λ (x : ℕ). slot v x (k % 512)) (sym e)
-          ∙ s.none (k % 512) (omega arith) (omega arith)
-    ];
-  }
-
-  pub tree-at : (m n : ℕ) → m ≡ n → TreeEnd v t m → TreeEnd v t n
-  tree-at m n e d = subst (TreeEnd v t) e d
 
 -- ---- the object file, by the flags x and the page t of its pointer
 

@@ -20,16 +20,11 @@ fn either(a: u16, b: u16) -> u16
 fn blank(part: &[u16]) -> bool
     ensures { Decides result (Begins (length part.now) part.now zeros) }
 {
-    let mut any: u16 = 0;
-    let mut i: usize = 0;
-    while i < part.len() {
-        any = either(any, part[i]);
-        i += 1;
+    let mut any = 0;
+    for &w in part {
+        any = either(any, w);
     }
-    if any != 0 {
-        return false;
-    }
-    true
+    any == 0
 }
 
 // Whether pointers n to z - 1 of a block are zero.
@@ -43,6 +38,7 @@ pub fn unlinked(block: &[u16], n: usize, z: usize) -> bool
 }
 
 // 1 where the pointer of two words is not in least..total-1, and 0 where it is: of a volume below 65,536 pages.
+// A number and no bool: the loop over a block adds them up, so that it needs no way out.
 fn wrong_near(high: u16, low: u16, least: u16, total: u16) -> u16
     ensures { Wrong (high * 65536 + low) least total result }
 {
@@ -102,30 +98,11 @@ fn linked(block: &[u16], n: usize, least: u16, top: u16, rest: u16) -> bool
     requires { (length block.now ≡ 1024) × (n ≤ 512) }
     ensures { Decides result (Linked least (top * 65536 + rest) block.now n) }
 {
-    let mut bad: u16 = 0;
-    let mut i: usize = 0;
-    while i < n {
+    let mut bad = 0;
+    for i in 0..n {
         bad += wrong(block[2 * i], block[2 * i + 1], least, top, rest);
-        i += 1;
     }
-    if bad != 0 {
-        return false;
-    }
-    true
-}
-
-// The two words of a page total.
-fn high(total: usize) -> u16
-    requires { total ≤ most_pages }
-    ensures { result ≡ total / 65536 }
-{
-    (total / 65536) as u16
-}
-
-fn low(total: usize) -> u16
-    ensures { result ≡ total % 65536 }
-{
-    (total % 65536) as u16
+    bad == 0
 }
 
 // Whether pointers 0 to n - 1 of a block are in least..total-1 and the others zero.
@@ -133,10 +110,9 @@ pub fn filled(block: &[u16], n: usize, least: u16, total: usize) -> bool
     requires { (length block.now ≡ 1024) × (n ≤ 512) × (total ≤ most_pages) }
     ensures { Decides result (Linked least total block.now n × Unlinked block.now n 512) }
 {
-    if !linked(block, n, least, high(total), low(total)) {
-        return false;
-    }
-    unlinked(block, n, 512)
+    let top = (total / 65536) as u16;
+    let rest = (total % 65536) as u16;
+    linked(block, n, least, top, rest) && unlinked(block, n, 512)
 }
 
 // A multiple of 16 from which on a block has no pointers.
@@ -144,14 +120,12 @@ fn row_end(block: &[u16]) -> usize
     requires { length block.now ≡ 1024 }
     ensures { End block.now result }
 {
-    let mut n: usize = 512;
-    while 15 < n {
-        if !unlinked(block, n - 16, n) {
-            return n;
+    for row in (0..32).rev() {
+        if !unlinked(block, 16 * row, 16 * row + 16) {
+            return 16 * row + 16;
         }
-        n -= 16;
     }
-    n
+    0
 }
 
 // One more than the highest slot of a block that is filled, 0 where none is.
@@ -159,12 +133,10 @@ pub(crate) fn block_end(block: &[u16]) -> usize
     requires { length block.now ≡ 1024 }
     ensures { End block.now result }
 {
-    let mut n = row_end(block);
-    while 0 < n {
-        if dword(block, 2 * (n - 1)) != 0 {
-            return n;
+    for i in (0..row_end(block)).rev() {
+        if dword(block, 2 * i) != 0 {
+            return i + 1;
         }
-        n -= 1;
     }
-    n
+    0
 }

@@ -28,13 +28,11 @@ pub(crate) fn tree_end(img: &[u16], t: usize) -> usize
     requires { Reach img.now (root_by 2 t 0) }
     ensures { TreeEnd (vol img.now) t result }
 {
-    let mut i: usize = 4;
-    while 0 < i {
-        let n = slots_end(img, slot_at(img, t, i - 1));
+    for i in (0..4).rev() {
+        let n = slots_end(img, slot_at(img, t, i));
         if n != 0 {
-            return 512 * (i - 1) + n;
+            return 512 * i + n;
         }
-        i -= 1;
     }
     0
 }

@@ -1,4 +1,5 @@
 // Words, numbers and pointers of entry n on page q; an entry of an absent page, q = 0, has only zeros.
+// The four begin alike: a helper that gave the word's place as an Option would be taken apart in each, by no fewer lines.
 ghost use Rattle.std.specs.Prelude.{◌≡◌, ◌/◌, ◌<◌};
 ghost use Rattle.book.specs.Words.{vol, two};
 ghost use Rattle.book.specs.Pointers.{page, flags};
@@ -8,6 +9,7 @@ ghost use Rattle.book.specs.Decides.{Decides};
 ghost use Rattle.tree.specs.Reach.{entry_in};
 
 use page::entry::EntryPlace;
+use page::read::{flags_at, page_at, two_at, word_at};
 
 // Word k.
 pub fn entry_word(img: &[u16], q: usize, n: usize, k: usize) -> u16
@@ -17,9 +19,7 @@ pub fn entry_word(img: &[u16], q: usize, n: usize, k: usize) -> u16
     if q == 0 {
         return 0;
     }
-    let place = EntryPlace::of(n);
-    let w = place.word;
-    page::read::word_at(img, q, w + k)
+    word_at(img, q, EntryPlace::of(n).word + k)
 }
 
 // The two-word number at word k.
@@ -30,9 +30,7 @@ pub fn entry_two(img: &[u16], q: usize, n: usize, k: usize) -> u32
     if q == 0 {
         return 0;
     }
-    let place = EntryPlace::of(n);
-    let w = place.word;
-    page::read::two_at(img, q, w + k)
+    two_at(img, q, EntryPlace::of(n).word + k)
 }
 
 // The page number of the pointer at word k.
@@ -43,9 +41,7 @@ pub fn entry_page(img: &[u16], q: usize, n: usize, k: usize) -> usize
     if q == 0 {
         return 0;
     }
-    let place = EntryPlace::of(n);
-    let w = place.word;
-    page::read::page_at(img, q, w + k) as usize
+    page_at(img, q, EntryPlace::of(n).word + k) as usize
 }
 
 // The flags of the pointer at word k.
@@ -56,18 +52,7 @@ pub fn entry_flags(img: &[u16], q: usize, n: usize, k: usize) -> u16
     if q == 0 {
         return 0;
     }
-    let place = EntryPlace::of(n);
-    let w = place.word;
-    page::read::flags_at(img, q, w + k)
-}
-
-fn in_use(w: u16) -> bool
-    ensures { Decides result (0 < w / 32768) }
-{
-    if w < 32768 {
-        return false;
-    }
-    true
+    flags_at(img, q, EntryPlace::of(n).word + k)
 }
 
 // The entry is used.
@@ -75,5 +60,5 @@ pub fn entry_used(img: &[u16], q: usize, n: usize) -> bool
     requires { q < pages img.now }
     ensures { Decides result (0 < used (entry_in (vol img.now) q n)) }
 {
-    in_use(entry_word(img, q, n, 0))
+    32768 <= entry_word(img, q, n, 0)
 }

@@ -1,8 +1,5 @@
 use Rattle.tree.specs.Blocks.{End}
 use Rattle.tree.proofs.block.block_end.Given as goal
 
-abbrev pub invariant-loop-n : goal.invariant-loop-n
-invariant-loop-n l = End l.block l.n
-
-abbrev pub decreases-loop-n : goal.decreases-loop-n
-decreases-loop-n l = l.n
+abbrev pub invariant-loop-i : goal.invariant-loop-i
+invariant-loop-i l = End l.block l.i

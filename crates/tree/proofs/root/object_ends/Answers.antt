@@ -10,17 +10,19 @@ use Rattle.tree.proofs.root.object_ends.Goals as goal
 
 pub slots_end-requires : goal.slots_end-requires
 slots_end-requires c =
-    let r = reach-same _ _ _ (object-root (vol c.args.img.now) c.flags_at-flags.result c.page_at-top.result c.flags_at-flags.ensures.0 c.page_at-top.ensures.0) c.requires in
-    (slots-one _ _ c.flags_at-flags.result c.page_at-top.result 0 r.below c.if-flags-eq1.true 0 (omega arith)).0
+    let r = reach-same _ _ _ (object-root (vol c.args.img.now) c.flags_at.result c.page_at-top.result c.flags_at.ensures.0 c.page_at-top.ensures.0) c.requires in
+    (slots-one _ _ c.flags_at.result c.page_at-top.result 0 r.below c.in-1.is 0 (omega arith)).0
 
-pub returns-then-flags-eq1 : goal.returns-then-flags-eq1
-returns-then-flags-eq1 c = ends-one c.args.img.now c.flags_at-flags.result c.page_at-top.result _ (object-root (vol c.args.img.now) c.flags_at-flags.result c.page_at-top.result c.flags_at-flags.ensures.0 c.page_at-top.ensures.0) c.if-flags-eq1.true c.slots_end.ensures
+pub returns-in-1 : goal.returns-in-1
+returns-in-1 c = ends-one c.args.img.now c.flags_at.result c.page_at-top.result _ (object-root (vol c.args.img.now) c.flags_at.result c.page_at-top.result c.flags_at.ensures.0 c.page_at-top.ensures.0) c.in-1.is c.slots_end.ensures
 
 pub tree_end-requires : goal.tree_end-requires
-tree_end-requires c = reach-same _ _ _ (object-root (vol c.args.img.now) c.flags_at-flags.result c.page_at-top.result c.flags_at-flags.ensures.0 c.page_at-top.ensures.0 ∙ ap (λ (y : ℕ). root_by y c.page_at-top.result 0) c.if-flags-eq2.true) c.requires
+tree_end-requires c = reach-same _ _ _ (object-root (vol c.args.img.now) c.flags_at.result c.page_at-top.result c.flags_at.ensures.0 c.page_at-top.ensures.0 ∙ ap (λ (y : ℕ). root_by y c.page_at-top.result 0) c.in-2.is) c.requires
 
-pub returns-then-flags-eq2 : goal.returns-then-flags-eq2
-returns-then-flags-eq2 c = ends-two c.args.img.now c.flags_at-flags.result c.page_at-top.result _ (object-root (vol c.args.img.now) c.flags_at-flags.result c.page_at-top.result c.flags_at-flags.ensures.0 c.page_at-top.ensures.0) c.if-flags-eq2.true c.tree_end.ensures
+pub returns-in-2 : goal.returns-in-2
+returns-in-2 c = ends-two c.args.img.now c.flags_at.result c.page_at-top.result _ (object-root (vol c.args.img.now) c.flags_at.result c.page_at-top.result c.flags_at.ensures.0 c.page_at-top.ensures.0) c.in-2.is c.tree_end.ensures
 
-pub returns : goal.returns
-returns c = ends-other c.args.img.now c.flags_at-flags.result c.page_at-top.result 0 (object-root (vol c.args.img.now) c.flags_at-flags.result c.page_at-top.result c.flags_at-flags.ensures.0 c.page_at-top.ensures.0) refl c.if-flags-eq1.false c.if-flags-eq2.false
+pub returns-in_default : goal.returns-in_default
+returns-in_default c =
+    ends-other c.args.img.now c.flags_at.result c.page_at-top.result 0 (object-root (vol c.args.img.now) c.flags_at.result c.page_at-top.result c.flags_at.ensures.0 c.page_at-top.ensures.0) refl
+    (λ e. omega arith) (λ e. omega arith)

@@ -1,13 +1,11 @@
-use Rattle.book.specs.Words.{vol}
-use Rattle.book.specs.Entries.{user_page}
-use Rattle.tree.proofs.Reach.{reach-same, user-root, page-read}
+use native.Mathlib.Omega.{arith}
+use Rattle.book.specs.Entries.{user_file, user_page}
 use Rattle.tree.proofs.root.user_page.Goals as goal
 
-pub root_page-requires : goal.root_page-requires
-root_page-requires c = let v = vol c.args.img.now in
-    reach-same _ _ _ (user-root v c.flags_at-flags.result c.page_at-top.result c.flags_at-flags.ensures.0 c.page_at-top.ensures.0) c.requires
+pub page_of_entry-requires : goal.page_of_entry-requires
+unfolding user_file
+page_of_entry-requires c = (omega arith, c.requires)
 
 pub returns : goal.returns
-unfolding user_page
-returns c = let v = vol c.args.img.now in
-    (page-read v _ _ _ _ _ (user-root v c.flags_at-flags.result c.page_at-top.result c.flags_at-flags.ensures.0 c.page_at-top.ensures.0) c.of-place.ensures.0 c.root_page.ensures.0, c.root_page.ensures.1)
+unfolding user_page user_file
+returns c = c.page_of_entry.ensures
