@@ -11,18 +11,12 @@ use std::io::Read;
 // The bytes of 32 pages; the text for an image of so many is no longer.
 const MOST: usize = 65536;
 
-fn wide(b: u8) -> u16
-    ensures { (result ≡ b) × (result < 256) }
-{
-    b as u16
-}
-
 // Word i of the bytes s.
 fn word_of(s: &[u8], i: usize) -> u16
     requires { 2 * i + 1 < length s.now }
     ensures { result ≡ words_of s.now i }
 {
-    wide(s[2 * i]) * 256 + wide(s[2 * i + 1])
+    u16::from_be_bytes([s[2 * i], s[2 * i + 1]])
 }
 
 // The image becomes the words of the bytes s.
@@ -30,10 +24,8 @@ fn words(s: &[u8], image: &mut [u16])
     requires { 2 * length image.old ≡ length s.now }
     ensures { WordsOf s.now image.new }
 {
-    let mut i: usize = 0;
-    while i < image.len() {
-        image[i] = word_of(s, i);
-        i += 1;
+    for (i, word) in image.iter_mut().enumerate() {
+        *word = word_of(s, i);
     }
 }
 
@@ -46,29 +38,16 @@ fn answer(s: &[u8], image: &mut [u16], out: &mut [u8]) -> usize
     listing::list(image, out)
 }
 
-fn image_room() -> [u16; 32768]
-    ensures { 32768 ≡ length result }
-{
-    [0; 32768]
-}
-
-fn text_room() -> [u8; 65536]
-    ensures { 65536 ≡ length result }
-{
-    [0; 65536]
-}
-
-// Reads until the buffer is full or the input ends; the count of bytes that stand at its front.
+// Reads until the buffer is full or the input ends; the count of bytes that stand at its front. By hand: std's `read_exact` refuses an input that ends early, and its `read_to_end` needs a heap.
 fn read_full<R: Read>(from: &mut R, buf: &mut [u8]) -> io::Result<usize>
     ensures { IfOk result (λ n. n ≤ length buf.new) }
 {
-    let mut done: usize = 0;
+    let mut done = 0;
     while done < buf.len() {
-        let n = from.read(&mut buf[done..])?;
-        if n == 0 {
-            break;
+        match from.read(&mut buf[done..])? {
+            0 => break,
+            n => done += n,
         }
-        done += n;
     }
     Ok(done)
 }
@@ -79,17 +58,13 @@ fn refuse(rt: &impl Print) -> io::Result<()> {
 }
 
 fn main(rt: HostRuntime) -> io::Result<()> {
-    let mut bytes = [0u8; 65537];
+    let mut bytes = [0u8; MOST + 1];
     let n = read_full(&mut rt.stdin(), &mut bytes)?;
-    if MOST < n {
+    if n > MOST || n % 2 != 0 {
         return refuse(&rt);
     }
-    if n % 2 != 0 {
-        return refuse(&rt);
-    }
-    let mut image = image_room();
-    let mut text = text_room();
-    let count = n / 2;
-    let length = answer(&bytes[..n], &mut image[..count], &mut text);
+    let mut image = [0u16; MOST / 2];
+    let mut text = [0u8; MOST];
+    let length = answer(&bytes[..n], &mut image[..n / 2], &mut text);
     rt.write_all(&text[..length])
 }

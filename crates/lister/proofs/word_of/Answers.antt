@@ -5,4 +5,4 @@ use Rattle.lister.proofs.word_of.Goals as goal
 
 pub returns : goal.returns
 unfolding words_of
-returns c = omega (arith, c.wide.ensures.0, c.wide-2.ensures.0)
+returns c = omega (arith, c.from_be_bytes.ensures)
