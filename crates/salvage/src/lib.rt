@@ -26,7 +26,6 @@ use book::{Answer, Refusal};
 use page::WORDS;
 use places::tell::tell;
 use sound::early::early;
-use walk::Walk;
 use walk::volume::mark_all;
 
 // The words that change are collected, and 14 is asked before the first is written.
@@ -78,13 +77,12 @@ fn mend_marked(
     requires { Whole img.old × Early false (pages img.old) (vol img.old) × Ends img.old ends × (length row.old ≡ row_size) × Unmarked (pages img.old) marks.old }
     ensures { Mends img.old room result img.new row.new }
 {
-    let w = mark_all(img, marks, img.len() / WORDS, ends);
-    let Walk::On { visited } = w else {
+    let Some(visits) = mark_all(img, marks, img.len() / WORDS, ends) else {
         return Err(Refusal::Unsound {
             broken: tell(img, false, 8),
         });
     };
-    mend_good(img, marks, visited, ends, room, row)
+    mend_good(img, marks, visits, ends, room, row)
 }
 
 // The same; here the marks are made, as many as the volume asks for.
