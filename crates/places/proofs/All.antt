@@ -13,19 +13,17 @@ use Rattle.book.specs.Bits.{bit_pages, bit_file}
 use Rattle.book.specs.Entries.{user_file, object_file}
 use Rattle.book.specs.Files.{file_at}
 use Rattle.book.specs.Holders.{hit, mine, system, all, holders}
-use Rattle.book.specs.Image.{pages}
 use Rattle.laws.specs.Count.Sums.{sum-cat, sum_rows}
 use Rattle.laws.specs.Tree.Pointer.{file-unused}
 use Rattle.tree.specs.Ends.{Ends}
 use Rattle.tree.proofs.Absent.{ends-unused}
 use Rattle.bits.specs.Marks.{Unmarked, Marking}
-use Rattle.walk.specs.Held.{Volume}
 use Rattle.bits.proofs.Marked.{marked-le, no-marks}
 use Rattle.walk.proofs.Holding.{first-mark}
 use Rattle.book.specs.declared.Place.{Place}
 use Rattle.book.specs.Spots.{at, AllHold, First}
 use Rattle.book.specs.Places.{spots8}
-use Rattle.places.specs.Low.{marks_size, opened_size, under, Seen, Met, Room, Meets, Meets₂, Index, Unopened, Meeting}
+use Rattle.places.specs.Low.{opened_size, under, Seen, Met, Room, Meets, Meets₂, Index, Unopened, Meeting}
 use Rattle.places.proofs.Steps.{same₂, from-marks, then₂}
 
 -- ---- what is given on
@@ -127,6 +125,3 @@ all-met img ends d P m a b c one two m₁ a₁ b₁ c₁ m₂ a₂ b₂ c₂ x y
 
 pub met-total : (P : ℕ) (v : Vol) (m a b : List ℕ) (c : ℕ) → c ≡ P → (w : ℕ → ℕ) (m' a' b' : List ℕ) (c' : ℕ) → Meets₂ P v m a b c w m' a' b' c' → Meets₂ P v m a b P w m' a' b' c'
 met-total P v m a b c e w m' a' b' c' k = subst (λ (x : ℕ). Meets₂ P v m a b x w m' a' b' c') e k
-
-pub begun : (img : List ℕ) (N : ℕ) (m₀ a b : List ℕ) (c : ℕ) → Volume img → c ≡ pages img → length m₀ ≡ marks_size → Unmarked N m₀ → (m : List ℕ) (r : Bool) → Marking m₀ 0 m r → Unopened a → Unopened b → Meeting img m a b c
-begun img N m₀ a b c w e z u m r k da db = record { volume = w; room = record { size = (first-mark N m₀ u m r k).kept ∙ z; most = omega (arith, w.whole.most) }; index = da.size; subindex = db.size }

@@ -67,9 +67,6 @@ module _ (P : ℕ) (v : Vol) (x t n : ℕ) (r : Option Place) where
   unfolding block_spots
   blocks-1 e d = flagged 1 e d
 
-  pub blocks-2 : x ≡ 2 → Finds (block_spots P v 2 t n) r → Finds (block_spots P v x t n) r
-  blocks-2 e d = flagged 2 e d
-
 pub blocks-none : (P : ℕ) (v : Vol) (x t n : ℕ) → (x ≡ 1 → ⊥) → (x ≡ 2 → ⊥) → AllHold (block_spots P v x t n)
 unfolding AllHold block_spots
 blocks-none P v zero t n a b = tt

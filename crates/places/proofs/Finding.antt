@@ -10,9 +10,6 @@ module _ (s : Spots) (r : Option Place) (d : Finds s r) where
   pub found_at : (q : Place) → r ≡ Some q → First s q
   found_at q e = subst (λ (x : Option Place). Finds s x) e d
 
-  pub found_right : r ≡ None → AllHold s
-  found_right e = subst (λ (x : Option Place). Finds s x) e d
-
 -- the places of an entry that is used, and of one that is not
 pub finds-when : (n : ℕ) (s : Spots) → 0 < n → (r : Option Place) → Finds s r → Finds (when n s) r
 finds-when n s h None d = when-all n s (λ l. d)

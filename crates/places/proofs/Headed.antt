@@ -1,17 +1,14 @@
 -- The places of rules 1 and 2, by the ways through the code. Assumes nothing.
 use mathlib.Core.Path.{◌≡◌}
 use mathlib.Core.Logic.{inl, inr}
-use mathlib.Core.Bool.{Bool}
 use Prim.Native.Nat.{ℕ}
 use Rattle.book.specs.Words.{Vol}
-use Rattle.book.specs.Pointers.{Zero, Inside, user_pointer, object_pointer, bit_pointer, volume_name}
+use Rattle.book.specs.Pointers.{user_pointer, object_pointer, bit_pointer, volume_name}
 use Rattle.book.specs.Names.{LegalName}
 use Rattle.book.specs.Rules.{Rule1, Rule2}
-use Rattle.book.specs.Decides.{Decides}
 use Rattle.book.specs.declared.Place.{Place}
 use Rattle.book.specs.Spots.{AllHold, First}
 use Rattle.book.specs.Places.{in_master, spots1, spots2}
-use Rattle.page.proofs.Deciding.{decides-iff}
 use Rattle.laws.specs.Place.Rules.{rule1, rule2}
 use Rattle.places.specs.Found.{ObjectsRight}
 
@@ -35,22 +32,3 @@ module _ (P : ℕ) (v : Vol) where
   pub users-wrong : (q : Place) → q ≡ in_master user_pointer → ObjectsRight P v → (Rule2 P v → ⊥) → First (spots2 P v) q
   unfolding First AllHold spots2
   users-wrong q e o n = inr (o, (e, λ u. n (rule2 P v (o, u))))
-
-  -- the object pointer, where the user pointer is zero, and where it is not
-  pub objects-none : (b : Bool) → Zero (v 0) user_pointer → Decides b (Zero (v 0) object_pointer) → Decides b (ObjectsRight P v)
-  objects-none b z = decides-iff b _ _ (λ o. inl (z, o)) go
-    where
-      go : ObjectsRight P v → Zero (v 0) object_pointer
-      go (inl a) = a.1
-      go (inr a) = absurd (a.0 z)
-
-  pub objects-one : (Zero (v 0) user_pointer → ⊥) → Inside P (v 0) object_pointer 1 → ObjectsRight P v
-  objects-one n i = inr (n, inl i)
-
-  pub objects-two : (b : Bool) → (Zero (v 0) user_pointer → ⊥) → (Inside P (v 0) object_pointer 1 → ⊥) → Decides b (Inside P (v 0) object_pointer 2) → Decides b (ObjectsRight P v)
-  objects-two b n i = decides-iff b _ _ (λ o. inr (n, inr o)) go
-    where
-      go : ObjectsRight P v → Inside P (v 0) object_pointer 2
-      go (inl a) = absurd (n a.0)
-      go (inr (a, inl o)) = absurd (i o)
-      go (inr (a, inr o)) = o

@@ -79,10 +79,6 @@ pub slot-met : (v : Vol) (t k q : ℕ) (m : List ℕ) (c : ℕ) (m' : List ℕ) 
 unfolding weigh
 slot-met v t k q m c m' c' e d = meets-same m c (λ p. hit p q) (λ p. hit p (slot v t k)) (λ p. ap (hit p) e) m' c' d
 
--- what is given to the next
-pub room-on : (m : List ℕ) (c : ℕ) (w : ℕ → ℕ) (m' : List ℕ) (c' : ℕ) → Room m c → Meets m c w m' c' → Room m' c'
-room-on m c w m' c' r k = record { size = k.size; most = omega (arith, r.most, k.most) }
-
 -- ---- a block that is opened, after a test of the answer
 
 module _ (a : List ℕ) (t : ℕ) (a' : List ℕ) where
@@ -210,6 +206,3 @@ module _ (v : Vol) (t n : ℕ) (g : ℕ → ℕ) where
 -- an index block that a pointer names
 pub index_same : (P : ℕ) (v : Vol) (t k q : ℕ) (m a : List ℕ) (c : ℕ) (m' a' : List ℕ) (c' : ℕ) → q ≡ slot v t k → Meets₁ P v m a c (λ p. weigh v 1 q (hit p)) m' a' c' → Meets₁ P v m a c (λ p. weigh v 1 (slot v t k) (hit p)) m' a' c'
 index_same P v t k q m a c m' a' c' e d = subst (λ (x : ℕ). Meets₁ P v m a c (λ p. weigh v 1 x (hit p)) m' a' c') e d
-
-pub files-end : (P : ℕ) (v : Vol) (m a b : List ℕ) (c : ℕ) (x : ℕ → ℕ → ℕ) (i n : ℕ) → i ≡ n → (m' a' b' : List ℕ) (c' : ℕ) → Meets₂ P v m a b c (λ p. sum i (λ j. x j p)) m' a' b' c' → Meets₂ P v m a b c (λ p. sum n (λ j. x j p)) m' a' b' c'
-files-end P v m a b c x i n e m' a' b' c' k = subst (λ (z : ℕ). Meets₂ P v m a b c (λ p. sum z (λ j. x j p)) m' a' b' c') e k

@@ -27,15 +27,9 @@ use Rattle.laws.specs.Place.Rule7.{rule7}
 use Rattle.heads.proofs.Judged.{asked-holds}
 use Rattle.walk.specs.Held.{Volume}
 use Rattle.walk.proofs.Short.{rules-short}
-use Rattle.std.specs.Option.{unwrap_or}
 use Rattle.std.proofs.Common.{Option, None, Some}
 use Rattle.places.specs.Found.{Finds}
 use Rattle.places.specs.Tell.{Breaks, place_of, plainly}
-
--- as code reads it
-pub place-or : (f : Option Place) → unwrap_or f (at 0 0) ≡ place_of f
-place-or None = refl
-place-or (Some q) = refl
 
 -- where not all places of a row hold, the one found is the first
 found_first : (s : Spots) (f : Option Place) → Finds s f → (AllHold s → ⊥) → First s (place_of f)
@@ -124,19 +118,6 @@ module _ (img : List ℕ) (ten : Bool) (r : ℕ) (B : Breaks img ten r) where
       let d = (above5 ten P v r l (omega arith)).0 in let e = (above7 ten P v r l h).0 in
       record { whole = B.whole; within = rules-within P v a b c d e; short = rules-short P v b c d e }
 
-  pub breaks-at : {k : ℕ} → r ≡ k → Breaks img ten k
-  breaks-at e = record { whole = B.whole; lowest = subst (Lowest (rules_of ten P v)) e B.lowest }
-
   -- where the bit file is
   pub bits_of : 1 < r → (b : ℕ) → b ≡ page (v 0) bit_pointer → BitsAt P v b
   bits_of h b e = subst (BitsAt P v) (sym e) (bits_at P v (above1 ten P v r B.lowest h).0)
-
--- a number that is none of the first five
-pub five : {r : ℕ} → (r ≡ 1 → ⊥) → (r ≡ 2 → ⊥) → (r ≡ 3 → ⊥) → (r ≡ 4 → ⊥) → (r ≡ 5 → ⊥) → 0 < r → 5 < r
-five {r} a b c d e h = elim (dec_lt 5 r) [
-  | yes l ↦ l
-  | no l ↦ absurd (go r a b c d e h (omega arith))
-]
-  where
-    go : (r : ℕ) → (r ≡ 1 → ⊥) → (r ≡ 2 → ⊥) → (r ≡ 3 → ⊥) → (r ≡ 4 → ⊥) → (r ≡ 5 → ⊥) → 0 < r → r ≤ 5 → ⊥
-    go r a b c d e h l = omega arith

@@ -12,30 +12,6 @@ use Rattle.laws.specs.Tree.Roles.{upto-pos}
 use Rattle.who.specs.Least.{Never, Here, Least}
 
 module _ (A : ℕ → Type 0) (x : ℕ) where
-  pub none_yet : (y : ℕ) → y ≡ x → Never A x y
-  none_yet y e i h l a = omega (arith, h, l)
-
-  pub none_more : (y : ℕ) → Never A x y → (A y → ⊥) → Never A x (y + 1)
-  none_more y n m i h l a = elim (dec_lt i y) [
-    | yes s ↦ n i h s a
-    | no s ↦ let e : i ≡ y = omega arith in m (subst A e a)
-  ]
-
-  pub none_to : (z y : ℕ) → z ≤ y → Never A x y → Never A x z
-  none_to z y l n i s t a = n i s (omega arith) a
-
-  -- nothing before y, and from there on the first below w
-  pub least_on : (y w z r : ℕ) → x ≤ y → Never A x y → Here A y w r → w ≤ z → Here A x z r
-  least_on y w z r h n d l = record {
-    from = omega (arith, d.from);
-    to = omega (arith, d.to);
-    none = λ i s t a. elim (dec_lt i y) [
-      | yes m ↦ n i s m a
-      | no m ↦ d.none i (omega arith) t a
-    ];
-    here = d.here;
-  }
-
   pub none-on : (y w : ℕ) → Never A x y → Never A y w → Never A x w
   none-on y w n d i s t a = elim (dec_lt i y) [
     | yes m ↦ n i s m a

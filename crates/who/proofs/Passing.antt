@@ -15,13 +15,10 @@ use Rattle.page.proofs.Slots.{slot-absent}
 use Rattle.tree.specs.Ends.{SlotsEnd}
 use Rattle.walk.specs.Short.{Short, ShortR}
 use Rattle.walk.proofs.Short.{root-short}
-use Rattle.book.specs.Image.{pages, most_pages}
-use Rattle.bits.specs.Marks.{Unmarked, Marking}
+use Rattle.book.specs.Image.{pages}
+use Rattle.bits.specs.Marks.{Marking}
 use Rattle.who.specs.Least.{Never, Least}
 use Rattle.who.specs.Search.{Vain, VainUnder, Passed, Search}
-
-passed_none : (P N : ℕ) → P ≤ N → (A : ℕ → Type 0) (m : List ℕ) → Unmarked N m → Passed P A m
-passed_none P N h A m d = record { room = omega (arith, h, d.room); all = λ b e. absurd (let z : ⊥ = omega (arith, e, d.none b) in z) }
 
 passed-mark : (P : ℕ) (A : ℕ → Type 0) (m : List ℕ) (b : ℕ) (m' : List ℕ) (r : Bool) → Passed P A m → Marking m b m' r → A b → Passed P A m'
 passed-mark P A m b m' true d k a = record {
@@ -32,11 +29,6 @@ passed-mark P A m b m' true d k a = record {
   ];
 }
 passed-mark P A m b m' false d k a = subst (Passed P A) (sym k.1) d
-
--- nothing is marked yet
-pub search-none : (img : List ℕ) (p N : ℕ) → pages img ≤ N → pages img ≤ most_pages → 0 < p → (seen tops : List ℕ) → Unmarked N seen → Unmarked N tops → Search img p seen tops
-search-none img p N h few pos seen tops a b =
-    record { few = few; page = pos; blocks = passed_none (pages img) N h (Vain (vol img) p) seen a; trees = passed_none (pages img) N h (VainUnder (vol img) p) tops b }
 
 module _ (img : List ℕ) (p : ℕ) (seen tops : List ℕ) (d : Search img p seen tops) where
   pub search-block : (b : ℕ) (m : List ℕ) (r : Bool) → Marking seen b m r → Vain (vol img) p b → Search img p m tops
@@ -69,12 +61,6 @@ pub end-two : (v : Vol) (x t m n z : ℕ) → x ≡ 2 → ShortR v (root_by x t 
 unfolding Short
 end-two v x t m n z e s h f = record { most = h; none = λ k l i. (root-short v x t m n s 1 e (omega arith) k i).0 (f k l i) }
 
-pub slots-none : (v : Vol) (p b n z k : ℕ) → 0 < p → SlotsEnd v b z → z ≤ k → Never (λ (i : ℕ). slot v b i ≡ p) n k → Never (λ (i : ℕ). slot v b i ≡ p) n 512
-slots-none v p b n z k pos d l none i s t e = elim (dec_lt i k) [
-  | yes o ↦ none i s o e
-  | no o ↦ omega (arith, e, d.none i (omega arith) t)
-]
-
 -- ---- under a subindex block
 
 -- the page at a position
@@ -95,9 +81,6 @@ under-past v p t n z x pos d l none i s h e = elim (dec_lt i x) [
       let g : under v t i ≡ 0 = ap (λ (b : ℕ). slot v b (i % 512)) (d.none (i / 512) (omega arith) (omega arith)) ∙ slot-absent v (i % 512) in
       omega (arith, e, g)
 ]
-
-pub vain-under : (v : Vol) (p t n : ℕ) → VainUnder v p t → Never (λ (k : ℕ). under v t k ≡ p) n 262144
-vain-under v p t n a i s h e = a (i / 512) (omega arith) (i % 512) (omega arith) e
 
 pub under-vain : (v : Vol) (p t n : ℕ) → n ≡ 0 → Never (λ (k : ℕ). under v t k ≡ p) n 262144 → VainUnder v p t
 under-vain v p t n z d k h j l e = d (512 * k + j) (omega arith) (omega arith) (under-slot v t (slot v t k) k j refl l ∙ e)

@@ -1,20 +1,11 @@
 use Rattle.places.proofs.Pointed.{slot_row, slot-right, slot-wrong}
 use Rattle.book.specs.Places.{pointers}
-use Rattle.book.specs.Spots.{passed_none, passed-more, each_first, each_all}
+use Rattle.book.specs.Spots.{passed-more, each_first, each_all}
 use Rattle.book.specs.Decides.{holds, fails}
 use Rattle.book.specs.Image.{pages}
 use Rattle.book.specs.Words.{vol}
 use native.Mathlib.Omega.{arith}
 use Rattle.places.proofs.block.block.Goals as goal
-
-pub loop-s-init : goal.loop-s-init
-loop-s-init c = passed_none _
-
-pub slot_at-x-requires : goal.slot_at-x-requires
-slot_at-x-requires c = (omega (arith, c.requires.inside), omega arith)
-
-pub slot_place-requires : goal.slot_place-requires
-slot_place-requires c = (omega (arith, c.requires.inside, c.requires.most, c.requires.count), omega arith)
 
 pub returns-then-not-filled : goal.returns-then-not-filled
 unfolding pointers

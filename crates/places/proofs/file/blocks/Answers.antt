@@ -1,4 +1,4 @@
-use Rattle.places.proofs.Filed.{blocks-1, blocks-2, blocks-none, inside-1, inside-2}
+use Rattle.places.proofs.Filed.{blocks-1, blocks-none, inside-1, inside-2}
 use Rattle.book.specs.Image.{pages}
 use Rattle.book.specs.Words.{vol}
 use Rattle.places.proofs.file.blocks.Goals as goal
@@ -11,9 +11,6 @@ returns-then-flags-eq1 c = blocks-1 (pages c.args.img.now) (vol c.args.img.now) 
 
 pub subindex-requires : goal.subindex-requires
 subindex-requires c = let i = inside-2 (pages c.args.img.now) c.args.flags c.args.t c.args.n c.requires.0 c.if-flags-eq2.true in (record { count = c.requires.1; most = c.requires.2; inside = i.0 }, i.1)
-
-pub returns-then-flags-eq2 : goal.returns-then-flags-eq2
-returns-then-flags-eq2 c = blocks-2 (pages c.args.img.now) (vol c.args.img.now) c.args.flags c.args.t c.args.n c.subindex.result c.if-flags-eq2.true c.subindex.ensures
 
 pub returns : goal.returns
 returns c = blocks-none (pages c.args.img.now) (vol c.args.img.now) c.args.flags c.args.t c.args.n c.if-flags-eq1.false c.if-flags-eq2.false

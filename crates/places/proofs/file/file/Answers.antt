@@ -1,8 +1,6 @@
 use Rattle.places.proofs.Filed.{bytes-wrong, pointer-wrong, file-found}
-use Rattle.book.specs.Places.{PointerRight}
 use Rattle.book.specs.Decides.{holds, fails}
-use Prim.Native.Nat.{ℕ}
-use mathlib.Core.Path.{refl, subst}
+use mathlib.Core.Path.{refl}
 use Rattle.places.proofs.file.file.Goals as goal
 
 pub returns-then-not-bytes_ok : goal.returns-then-not-bytes_ok
@@ -12,9 +10,6 @@ pub returns-then-not-pointer_ok : goal.returns-then-not-pointer_ok
 returns-then-not-pointer_ok c =
     pointer-wrong c.args.img.now c.args.total c.args.q c.args.e c.requires c.entry_flags-flags.result c.entry_page-t.result c.entry_two-n.result c.entry_two.result c.entry_flags-flags.ensures.0 c.entry_page-t.ensures.0 c.entry_two-n.ensures.0 c.entry_two.ensures.0
     (holds c.bytes_ok.result _ c.bytes_ok.ensures c.if-not-bytes_ok.false-raw) _ c.place_of-then-not-pointer_ok.ensures (fails c.pointer_ok.result _ c.pointer_ok.ensures c.if-not-pointer_ok.true-raw)
-
-pub blocks-requires : goal.blocks-requires
-blocks-requires c = (subst (λ (m : ℕ). PointerRight m c.entry_flags-flags.result c.entry_page-t.result c.entry_two-n.result) c.requires.count (holds c.pointer_ok.result _ c.pointer_ok.ensures c.if-not-pointer_ok.false-raw), c.requires.count, c.requires.most)
 
 pub returns : goal.returns
 returns c =

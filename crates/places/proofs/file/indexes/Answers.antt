@@ -1,19 +1,13 @@
 use Rattle.places.proofs.Filed.{slot-inside, block-found}
-use Rattle.places.proofs.Finding.{found_at, found_right}
+use Rattle.places.proofs.Finding.{found_at}
 use Rattle.book.specs.Places.{pointers, Must}
-use Rattle.book.specs.Spots.{passed_none, passed-more, each_first, each_all}
+use Rattle.book.specs.Spots.{each_first, each_all}
 use Rattle.book.specs.Image.{pages}
 use Rattle.book.specs.Pointers.{slot}
 use Rattle.book.specs.Words.{vol}
 use Prim.Native.Nat.{◌-◌, ◌*◌}
 use native.Mathlib.Omega.{arith}
 use Rattle.places.proofs.file.indexes.Goals as goal
-
-pub loop-i-init : goal.loop-i-init
-loop-i-init c = passed_none _
-
-pub slot_at-b-requires : goal.slot_at-b-requires
-slot_at-b-requires c = (omega (arith, c.requires.0.inside), omega (arith, c.requires.2))
 
 pub block-requires : goal.block-requires
 block-requires c =
@@ -24,11 +18,6 @@ pub returns-in-Some : goal.returns-in-Some
 returns-in-Some c = let P = pages c.args.img.now in let v = vol c.args.img.now in
     each_first c.args.m (λ i. pointers v (slot v c.args.t i) (Must P (c.args.n - i * 512))) _ c.loop-i.i (omega arith) c.loop-i.invariant
     (found_at _ c.block.result (block-found P v c.slot_at-b.result (slot v c.args.t c.loop-i.i) (c.args.n - c.loop-i.i * 512) c.saturating_sub-k.result c.block.result c.slot_at-b.ensures.0 c.saturating_sub-k.ensures c.block.ensures) _ c.in-Some.is)
-
-pub loop-i-preserved : goal.loop-i-preserved
-loop-i-preserved c = let P = pages c.args.img.now in let v = vol c.args.img.now in
-    passed-more (λ i. pointers v (slot v c.args.t i) (Must P (c.args.n - i * 512))) c.loop-i.i c.loop-i.invariant
-    (found_right _ c.block.result (block-found P v c.slot_at-b.result (slot v c.args.t c.loop-i.i) (c.args.n - c.loop-i.i * 512) c.saturating_sub-k.result c.block.result c.slot_at-b.ensures.0 c.saturating_sub-k.ensures c.block.ensures) c.in_default.is)
 
 pub returns : goal.returns
 returns c = let P = pages c.args.img.now in let v = vol c.args.img.now in

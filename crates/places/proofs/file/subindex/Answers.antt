@@ -1,15 +1,11 @@
 use Rattle.places.proofs.Filed.{then_found}
 use Rattle.book.specs.Places.{block_spots}
 use Rattle.book.specs.Spots.{then-first}
-use native.Mathlib.Omega.{arith}
 use Rattle.places.proofs.file.subindex.Goals as goal
 
 pub returns-in-Some : goal.returns-in-Some
 unfolding block_spots
 returns-in-Some c = then-first _ _ _ c.in-Some.ensures
-
-pub indexes-requires : goal.indexes-requires
-indexes-requires c = (c.requires.0, c.in_default.ensures, omega arith)
 
 pub returns : goal.returns
 unfolding block_spots

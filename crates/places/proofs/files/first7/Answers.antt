@@ -1,18 +1,14 @@
 use Prim.Native.Nat.{◌+◌, ◌*◌}
 use native.Mathlib.Omega.{arith}
-use borrow.Author.Rules.{rules}
 use Rattle.book.specs.Image.{pages}
 use Rattle.book.specs.Words.{vol}
 use Rattle.laws.specs.Place.Rule7.{all7}
 use Rattle.shape.specs.Objects.{ObjectsAt}
 use Rattle.shape.specs.Shapes.{FilesRight}
-use Rattle.shape.proofs.Memory.{recalled-none, passed, failed}
-use Rattle.shape.proofs.Objects.{objects-at, object-page-at, right-none, right-page, right-all}
+use Rattle.shape.proofs.Memory.{failed}
+use Rattle.shape.proofs.Objects.{objects-at, object-page-at, right-all}
 use Rattle.places.proofs.Shaped.{position-found}
 use Rattle.places.proofs.files.first7.Goals as goal
-
-pub loop-n-init : goal.loop-n-init
-loop-n-init c = (recalled-none _ 140733 c.requires.0.most _ _ c.most_marks-seen.ensures c.most_marks-trees.ensures, right-none _ _ 0, search rules, search rules)
 
 pub position_ok-requires : goal.position_ok-requires
 position_ok-requires c = (
@@ -40,11 +36,6 @@ returns-then-not-position_ok c = let v = vol c.args.img.now in let P = pages c.a
     position-found P v c.loop-n.n (omega (arith, c.requires.4.most)) c.loop-n.invariant.1
     (failed (FilesRight P v (32 * c.loop-n.n) (32 * c.loop-n.n + 32)) _ c.position_ok.result c.position_ok.ensures c.if-not-position_ok.true-raw)
     c.page_files.result c.page_files.ensures
-
-pub loop-n-preserved : goal.loop-n-preserved
-loop-n-preserved c = let v = vol c.args.img.now in let P = pages c.args.img.now in
-    let w = passed (FilesRight P v (32 * c.loop-n.n) (32 * c.loop-n.n + 32)) _ c.position_ok.result c.position_ok.ensures c.if-not-position_ok.false-raw in
-    (w.1, right-page P v c.loop-n.n c.loop-n.invariant.1 w.0, omega arith, omega arith)
 
 pub returns : goal.returns
 returns c = all7 (pages c.args.img.now) (vol c.args.img.now) (right-all c.args.img.now c.args.ends c.requires.4 (λ e h. c.loop-n.invariant.1 e (omega arith)))

@@ -1,31 +1,15 @@
 use Prim.Native.Nat.{◌+◌, ◌*◌}
 use native.Mathlib.Omega.{arith}
-use borrow.Author.Rules.{rules}
 use Rattle.book.specs.Image.{pages}
 use Rattle.book.specs.Spots.{each_all}
 use Rattle.book.specs.Words.{vol}
 use Rattle.tree.specs.Reach.{entry_in}
 use Rattle.shape.specs.Shapes.{EntryRight}
-use Rattle.shape.proofs.Memory.{recalled-none, passed, failed}
-use Rattle.shape.proofs.Objects.{right-at, right-none, right-more}
+use Rattle.shape.proofs.Memory.{passed, failed}
+use Rattle.shape.proofs.Objects.{right-at, right-more}
 use Rattle.places.specs.Rows.{file_row}
 use Rattle.places.proofs.Shaped.{page-passed, object-at, entry_found}
 use Rattle.places.proofs.files.page_files.Goals as goal
-
-pub overflow_mul-e : goal.overflow_mul-e
-overflow_mul-e c = omega (arith, c.requires.most)
-
-pub loop-k-init : goal.loop-k-init
-loop-k-init c = (recalled-none _ 140733 c.requires.whole.most _ _ c.most_marks-seen.ensures c.most_marks-trees.ensures, right-none _ _ _, search rules, search rules)
-
-pub overflow_add-e : goal.overflow_add-e
-overflow_add-e c = omega (arith, c.requires.most)
-
-pub entry_ok-requires : goal.entry_ok-requires
-entry_ok-requires c = (record { whole = c.requires.whole; count = c.requires.count; memory = c.loop-k.invariant.0 }, c.requires.inside)
-
-pub overflow_add-e-then-not-entry_ok : goal.overflow_add-e-then-not-entry_ok
-overflow_add-e-then-not-entry_ok c = omega (arith, c.requires.most)
 
 pub file-requires : goal.file-requires
 file-requires c = object-at c.args.img.now c.args.total c.args.q c.args.n c.loop-k.k c.requires (omega arith)

@@ -1,15 +1,9 @@
-use Rattle.places.proofs.All.{met-total, begun, held-once, held_first}
+use Rattle.places.proofs.All.{met-total, held-once, held_first}
 use Rattle.book.specs.Image.{pages}
 use Rattle.book.specs.Words.{vol}
 use native.Mathlib.Omega.{arith}
 use mathlib.Core.Path.{refl}
-use borrow.Author.Rules.{rules}
 use Rattle.places.proofs.held.first8.Goals as goal
-
-pub meet_all-low-requires : goal.meet_all-low-requires
-meet_all-low-requires c = let P = pages c.args.img.now in
-    let v = vol c.args.img.now in
-    (begun _ 140733 _ _ _ c.args.total c.requires.0 c.requires.1 (search rules) c.most_marks-marks.ensures _ c.mark.result c.mark.ensures c.none_opened-ones.ensures c.none_opened-twos.ensures, c.requires.1, c.requires.2)
 
 pub returns-then-total-low : goal.returns-then-total-low
 returns-then-total-low c =

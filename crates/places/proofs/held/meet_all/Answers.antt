@@ -1,12 +1,7 @@
-use Rattle.places.proofs.All.{meeting-on, all-met}
+use Rattle.places.proofs.All.{all-met}
 use Rattle.book.specs.Image.{pages}
 use Rattle.book.specs.Words.{vol}
-use native.Mathlib.Omega.{arith}
 use Rattle.places.proofs.held.meet_all.Goals as goal
-
-pub meet_files-requires : goal.meet_files-requires
-meet_files-requires c = let P = pages c.args.img.now in let v = vol c.args.img.now in
-    (meeting-on _ _ _ _ _ c.requires.0 P v _ _ _ _ _ c.meet_system-low.ensures, omega (arith, c.requires.2.most))
 
 pub returns : goal.returns
 returns c = let P = pages c.args.img.now in let v = vol c.args.img.now in

@@ -6,8 +6,5 @@ use Rattle.places.proofs.index.subindex_block.Goals as goal
 pub returns-in-Some : goal.returns-in-Some
 returns-in-Some c = subindex-wrong (pages c.args.img.now) (vol c.args.img.now) c.args.t _ c.in-Some.ensures
 
-pub four_blocks-requires : goal.four_blocks-requires
-four_blocks-requires c = (c.requires, c.in_default.ensures)
-
 pub returns : goal.returns
 returns c = indexes-found (pages c.args.img.now) (vol c.args.img.now) c.args.t c.four_blocks.result c.in_default.ensures c.four_blocks.ensures

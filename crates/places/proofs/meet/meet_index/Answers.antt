@@ -1,15 +1,11 @@
 use Rattle.places.proofs.Steps.{index-none, index-skip, index-open}
 use Rattle.book.specs.Image.{pages}
 use Rattle.book.specs.Words.{vol}
-use native.Mathlib.Omega.{arith}
 use Rattle.places.proofs.meet.meet_index.Goals as goal
 
 pub returns-then-t-eq0 : goal.returns-then-t-eq0
 returns-then-t-eq0 c = let P = pages c.args.img.now in let v = vol c.args.img.now in
     index-none P v _ _ _ c.args.t c.requires.1.size c.requires.0 c.if-t-eq0.true
-
-pub open_block-requires : goal.open_block-requires
-open_block-requires c = (omega (arith, c.requires.1.few, c.requires.2), c.requires.1.size)
 
 pub returns-then-not-open_block : goal.returns-then-not-open_block
 returns-then-not-open_block c = let P = pages c.args.img.now in let v = vol c.args.img.now in

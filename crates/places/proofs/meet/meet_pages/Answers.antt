@@ -1,4 +1,4 @@
-use Rattle.places.proofs.Steps.{turns-none, turns_more, turns-end, slot-met, room-on}
+use Rattle.places.proofs.Steps.{turns-none, turns_more, turns-end, slot-met}
 use Rattle.book.specs.Trees.{weigh}
 use Rattle.book.specs.Pointers.{slot}
 use Rattle.book.specs.Words.{vol}
@@ -8,12 +8,6 @@ use Rattle.places.proofs.meet.meet_pages.Goals as goal
 
 pub loop-k-init : goal.loop-k-init
 loop-k-init c = turns-none _ _ (λ j p. weigh (vol c.args.img.now) 0 (slot (vol c.args.img.now) c.args.t j) (hit p)) c.requires.0
-
-pub slot_at-requires : goal.slot_at-requires
-slot_at-requires c = (c.requires.1, omega arith)
-
-pub meet-low-requires : goal.meet-low-requires
-meet-low-requires c = room-on _ _ _ _ _ c.requires.0 c.loop-k.invariant
 
 pub loop-k-preserved : goal.loop-k-preserved
 loop-k-preserved c = let v = vol c.args.img.now in

@@ -1,4 +1,4 @@
-use Rattle.places.proofs.Steps.{turns-none, turns_more, turns-end, turns-past, room-on}
+use Rattle.places.proofs.Steps.{turns-none, turns_more, turns-end, turns-past}
 use Rattle.laws.specs.Tree.Slot.{hit_other}
 use Rattle.book.specs.Holders.{hit}
 use native.Mathlib.Omega.{arith}
@@ -10,9 +10,6 @@ loop-i-init c = turns-none _ _ (λ j p. hit p (c.args.start + j)) c.requires.0
 
 pub returns-then-low-start : goal.returns-then-low-start
 returns-then-low-start c = turns-past _ _ (λ j p. hit p (c.args.start + j)) c.loop-i.i _ (omega arith) _ _ c.requires.0.most c.loop-i.invariant (λ j p h l. hit_other p (c.args.start + j) (λ e. omega arith))
-
-pub meet-low-requires : goal.meet-low-requires
-meet-low-requires c = room-on _ _ _ _ _ c.requires.0 c.loop-i.invariant
 
 pub loop-i-preserved : goal.loop-i-preserved
 loop-i-preserved c = turns_more _ _ (λ j p. hit p (c.args.start + j)) c.loop-i.i _ _ _ _ c.loop-i.invariant c.meet-low.ensures

@@ -1,13 +1,10 @@
 use native.Mathlib.Omega.{arith}
 use Rattle.book.specs.Places.{spots6}
-use Rattle.book.specs.Spots.{each, passed_none, passed-more, each_first, each_all}
+use Rattle.book.specs.Spots.{each, each_first, each_all}
 use Rattle.book.specs.Words.{vol}
 use Rattle.places.specs.Rows.{object_row}
 use Rattle.places.proofs.Owned.{objects-known}
 use Rattle.places.proofs.objects.first6.Goals as goal
-
-pub loop-u-init : goal.loop-u-init
-loop-u-init c = passed_none _
 
 pub user_objects-requires : goal.user_objects-requires
 user_objects-requires c = (objects-known c.args.img.now c.flags_at-flags.result c.page_at-top.result c.requires.0 c.requires.1 c.requires.2 c.requires.3 c.flags_at-flags.ensures.0 c.page_at-top.ensures.0, omega arith)
@@ -16,10 +13,6 @@ pub returns-in-Some : goal.returns-in-Some
 unfolding spots6
 returns-in-Some c = let v = vol c.args.img.now in
     each_first 256 (λ u. each 256 (object_row v u)) _ c.loop-u.u (omega arith) c.loop-u.invariant c.in-Some.ensures
-
-pub loop-u-preserved : goal.loop-u-preserved
-loop-u-preserved c = let v = vol c.args.img.now in
-    passed-more (λ u. each 256 (object_row v u)) c.loop-u.u c.loop-u.invariant c.in_default.ensures
 
 pub returns : goal.returns
 unfolding spots6

@@ -1,23 +1,11 @@
 use Rattle.places.proofs.Bits.{bit-right, bit-wrong}
 use Rattle.book.specs.Places.{bit_row, spots9}
-use Rattle.book.specs.Spots.{passed_none, passed-more, each_first, each_all}
+use Rattle.book.specs.Spots.{passed-more, each_first, each_all}
 use Rattle.book.specs.Image.{pages}
 use Rattle.book.specs.Words.{vol}
 use Prim.Native.Nat.{◌<◌}
 use native.Mathlib.Omega.{arith}
 use Rattle.places.proofs.reserved.first9.Goals as goal
-
-pub loop-p-init : goal.loop-p-init
-loop-p-init c = passed_none _
-
-pub test-requires : goal.test-requires
-test-requires c = omega (arith, c.requires.count, c.requires.bits.fits)
-
-pub mark_of-requires : goal.mark_of-requires
-mark_of-requires c = omega (arith, c.requires.count, c.requires.room)
-
-pub bit_place-requires : goal.bit_place-requires
-bit_place-requires c = omega (arith, c.requires.count, c.requires.most, c.requires.bits.fits)
 
 pub returns-then-test-mark_of : goal.returns-then-test-mark_of
 unfolding spots9

@@ -12,9 +12,6 @@ mark_all-requires c = (unmarked-for _ 140733 c.requires.0.whole.most _ c.most_ma
 pub tell_held-requires : goal.tell_held-requires
 tell_held-requires c = absurd (met-rule8 _ _ [] (held-met _ _ _ c.mark_all.result c.mark_all.ensures c.in_default.is) (above8 _ _ _ _ c.requires.0.lowest c.requires.1).0)
 
-pub returns-in_default : goal.returns-in_default
-returns-in_default c = c.tell_held.ensures
-
 pub first9-requires : goal.first9-requires
 first9-requires c = let k = held_on _ _ _ c.mark_all.result c.mark_all.ensures _ c.in-Some.is in let b = bits_of _ _ _ c.requires.0 (omega arith) _ c.page_at-b.ensures.0 in record { count = c.requires.2; bits = b; most = c.requires.0.whole.most; held = k.held; room = k.room }
 

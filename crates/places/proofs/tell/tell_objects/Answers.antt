@@ -1,7 +1,7 @@
 use native.Mathlib.Omega.{arith}
 use Rattle.laws.specs.Place.Lowest.{above2, above3, above5}
 use Rattle.laws.specs.Count.Reach.{below-objects}
-use Rattle.places.proofs.Telling.{told6, told7, breaks-at}
+use Rattle.places.proofs.Telling.{told6, told7}
 use Rattle.places.proofs.tell.tell_objects.Goals as goal
 
 pub object_ends-ends-requires : goal.object_ends-ends-requires
@@ -18,6 +18,3 @@ first7-requires c = (c.requires.0.whole, c.requires.2, (above2 _ _ _ _ c.require
 
 pub returns-in-7 : goal.returns-in-7
 returns-in-7 c = told7 _ _ _ c.requires.0 c.first7.result _ c.in-7.is c.first7.ensures c.plain-in-7.ensures
-
-pub tell_held-requires : goal.tell_held-requires
-tell_held-requires c = (breaks-at _ _ _ c.requires.0 c.in-8.is, c.requires.2, c.object_ends-ends.ensures)

@@ -1,12 +1,9 @@
 use Rattle.places.proofs.Owners.{users-known}
 use Rattle.book.specs.Places.{user_row, spots4}
-use Rattle.book.specs.Spots.{passed_none, passed-more, each_first, each_all}
+use Rattle.book.specs.Spots.{each_first, each_all}
 use Rattle.book.specs.Words.{vol}
 use native.Mathlib.Omega.{arith}
 use Rattle.places.proofs.users.first4.Goals as goal
-
-pub loop-u-init : goal.loop-u-init
-loop-u-init c = passed_none _
 
 pub any_user-requires : goal.any_user-requires
 any_user-requires c = (users-known _ c.flags_at-flags.result c.page_at-top.result c.requires.0 c.requires.1 c.requires.2 c.flags_at-flags.ensures.0 c.page_at-top.ensures.0, omega arith)
@@ -14,9 +11,6 @@ any_user-requires c = (users-known _ c.flags_at-flags.result c.page_at-top.resul
 pub returns-in-Some : goal.returns-in-Some
 unfolding spots4
 returns-in-Some c = each_first 256 (user_row c.args.ten (vol c.args.img.now)) _ c.loop-u.u (omega arith) c.loop-u.invariant c.in-Some.ensures
-
-pub loop-u-preserved : goal.loop-u-preserved
-loop-u-preserved c = passed-more (user_row c.args.ten (vol c.args.img.now)) c.loop-u.u c.loop-u.invariant c.in_default.ensures
 
 pub returns : goal.returns
 unfolding spots4
