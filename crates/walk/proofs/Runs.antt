@@ -1,6 +1,6 @@
 -- Walking over a run, and over a root by its flags. Assumes nothing.
 use mathlib.Core.Path.{◌≡◌, refl, sym, ap, ◌∙◌, subst}
-use mathlib.Core.Bool.{Bool, true, false, not}
+use mathlib.Core.Bool.{true}
 use mathlib.Core.List.{List}
 use Prim.Native.Nat.{ℕ, zero, suc, ◌+◌, ◌-◌, ◌*◌, ◌/◌, ◌%◌, ◌≤◌, ◌<◌}
 use native.Mathlib.Nat.{not-suc-le-zero}
@@ -97,30 +97,6 @@ module _ (img m : List ℕ) (v w : ℕ) (m' : List ℕ) (k : Walking img m v) (d
   pub word_fits : 16 * w + 16 ≤ pages img → v + 16 ≤ most_pages
   word_fits h =
       let y = run-walking img (16 * w) 16 h m v 16 m' (v + 16) (omega arith) k word-walked in omega (arith, y.counted, marks-most (pages img) m', k.few)
-
--- after a test of the answer
-module _ (m : List ℕ) (w : ℕ) (m' : List ℕ) (r : Bool) (d : Filling m w m' r) where
-  pub filling-new : not r ≡ false → Filling m w m' true
-  filling-new e = go r d e
-    where
-      go : (s : Bool) → Filling m w m' s → not s ≡ false → Filling m w m' true
-      go true k e = k
-      go false k e = let z : ◌≡◌ {A = ℕ} 0 1 = cc in absurd (omega arith)
-
-  pub filling-old : not r ≡ true → m' ≡ m
-  filling-old e = go r d e
-    where
-      go : (s : Bool) → Filling m w m' s → not s ≡ true → m' ≡ m
-      go false k e = k
-      go true k e = let z : ◌≡◌ {A = ℕ} 0 1 = cc in absurd (omega arith)
-
--- the marks are as they were
-module _ (m m' : List ℕ) (e : m' ≡ m) where
-  pub walking-old : (img : List ℕ) (v : ℕ) → Walking img m v → Walking img m' v
-  walking-old img v k = subst (λ (x : List ℕ). Walking img x v) (sym e) k
-
-  pub walked-old : (P v : ℕ) (W : Weigher) (m'' : List ℕ) (r : Option ℕ) → Walked P m' v W m'' r → Walked P m v W m'' r
-  walked-old P v W m'' r k = subst (λ (x : List ℕ). Walked P x v W m'' r) e k
 
 -- what filling the word makes of it
 pub fill-new : (m : List ℕ) (w : ℕ) → w < length m → get_or m w 0 ≡ 0 → Filling m w (set m w 65535) true

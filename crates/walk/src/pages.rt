@@ -146,6 +146,7 @@ fn under(count: usize, level: usize, i: usize) -> usize
 
 // Marks the block that a pointer of this level names, and all below it. Pointer 0 names none.
 #[cycle(mark_block_mark_pointer)]
+#[tactic(auto, using(crate::proofs::Pointers::below_top))]
 pub fn mark_pointer(
     img: &[u16],
     marks: &mut [u16],

@@ -5,16 +5,6 @@ use Rattle.tree.proofs.Reach.{page-read}
 use Rattle.walk.proofs.Entries.{walked-absent}
 use Rattle.walk.proofs.files.mark_position.Goals as goal
 
-pub root_page-q-requires : goal.root_page-q-requires
-root_page-q-requires c = c.requires.4
-
 pub returns-then-q-eq0 : goal.returns-then-q-eq0
 returns-then-q-eq0 c = let v = vol c.args.img.now in let P = pages c.args.img.now in
     walked-absent P c.args.marks.now c.args.visited v c.args.n c.root_page-q.result (page-read v _ _ _ _ _ c.requires.3 refl c.root_page-q.ensures.0) c.if-q-eq0.true
-
-pub mark_entries-requires : goal.mark_entries-requires
-mark_entries-requires c = let v = vol c.args.img.now in let P = pages c.args.img.now in
-    (c.requires.0, c.requires.1, c.requires.2, page-read v _ _ _ _ _ c.requires.3 refl c.root_page-q.ensures.0, c.root_page-q.ensures.1)
-
-pub returns : goal.returns
-returns c = c.mark_entries.ensures

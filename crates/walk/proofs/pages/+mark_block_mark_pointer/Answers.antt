@@ -1,21 +1,12 @@
-use Prim.Native.Nat.{ℕ}
-use mathlib.Core.Path.{refl, subst}
+use mathlib.Core.Path.{refl}
 use native.Mathlib.Omega.{arith}
 use borrow.Author.Rules.{rules}
 use Rattle.book.specs.Image.{pages}
 use Rattle.std.specs.Prelude.{Some, None}
-use Rattle.walk.specs.Short.{PointersBelow}
 use Rattle.tree.proofs.Blocks.{pointer_read}
 use Rattle.walk.proofs.Walks.{row-start, row_on, row-met, row-end}
 use Rattle.walk.proofs.Pointers.{below_top, slots_of, slot-below, slot-short, slot-weigh, block-walking, block-below, block-short, block-all, row-level, pointer_none, pointer-met, pointer-block, mark-fits, mark-walking}
 use Rattle.walk.proofs.pages.+mark_block_mark_pointer.Goals as goal
-
-pub mark_block-mark_pages-requires : goal.mark_block-mark_pages-requires
-mark_block-mark_pages-requires t c = (
-  c.requires.0,
-  subst (λ (l : ℕ). PointersBelow c.args.img.now c.args.block.now l) c.if-level-eq0.true c.requires.1,
-  c.pointers-n.ensures.0,
-)
 
 pub mark_block-returns-then-level-eq0 : goal.mark_block-returns-then-level-eq0
 mark_block-returns-then-level-eq0 t c =
@@ -60,29 +51,9 @@ pub mark_pointer-returns-then-page-eq0 : goal.mark_pointer-returns-then-page-eq0
 mark_pointer-returns-then-page-eq0 t c =
     pointer_none c.args.img.now _ _ _ _ _ c.if-page-eq0.true
 
-pub mark_pointer-mark-requires : goal.mark_pointer-mark-requires
-mark_pointer-mark-requires t c =
-    let i = below_top _ _ _ _ c.requires.1 in omega (arith, c.requires.0.room)
-
 pub mark_pointer-returns-else-mark : goal.mark_pointer-returns-else-mark
 mark_pointer-returns-else-mark t c =
     pointer-met c.args.img.now _ _ c.args.visited _ _ (omega arith) (below_top _ _ _ _ c.requires.1) c.if-mark.ensures.0 c.args.marks.now
-
-pub mark_pointer-overflow_mul-a : goal.mark_pointer-overflow_mul-a
-mark_pointer-overflow_mul-a t c =
-    let i = below_top _ _ _ _ c.requires.1 in omega arith
-
-pub mark_pointer-overflow_add-z : goal.mark_pointer-overflow_add-z
-mark_pointer-overflow_add-z t c =
-    let i = below_top _ _ _ _ c.requires.1 in omega arith
-
-pub mark_pointer-offset_bounds-img-a : goal.mark_pointer-offset_bounds-img-a
-mark_pointer-offset_bounds-img-a t c =
-    let i = below_top _ _ _ _ c.requires.1 in omega arith
-
-pub mark_pointer-slice_bounds-mark_block-end : goal.mark_pointer-slice_bounds-mark_block-end
-mark_pointer-slice_bounds-mark_block-end t c =
-    let i = below_top _ _ _ _ c.requires.1 in omega arith
 
 pub mark_pointer-overflow_add-visited : goal.mark_pointer-overflow_add-visited
 mark_pointer-overflow_add-visited t c =

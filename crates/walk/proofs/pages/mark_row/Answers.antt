@@ -11,9 +11,6 @@ use Rattle.walk.proofs.Runs.{run_of}
 use Rattle.walk.proofs.Rows.{row-weigh, row_fits}
 use Rattle.walk.proofs.pages.mark_row.Goals as goal
 
-pub mark_page-requires : goal.mark_page-requires
-mark_page-requires c = (c.requires.0, slot-below c.args.img.now c.args.block.now 0 c.requires.1 0 (omega arith) _ c.page_in-first.ensures)
-
 pub returns-in_err-x : goal.returns-in_err-x
 returns-in_err-x c =
     let W : Weigher = weigh (vol c.args.img.now) 0 c.page_in-first.result in

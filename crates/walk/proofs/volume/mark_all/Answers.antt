@@ -1,16 +1,12 @@
 use Rattle.sums.specs.Sum.{sum}
 use Rattle.book.specs.Holders.{mine, system}
 use mathlib.Core.Path.{refl}
-use native.Mathlib.Omega.{arith}
 use Rattle.book.specs.Image.{pages}
 use Rattle.book.specs.Words.{vol}
 use Rattle.std.specs.Prelude.{None}
 use Rattle.walk.proofs.Walks.{walked_then, then-met, walking_on}
 use Rattle.walk.proofs.Holding.{system-counts, files-fit, objects-reach, first-mark, first-walking, held}
 use Rattle.walk.proofs.volume.mark_all.Goals as goal
-
-pub mark-requires : goal.mark-requires
-mark-requires c = omega (arith, c.requires.0.room, c.requires.1.whole.least)
 
 pub mark_system-requires : goal.mark_system-requires
 mark_system-requires c = let P = pages c.args.img.now in

@@ -9,9 +9,6 @@ use Rattle.walk.proofs.Walks.{walked_then, then-met, walking_on}
 use Rattle.walk.proofs.Holding.{bits-counts, walked-system}
 use Rattle.walk.proofs.volume.mark_system.Goals as goal
 
-pub mark_bits-requires : goal.mark_bits-requires
-mark_bits-requires c = (c.requires.0, c.requires.1, c.requires.2)
-
 pub mark_entry_files-requires : goal.mark_entry_files-requires
 mark_entry_files-requires c = let v = vol c.args.img.now in let P = pages c.args.img.now in
     (walking_on c.args.img.now c.args.marks.now c.args.visited _ _ _ c.requires.0 (bits-counts c.args.img.now c.requires.1) c.in_ok-n.ensures, c.requires.1, c.requires.3)
