@@ -23,13 +23,6 @@ module _ (v v₁ v₂ : Vol) (u q k : ℕ) (page : q ≡ user_page v u) (place :
       b ∙ ap₂ (λ (x y : ℕ). put2 v₁ 0 unreserved_count (x + y)) es eg
       ∙ ap (λ (w : Vol). put2 w 0 unreserved_count (unreserved v + given (user v) u)) (a ∙ ap₂ (λ (p j : ℕ). put_words v p j 32 zeros) page place)
 
-module _ (v w : Vol) (u n g s : ℕ) (eg : g ≡ given (user v) u) (es : s ≡ unreserved v) where
-  pub given_is : w ≡ moved v u (g + n) (s - n) → w ≡ give_step v u n
-  given_is e = e ∙ ap₂ (λ (x y : ℕ). moved v u (x + n) (y - n)) eg es
-
-  pub taken_is : w ≡ moved v u (g - n) (s + n) → w ≡ take_step v u n
-  taken_is e = e ∙ ap₂ (λ (x y : ℕ). moved v u (x - n) (y + n)) eg es
-
 -- ---- files
 
 -- object entry e is at word k of page q; x opens become y
