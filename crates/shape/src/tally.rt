@@ -30,6 +30,7 @@ fn page_sum(img: &[u16], k: usize, first: usize) -> u64
     if q == 0 {
         return 0;
     }
+    // A loop: map and sum were tried, and leave that the sum fits, what it is and its bound; of the loop two lines are left.
     let mut sum: u64 = 0;
     for i in 0..32 {
         sum += count_of(img, q, first + i, k);
