@@ -82,5 +82,6 @@ pub(crate) fn stamp_of(base: usize) -> u16
     requires { base < 65536 }
     ensures { result ≡ stamp_of base }
 {
+    // A cast, since it always fits: u16::try_from would ask for an answer that is never given.
     (base / 256 + 1) as u16
 }

@@ -68,6 +68,7 @@ fn entry_apart(
     let s = stamp_of(base);
     let low = stamp(table, h / 256 % SLOTS, s);
     let high = stamp(table, h / 1048576, s);
+    // Two returns: as `!low || !high || ..`, which was tried, both ways are one goal, and the check leaves it.
     if !low {
         return true;
     }
