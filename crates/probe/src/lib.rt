@@ -13,22 +13,19 @@ use bits::search::{free_from, highest_run};
 use page::read::page_at;
 use page::{BITS, MOST_PAGES, WORDS};
 
-// The page at which the bit file begins, and 0 of an image that has none: its pages are too many, or from the page on that its bit pointer names there is not room for all bit pages.
-fn searched(img: &[u16]) -> usize
+// The page at which the bit file begins. An image has none if its pages are too many, or from the page on that its bit pointer names there is not room for all bit pages.
+fn searched(img: &[u16]) -> Option<usize>
     ensures { Searched (pages img.now) (vol img.now) result }
 {
     let count = img.len() / WORDS;
-    if MOST_PAGES < count {
-        return 0;
-    }
-    if count == 0 {
-        return 0;
+    if count == 0 || MOST_PAGES < count {
+        return None;
     }
     let b = page_at(img, 0, BITS) as usize;
-    if count < b + bit_pages(count) {
-        return 0;
+    if b == 0 || count < b + bit_pages(count) {
+        return None;
     }
-    b
+    Some(b)
 }
 
 // The lowest free page from `from` on, and the number of pages if there is none; 0 without a bit file.
@@ -36,10 +33,9 @@ fn searched(img: &[u16]) -> usize
 pub extern "C" fn nord_probe_free(img: &[u16], from: usize) -> usize
     ensures { Searching (pages img.now) (vol img.now) (free_from (pages img.now) (vol img.now) from) result }
 {
-    let b = searched(img);
-    if b == 0 {
+    let Some(b) = searched(img) else {
         return 0;
-    }
+    };
     free_from(img, b, img.len() / WORDS, from)
 }
 
@@ -51,9 +47,8 @@ pub extern "C" fn nord_probe_run(img: &[u16], n: usize) -> usize
     if n == 0 {
         return 0;
     }
-    let b = searched(img);
-    if b == 0 {
+    let Some(b) = searched(img) else {
         return 0;
-    }
+    };
     highest_run(img, b, img.len() / WORDS, n)
 }
