@@ -18,9 +18,10 @@ fn page_of(img: &[u16], typed: bool, n: usize) -> usize
     ensures { (result ≡ page_at (vol img.now) (file_of typed (vol img.now)) (n / 32)) × (result < pages img.now) }
 {
     if typed {
-        return object_page(img, n);
+        object_page(img, n)
+    } else {
+        user_page(img, n)
     }
-    user_page(img, n)
 }
 
 // Whether entry n has exactly this fill, if it is used.
@@ -29,10 +30,7 @@ fn one_filled(img: &[u16], typed: bool, n: usize, mark: u8) -> bool
     ensures { Decides result (FilledAt typed mark (vol img.now) n) }
 {
     let q = page_of(img, typed, n);
-    if !entry_used(img, q, n) {
-        return true;
-    }
-    entry_filled(img, q, n, typed, mark)
+    !entry_used(img, q, n) || entry_filled(img, q, n, typed, mark)
 }
 
 // Whether the first `count` entries have.
@@ -40,14 +38,7 @@ pub fn all_filled(img: &[u16], typed: bool, count: usize, mark: u8) -> bool
     requires { Ready img.now }
     ensures { Decides result (FilledTo typed mark (vol img.now) count) }
 {
-    let mut n: usize = 0;
-    while n < count {
-        if !one_filled(img, typed, n, mark) {
-            return false;
-        }
-        n += 1;
-    }
-    true
+    (0..count).all(|n| one_filled(img, typed, n, mark))
 }
 
 // Entry n gets this fill, if it is used.
@@ -67,9 +58,7 @@ pub fn refill_all(img: &mut [u16], typed: bool, count: usize, mark: u8)
     requires { Ready img.old × (count ≤ entries_of typed) × (0 < ends mark) }
     ensures { vol img.new ≡ remake_all (file_of typed) (refilled_entry typed mark) (vol img.old) count }
 {
-    let mut n: usize = 0;
-    while n < count {
+    for n in 0..count {
         refill_one(img, typed, n, mark);
-        n += 1;
     }
 }

@@ -15,15 +15,8 @@ pub fn entry_filled(img: &[u16], q: usize, n: usize, typed: bool, mark: u8) -> b
     requires { (0 < q) × (q < pages img.now) }
     ensures { Decides result (FilledEntry typed mark (entry_in (vol img.now) q n)) }
 {
-    let place = EntryPlace::of(n);
-    let w = place.word;
-    if !filled_at(img, q, w + NAME, 16, mark) {
-        return false;
-    }
-    if !typed {
-        return true;
-    }
-    filled_at(img, q, w + TYPE, 4, mark)
+    let w = EntryPlace::of(n).word;
+    filled_at(img, q, w + NAME, 16, mark) && (!typed || filled_at(img, q, w + TYPE, 4, mark))
 }
 
 // Both get this fill.
@@ -31,8 +24,7 @@ pub fn refill_entry(img: &mut [u16], q: usize, n: usize, typed: bool, mark: u8)
     requires { (0 < q) × (q < pages img.old) }
     ensures { vol img.new ≡ put_entry (vol img.old) q n (refilled_entry typed mark (entry_in (vol img.old) q n)) }
 {
-    let place = EntryPlace::of(n);
-    let w = place.word;
+    let w = EntryPlace::of(n).word;
     refill_at(img, q, w + NAME, 16, mark);
     if !typed {
         return;

@@ -14,10 +14,7 @@ fn behind(i: usize, l: usize, mark: u8) -> u8
     requires { l ≤ i }
     ensures { result ≡ get_or (mark ∷ []) (i - l) 0 }
 {
-    if i == l {
-        return mark;
-    }
-    0
+    if i == l { mark } else { 0 }
 }
 
 // Whether a short name there has exactly this fill: the mark at its end, then zeros.
@@ -26,24 +23,19 @@ pub fn filled_at(img: &[u16], p: usize, k: usize, n: usize, mark: u8) -> bool
     ensures { Decides result (Filled mark n (vol img.now p) k) }
 {
     let l = end_at(img, p, k, n);
-    let mut i: usize = l;
-    while i < n {
+    for i in l..n {
         if byte_at(img, p, k, i) != behind(i, l, mark) {
             return false;
         }
-        i += 1;
     }
     true
 }
 
 // Byte i of the name with the mark and zeros behind it: b, which stands there, up to the name's end l.
-fn byte_for(b: u8, i: usize, l: usize, mark: u8) -> u16
+fn byte_for(b: u8, i: usize, l: usize, mark: u8) -> u8
     ensures { (result ≡ byte_for b i l mark) × (result < 256) }
 {
-    if i < l {
-        return b as u16;
-    }
-    behind(i, l, mark) as u16
+    if i < l { b } else { behind(i, l, mark) }
 }
 
 // Its word i, from the two bytes that stand there.
@@ -53,7 +45,7 @@ fn word_for(img: &[u16], p: usize, k: usize, i: usize, l: usize, mark: u8) -> u1
 {
     let high = byte_for(byte_at(img, p, k, 2 * i), 2 * i, l, mark);
     let low = byte_for(byte_at(img, p, k, 2 * i + 1), 2 * i + 1, l, mark);
-    high * 256 + low
+    u16::from_be_bytes([high, low])
 }
 
 // The field becomes its name with this mark and zeros behind it.
@@ -62,10 +54,8 @@ pub fn refill_at(img: &mut [u16], p: usize, k: usize, n: usize, mark: u8)
     ensures { vol img.new ≡ put_words (vol img.old) p k (n / 2) (packed_by mark (stored n (vol img.old p) k)) }
 {
     let l = end_at(img, p, k, n);
-    let mut i: usize = 0;
-    while i < n / 2 {
+    for i in 0..n / 2 {
         let w = word_for(img, p, k, i, l, mark);
         put_word(img, p, k + i, w);
-        i += 1;
     }
 }

@@ -1,6 +1,6 @@
 // The two conversions (T-04): what stands behind short names, from zeros alone to an apostrophe and then zeros, and back. All names and types
 // are looked at before the first word is written.
-#![tactic(auto)]
+#![tactic(auto, using(nord::proofs::Outcomes::outcomes), unfolding(book::specs::Calls::convert_call, book::specs::Outcome::call, book::specs::Rows::Clear, book::specs::Rows::Lowest))]
 
 pub mod all;
 pub mod entry;
@@ -14,7 +14,7 @@ ghost use Rattle.book.specs.Outcome.{Outcome};
 ghost use Rattle.book.specs.Calls.{convert_call, to_apostrophe_call, to_zeros_call};
 ghost use Rattle.book.specs.Enter.{Known, Fit};
 
-use book::{Answer, Gate, Refusal};
+use book::{Answer, Refusal};
 use nord::enter::enter;
 
 // The bytes that end a short name: the fill is one of them, and then zeros.
@@ -28,10 +28,10 @@ fn convert_open(img: &mut [u16], from: u8, to: u8) -> Answer
     ensures { Outcome (convert_call from to img.old) img.old (numbers result) img.new }
 {
     if !volume::filled(img, from) {
-        return Answer::Refused { why: Refusal::Fill };
+        return Err(Refusal::Fill);
     }
     volume::convert_step(img, to);
-    Answer::Done { value: 0 }
+    Ok(0)
 }
 
 // From one fill to the other: the gate, then the open half.
@@ -39,10 +39,7 @@ fn between(img: &mut [u16], known: bool, from: u8, to: u8) -> Answer
     requires { Known known img.old × (0 < ends to) }
     ensures { Outcome (convert_call from to img.old) img.old (numbers result) img.new }
 {
-    let g = enter(img, known);
-    if let Gate::Shut { why } = g {
-        return Answer::Refused { why };
-    }
+    enter(img, known)?;
     convert_open(img, from, to)
 }
 

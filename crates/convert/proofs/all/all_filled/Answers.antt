@@ -1,20 +1,12 @@
 -- `convert::all::all_filled` meets its contract. Assumes nothing.
-use native.Mathlib.Omega.{arith}
-use borrow.Author.Count.{below_none, below_more}
-use Rattle.book.specs.Decides.{holds, fails}
+use Rattle.std.proofs.Common.{ℕ, refl, arith, rules, tests}
+use Rattle.std.proofs.lemmas.Iterator.{cases_from_all, YieldsList-from_range}
+use Rattle.book.specs.Words.{vol}
+use Rattle.seek.proofs.Search.{all-range}
+use Rattle.convert.specs.Kinds.{FilledAt}
 use Rattle.convert.proofs.all.all_filled.Goals as goal
 
-pub loop-n-init : goal.loop-n-init
-loop-n-init c = (omega arith, below_none _)
-
-pub one_filled-requires : goal.one_filled-requires
-one_filled-requires c = c.requires
-
-pub returns-then-not-one_filled : goal.returns-then-not-one_filled
-returns-then-not-one_filled c = λ f. fails c.one_filled.result _ c.one_filled.ensures c.if-not-one_filled.true-raw (f c.loop-n.n c.loop-n-test.true)
-
-pub loop-n-preserved : goal.loop-n-preserved
-loop-n-preserved c = (omega arith, below_more _ c.loop-n.n c.loop-n.invariant.1 (holds c.one_filled.result _ c.one_filled.ensures c.if-not-one_filled.false-raw))
-
 pub returns : goal.returns
-returns c = λ m h. c.loop-n.invariant.1 m (omega arith)
+returns c =
+    let A : ℕ → Type 0 = FilledAt c.args.typed c.args.mark (vol c.args.img.now) in
+    all-range A c.args.count _ (cases_from_all _ _ _ A (λ n. A n → ⊥) c.all.ensures.ran (YieldsList-from_range 0 c.args.count c.args.count refl (omega arith)) (λ x q k. search (rules, tests)) (λ x q k. search (rules, tests)))

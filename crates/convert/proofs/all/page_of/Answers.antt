@@ -26,5 +26,5 @@ returns-then-typed c = (of-object c.args.typed (vol c.args.img.now) c.args.n c.o
 pub user_page-requires : goal.user_page-requires
 user_page-requires c = ready-users _ c.requires
 
-pub returns : goal.returns
-returns c = (of-user c.args.typed (vol c.args.img.now) c.args.n c.user_page.result c.if-typed.false c.user_page.ensures.0, c.user_page.ensures.1)
+pub returns-else-typed : goal.returns-else-typed
+returns-else-typed c = (of-user c.args.typed (vol c.args.img.now) c.args.n c.user_page.result c.if-typed.false c.user_page.ensures.0, c.user_page.ensures.1)

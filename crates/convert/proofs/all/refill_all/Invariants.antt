@@ -1,6 +1,5 @@
 -- `convert::all::refill_all` meets its contract. Assumes nothing.
 use mathlib.Core.Path.{◌≡◌}
-use Prim.Native.Nat.{◌-◌, ◌≤◌}
 use lib.ListN.{length}
 use Rattle.book.specs.Words.{vol}
 use Rattle.book.specs.Convert.{remake_all}
@@ -9,7 +8,4 @@ use Rattle.convert.proofs.all.refill_all.Given as goal
 
 -- the entries passed are made anew
 abbrev pub invariant-loop-n : goal.invariant-loop-n
-invariant-loop-n l = (l.n ≤ l.count) × (length l.img ≡ length l.initial.img) × (vol l.img ≡ remake_all (file_of l.typed) (refilled_entry l.typed l.mark) (vol l.initial.img) l.n)
-
-abbrev pub decreases-loop-n : goal.decreases-loop-n
-decreases-loop-n l = l.count - l.n
+invariant-loop-n l = (length l.img ≡ length l.initial.img) × (vol l.img ≡ remake_all (file_of l.typed) (refilled_entry l.typed l.mark) (vol l.initial.img) l.n)

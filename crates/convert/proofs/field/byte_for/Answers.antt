@@ -20,5 +20,5 @@ after b i l c h = sym (pick_no _ b _ (let e : 1 - (suc i - l) ≡ 0 = omega arit
 pub returns-then-i-l : goal.returns-then-i-l
 returns-then-i-l c = (within _ _ _ _ (omega arith), omega arith)
 
-pub returns : goal.returns
-returns c = (c.behind.ensures ∙ after c.args.b c.args.i c.args.l c.args.mark (omega arith), omega arith)
+pub returns-else-i-l : goal.returns-else-i-l
+returns-else-i-l c = (c.behind.ensures ∙ after c.args.b c.args.i c.args.l c.args.mark (omega arith), omega arith)

@@ -9,7 +9,4 @@ use Rattle.convert.proofs.field.filled_at.Given as goal
 
 -- the bytes passed are the fill's
 abbrev pub invariant-loop-i : goal.invariant-loop-i
-invariant-loop-i l = (l.l ≤ l.i) × (l.i ≤ l.n) × ((j : ℕ) → l.l ≤ j → j < l.i → byte_at (vol l.img l.p) l.k j ≡ get_or (l.mark ∷ []) (j - l.l) 0)
-
-abbrev pub decreases-loop-i : goal.decreases-loop-i
-decreases-loop-i l = l.n - l.i
+invariant-loop-i l = (j : ℕ) → l.l ≤ j → j < l.i → byte_at (vol l.img l.p) l.k j ≡ get_or (l.mark ∷ []) (j - l.l) 0

@@ -1,6 +1,5 @@
 -- `convert::field::refill_at` meets its contract. Assumes nothing.
 use mathlib.Core.Path.{◌≡◌}
-use Prim.Native.Nat.{◌-◌, ◌/◌, ◌≤◌}
 use lib.ListN.{length}
 use Rattle.book.specs.Words.{vol, put_words}
 use Rattle.book.specs.Names.{packed_by, stored}
@@ -8,7 +7,4 @@ use Rattle.convert.proofs.field.refill_at.Given as goal
 
 -- the words passed are written
 abbrev pub invariant-loop-i : goal.invariant-loop-i
-invariant-loop-i l = (l.i ≤ l.n / 2) × (length l.img ≡ length l.initial.img) × (vol l.img ≡ put_words (vol l.initial.img) l.p l.k l.i (packed_by l.mark (stored l.n (vol l.initial.img l.p) l.k)))
-
-abbrev pub decreases-loop-i : goal.decreases-loop-i
-decreases-loop-i l = l.n / 2 - l.i
+invariant-loop-i l = (length l.img ≡ length l.initial.img) × (vol l.img ≡ put_words (vol l.initial.img) l.p l.k l.i (packed_by l.mark (stored l.n (vol l.initial.img l.p) l.k)))
