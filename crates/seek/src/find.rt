@@ -1,4 +1,5 @@
 // Finding a user or a file by name: the entries on 8 pages of the user file or the object file, absent pages skipped.
+// Each `as` is between a u32 and a usize: no `From` leads there, and a `try_from` would ask again what is proved.
 ghost use Rattle.std.specs.Prelude.{ℕ, ◌+◌, ◌*◌, ◌<◌, option_copied};
 ghost use Rattle.book.specs.Words.{vol};
 ghost use Rattle.book.specs.Trees.{root_by};

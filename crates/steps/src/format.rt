@@ -1,4 +1,5 @@
 // Format: the directory entry and the bit file are written. The image need not be sound.
+// Each `as` is from a usize to a u32: no `From` leads there, and a `try_from` would ask again what is proved.
 ghost use Rattle.std.specs.Prelude.{◌≡◌, ℕ, ◌+◌, ◌-◌, ◌*◌, ◌/◌, ◌<◌, ◌≤◌, length};
 ghost use Rattle.book.specs.Words.{vol};
 ghost use Rattle.book.specs.Bits.{bit_pages};

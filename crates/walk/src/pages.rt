@@ -1,6 +1,7 @@
 // The pages of a tree: marking a pointer calls marking a block, which marks each of its pointers; the level falls, so the walk ends.
 // Each is told how many positions there may be below it, so that it need not look at the pointers past them. A block whose pointers name
 // pages, those of level 0, is marked by a loop of its own: a call for each page would make the check of large files three times as long.
+// Each `as` is between a u32 and a usize: no `From` leads there, and a `try_from` would ask again what is proved.
 ghost use Rattle.std.specs.Prelude.{◌≡◌, true, false, ℕ, ◌*◌, ◌^◌, ◌≤◌, ◌<◌, min, length};
 ghost use Rattle.sums.specs.Sum.{sum};
 ghost use Rattle.book.specs.Decides.{Decides};
