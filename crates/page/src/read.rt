@@ -66,6 +66,25 @@ pub fn flags_at(img: &[u16], p: usize, k: usize) -> u16
     word_at(img, p, k) / 16384
 }
 
+// A pointer: its flags and its page. Flags are a number: a disk's may be any of four, and the book's rules judge them.
+#[derive(Clone, Copy, Debug, PartialEq, Eq)]
+pub struct Pointer {
+    pub flags: u16,
+    pub page: usize,
+}
+
+// The pointer at word k of page p.
+pub fn pointer_at(img: &[u16], p: usize, k: usize) -> Pointer
+    requires { (1024 * p + 1024 ≤ length img.now) × (k < 1023) }
+    ensures flags { (result.flags ≡ flags (vol img.now p) k) × (result.flags < 4) }
+    ensures page { (result.page ≡ page (vol img.now p) k) × (result.page < 1073741824) }
+{
+    Pointer {
+        flags: flags_at(img, p, k),
+        page: page_at(img, p, k) as usize,
+    }
+}
+
 // Pointer n of the block in page b; a block that is absent, b = 0, has only zeros. An `as`: a u32 becomes a usize by no `From`.
 pub fn slot_at(img: &[u16], b: usize, n: usize) -> usize
     requires { (1024 * b + 1024 ≤ length img.now) × (n < 512) }

@@ -9,7 +9,7 @@ ghost use Rattle.book.specs.Decides.{Decides};
 ghost use Rattle.tree.specs.Reach.{entry_in};
 
 use page::entry::EntryPlace;
-use page::read::{flags_at, page_at, two_at, word_at};
+use page::read::{Pointer, flags_at, page_at, two_at, word_at};
 
 // Word k.
 pub fn entry_word(img: &[u16], q: usize, n: usize, k: usize) -> u16
@@ -53,6 +53,18 @@ pub fn entry_flags(img: &[u16], q: usize, n: usize, k: usize) -> u16
         return 0;
     }
     flags_at(img, q, EntryPlace::of(n).word + k)
+}
+
+// The pointer at word k.
+pub fn entry_pointer(img: &[u16], q: usize, n: usize, k: usize) -> Pointer
+    requires { (q < pages img.now) × (k < 31) }
+    ensures flags { (result.flags ≡ flags (entry_in (vol img.now) q n) k) × (result.flags < 4) }
+    ensures page { (result.page ≡ page (entry_in (vol img.now) q n) k) × (result.page < 1073741824) }
+{
+    Pointer {
+        flags: entry_flags(img, q, n, k),
+        page: entry_page(img, q, n, k),
+    }
 }
 
 // The entry is used.

@@ -7,7 +7,7 @@ ghost use Rattle.book.specs.Files.{file_at};
 ghost use Rattle.book.specs.Image.{pages};
 ghost use Rattle.tree.specs.Reach.{Reach};
 
-use crate::entry::{entry_flags, entry_page, entry_two, entry_used};
+use crate::entry::{entry_pointer, entry_two, entry_used};
 use crate::root::{object_page, root_page};
 use page::entry::{PAGES, POINTER};
 
@@ -20,8 +20,7 @@ pub fn file_page(img: &[u16], e: usize, n: usize) -> usize
     if !entry_used(img, q, e) {
         return 0;
     }
-    let flags = entry_flags(img, q, e, POINTER);
-    let top = entry_page(img, q, e, POINTER);
+    let pointer = entry_pointer(img, q, e, POINTER);
     let count = entry_two(img, q, e, PAGES) as usize;
-    root_page(img, flags, top, count, n)
+    root_page(img, pointer, count, n)
 }

@@ -9,18 +9,18 @@ ghost use Rattle.tree.specs.Ends.{Ends};
 
 use crate::ends::{slots_end, tree_end};
 use page::entry::EntryPlace;
-use page::read::{flags_at, page_at, slot_at};
+use page::read::{Pointer, pointer_at, slot_at};
 use page::{INDEXED, OBJECTS, SUBINDEXED, USERS};
 
-// The page at position n of the root with these flags, page and count; 0 where there is none.
-pub fn root_page(img: &[u16], flags: u16, top: usize, count: usize, n: usize) -> usize
-    requires { Reach img.now (root_by flags top count) }
-    ensures { (result ≡ page_at (vol img.now) (root_by flags top count) n) × (result < pages img.now) }
+// The page at position n of the root with this pointer and so many pages; 0 where there is none.
+pub fn root_page(img: &[u16], pointer: Pointer, count: usize, n: usize) -> usize
+    requires { Reach img.now (root_by pointer.flags pointer.page count) }
+    ensures { (result ≡ page_at (vol img.now) (root_by pointer.flags pointer.page count) n) × (result < pages img.now) }
 {
-    match flags {
-        0 if n < count => top + n,
-        INDEXED if n < 512 => slot_at(img, top, n),
-        SUBINDEXED if n < 262144 => slot_at(img, slot_at(img, top, n / 512), n % 512),
+    match pointer.flags {
+        0 if n < count => pointer.page + n,
+        INDEXED if n < 512 => slot_at(img, pointer.page, n),
+        SUBINDEXED if n < 262144 => slot_at(img, slot_at(img, pointer.page, n / 512), n % 512),
         _ => 0,
     }
 }
@@ -30,8 +30,7 @@ fn page_of_entry(img: &[u16], k: usize, n: usize) -> usize
     requires { (k < 1023) × Reach img.now (root_at (vol img.now 0) k 0) }
     ensures { (result ≡ page_at (vol img.now) (root_at (vol img.now 0) k 0) (entry_page n)) × (result < pages img.now) }
 {
-    let top = page_at(img, 0, k) as usize;
-    root_page(img, flags_at(img, 0, k), top, 0, EntryPlace::of(n).page)
+    root_page(img, pointer_at(img, 0, k), 0, EntryPlace::of(n).page)
 }
 
 // The page of user u's entry, 0 where it is absent.
@@ -55,10 +54,10 @@ pub fn object_ends(img: &[u16]) -> usize
     requires { Reach img.now (object_file (vol img.now)) }
     ensures { Ends img.now result }
 {
-    let top = page_at(img, 0, OBJECTS) as usize;
-    match flags_at(img, 0, OBJECTS) {
-        INDEXED => slots_end(img, top),
-        SUBINDEXED => tree_end(img, top),
+    let objects = pointer_at(img, 0, OBJECTS);
+    match objects.flags {
+        INDEXED => slots_end(img, objects.page),
+        SUBINDEXED => tree_end(img, objects.page),
         _ => 0,
     }
 }

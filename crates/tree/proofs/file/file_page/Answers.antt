@@ -15,13 +15,13 @@ returns-then-not-entry_used c = let v = vol c.args.img.now in
 pub root_page-requires : goal.root_page-requires
 root_page-requires c = let v = vol c.args.img.now in
     reach-same _ _ _ (file-in v c.args.e c.object_page-q.result c.object_page-q.ensures.0
-    (holds c.entry_used.result _ c.entry_used.ensures c.if-not-entry_used.false-raw) c.entry_flags-flags.result c.entry_page-top.result c.entry_two-count.result
-    c.entry_flags-flags.ensures.0 c.entry_page-top.ensures.0 c.entry_two-count.ensures.0) c.requires.1
+    (holds c.entry_used.result _ c.entry_used.ensures c.if-not-entry_used.false-raw) c.entry_pointer-pointer.result.flags c.entry_pointer-pointer.result.page c.entry_two-count.result
+    c.entry_pointer-pointer.ensures.flags.0 c.entry_pointer-pointer.ensures.page.0 c.entry_two-count.ensures.0) c.requires.1
 
 pub returns : goal.returns
 returns c = let v = vol c.args.img.now in (
   page-read v _ _ _ _ _ (file-in v c.args.e c.object_page-q.result c.object_page-q.ensures.0
-      (holds c.entry_used.result _ c.entry_used.ensures c.if-not-entry_used.false-raw) c.entry_flags-flags.result c.entry_page-top.result c.entry_two-count.result
-      c.entry_flags-flags.ensures.0 c.entry_page-top.ensures.0 c.entry_two-count.ensures.0) refl c.root_page.ensures.0,
+      (holds c.entry_used.result _ c.entry_used.ensures c.if-not-entry_used.false-raw) c.entry_pointer-pointer.result.flags c.entry_pointer-pointer.result.page c.entry_two-count.result
+      c.entry_pointer-pointer.ensures.flags.0 c.entry_pointer-pointer.ensures.page.0 c.entry_two-count.ensures.0) refl c.root_page.ensures.0,
   c.root_page.ensures.1,
 )
