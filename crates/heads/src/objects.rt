@@ -19,7 +19,7 @@ use crate::stored::entry_legal;
 use crate::twins::apart;
 use page::OBJECTS;
 use page::entry::{NAME, NUMBER, OWNER, TYPE};
-use page::read::{flags_at, page_at, slot_at};
+use page::read::{Pointer, pointer_at, slot_at};
 use tree::entry::{entry_used, entry_word};
 use tree::root::{root_page, user_page};
 
@@ -56,11 +56,10 @@ pub fn rule5(img: &[u16], total: usize) -> bool
     requires { Whole img.now × (total ≡ pages img.now) × Rule2 (pages img.now) (vol img.now) × Rule3 (pages img.now) (vol img.now) }
     ensures { Decides result (Rule5 (pages img.now) (vol img.now)) }
 {
-    let flags = flags_at(img, 0, OBJECTS);
-    let top = page_at(img, 0, OBJECTS) as usize;
-    match flags {
-        1 => block_ok(img, total, top, 512) && low_users(img),
-        2 => block_ok(img, total, top, 4) && indexes_ok(img, total, top),
+    let pointer = pointer_at(img, 0, OBJECTS);
+    match pointer.flags {
+        1 => block_ok(img, total, pointer.page, 512) && low_users(img),
+        2 => block_ok(img, total, pointer.page, 4) && indexes_ok(img, total, pointer.page),
         _ => true,
     }
 }
@@ -81,11 +80,11 @@ fn file_ok(img: &[u16], q: usize, e: usize, owned: bool) -> bool
 }
 
 // Whether the 32 objects from `first` on, a page of them, are unused or right. An absent page has no used objects.
-pub fn page_ok(img: &[u16], flags: u16, top: usize, first: usize) -> bool
-    requires { Reach img.now (user_file (vol img.now)) × Reach img.now (root_by flags top 0) × (first % 32 ≡ 0) × (first < 65536) }
-    ensures { Decides result (Span (FileFine (user (vol img.now)) (entry (vol img.now) (root_by flags top 0))) first (first + 32)) }
+pub fn page_ok(img: &[u16], pointer: Pointer, first: usize) -> bool
+    requires { Reach img.now (user_file (vol img.now)) × Reach img.now (root_by pointer.flags pointer.page 0) × (first % 32 ≡ 0) × (first < 65536) }
+    ensures { Decides result (Span (FileFine (user (vol img.now)) (entry (vol img.now) (root_by pointer.flags pointer.page 0))) first (first + 32)) }
 {
-    let q = root_page(img, flags, top, 0, first / 32);
+    let q = root_page(img, pointer, 0, first / 32);
     if q == 0 {
         return true;
     }
@@ -95,20 +94,20 @@ pub fn page_ok(img: &[u16], flags: u16, top: usize, first: usize) -> bool
 }
 
 // Whether the objects of so many pages are unused or right.
-fn files_ok(img: &[u16], flags: u16, top: usize, ends: usize) -> bool
-    requires { Reach img.now (user_file (vol img.now)) × Reach img.now (root_by flags top 0) × (ends ≤ object_pages) }
-    ensures { Decides result (Span (FileFine (user (vol img.now)) (entry (vol img.now) (root_by flags top 0))) 0 (32 * ends)) }
+fn files_ok(img: &[u16], pointer: Pointer, ends: usize) -> bool
+    requires { Reach img.now (user_file (vol img.now)) × Reach img.now (root_by pointer.flags pointer.page 0) × (ends ≤ object_pages) }
+    ensures { Decides result (Span (FileFine (user (vol img.now)) (entry (vol img.now) (root_by pointer.flags pointer.page 0))) 0 (32 * ends)) }
 {
-    (0..ends).all(|n| page_ok(img, flags, top, 32 * n))
+    (0..ends).all(|n| page_ok(img, pointer, 32 * n))
 }
 
 // Whether no two files of a user have the same name and type, words 1 to 10, for so many users.
-fn all_apart(img: &[u16], table: &mut [u16; 4096], flags: u16, top: usize, users: usize) -> bool
-    requires { Reach img.now (root_by flags top 0) × (users ≤ 256) × (length table.old ≡ 4096) }
-    ensures { Decides result (Span (FilesApart (entry (vol img.now) (root_by flags top 0))) 0 users) }
+fn all_apart(img: &[u16], table: &mut [u16; 4096], pointer: Pointer, users: usize) -> bool
+    requires { Reach img.now (root_by pointer.flags pointer.page 0) × (users ≤ 256) × (length table.old ≡ 4096) }
+    ensures { Decides result (Span (FilesApart (entry (vol img.now) (root_by pointer.flags pointer.page 0))) 0 users) }
 {
     for u in 0..users {
-        if !apart(img, table, flags, top, 4, 256 * u) {
+        if !apart(img, table, pointer, 4, 256 * u) {
             return false;
         }
     }
@@ -128,7 +127,6 @@ pub fn rule6(img: &[u16], table: &mut [u16; 4096], ends: usize) -> bool
     requires { Whole img.now × Rule2 (pages img.now) (vol img.now) × Rule3 (pages img.now) (vol img.now) × Rule5 (pages img.now) (vol img.now) × Ends img.now ends × (length table.old ≡ 4096) }
     ensures { Decides result (Rule6 (user (vol img.now)) (object (vol img.now))) }
 {
-    let flags = flags_at(img, 0, OBJECTS);
-    let top = page_at(img, 0, OBJECTS) as usize;
-    files_ok(img, flags, top, ends) && all_apart(img, table, flags, top, owners(ends))
+    let pointer = pointer_at(img, 0, OBJECTS);
+    files_ok(img, pointer, ends) && all_apart(img, table, pointer, owners(ends))
 }

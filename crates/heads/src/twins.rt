@@ -12,14 +12,14 @@ ghost use Rattle.heads.specs.Twins.{TypeBytes, EndsAt, Twins, Fresh, Apart, On};
 use crate::stamps::{SLOTS, hash_of, stamp, stamp_of};
 use crate::stored::{entry_end, entry_same};
 use page::entry::{NAME, TYPE};
+use page::read::Pointer;
 use tree::entry::entry_used;
 use tree::root::root_page;
 
 // Whether entry x is a twin of the used entry y, which is on page q, and whose name and type end at bytes l and m.
 fn twin(
     img: &[u16],
-    flags: u16,
-    top: usize,
+    pointer: Pointer,
     n: usize,
     q: usize,
     y: usize,
@@ -27,10 +27,10 @@ fn twin(
     l: usize,
     m: usize,
 ) -> bool
-    requires { On img.now (root_by flags top 0) q y × (0 < used (entry (vol img.now) (root_by flags top 0) y)) × TypeBytes n × EndsAt (entry_in (vol img.now) q y) n l m }
-    ensures { Decides result (Twins (entry (vol img.now) (root_by flags top 0)) n x y) }
+    requires { On img.now (root_by pointer.flags pointer.page 0) q y × (0 < used (entry (vol img.now) (root_by pointer.flags pointer.page 0) y)) × TypeBytes n × EndsAt (entry_in (vol img.now) q y) n l m }
+    ensures { Decides result (Twins (entry (vol img.now) (root_by pointer.flags pointer.page 0)) n x y) }
 {
-    let p = root_page(img, flags, top, 0, x / 32);
+    let p = root_page(img, pointer, 0, x / 32);
     if p == 0 {
         return false;
     }
@@ -38,28 +38,27 @@ fn twin(
 }
 
 // Whether no entry from `base` on before the used entry y, which is on page q, is its twin.
-pub fn fresh(img: &[u16], flags: u16, top: usize, n: usize, base: usize, q: usize, y: usize) -> bool
-    requires { On img.now (root_by flags top 0) q y × (0 < used (entry (vol img.now) (root_by flags top 0) y)) × TypeBytes n × (base ≤ y) }
-    ensures { Decides result (Fresh (entry (vol img.now) (root_by flags top 0)) n base y) }
+pub fn fresh(img: &[u16], pointer: Pointer, n: usize, base: usize, q: usize, y: usize) -> bool
+    requires { On img.now (root_by pointer.flags pointer.page 0) q y × (0 < used (entry (vol img.now) (root_by pointer.flags pointer.page 0) y)) × TypeBytes n × (base ≤ y) }
+    ensures { Decides result (Fresh (entry (vol img.now) (root_by pointer.flags pointer.page 0)) n base y) }
 {
     let l = entry_end(img, q, y, NAME, 16);
     let m = entry_end(img, q, y, TYPE, n);
-    (base..y).all(|x| !twin(img, flags, top, n, q, y, x, l, m))
+    (base..y).all(|x| !twin(img, pointer, n, q, y, x, l, m))
 }
 
 // The same of any entry y on page q: an unused one has no twin, and one that has a slot without this stamp is the first of its name.
 fn entry_apart(
     img: &[u16],
     table: &mut [u16; 4096],
-    flags: u16,
-    top: usize,
+    pointer: Pointer,
     n: usize,
     base: usize,
     q: usize,
     y: usize,
 ) -> bool
-    requires { On img.now (root_by flags top 0) q y × TypeBytes n × (base ≤ y) × (y < 65536) × Stamped (entry (vol img.now) (root_by flags top 0)) n base y table.old }
-    ensures { Decides result (Fresh (entry (vol img.now) (root_by flags top 0)) n base y) × Stamped (entry (vol img.now) (root_by flags top 0)) n base (y + 1) table.new }
+    requires { On img.now (root_by pointer.flags pointer.page 0) q y × TypeBytes n × (base ≤ y) × (y < 65536) × Stamped (entry (vol img.now) (root_by pointer.flags pointer.page 0)) n base y table.old }
+    ensures { Decides result (Fresh (entry (vol img.now) (root_by pointer.flags pointer.page 0)) n base y) × Stamped (entry (vol img.now) (root_by pointer.flags pointer.page 0)) n base (y + 1) table.new }
 {
     if !entry_used(img, q, y) {
         return true;
@@ -75,28 +74,27 @@ fn entry_apart(
     if !high {
         return true;
     }
-    fresh(img, flags, top, n, base, q, y)
+    fresh(img, pointer, n, base, q, y)
 }
 
 // The same of the 32 entries from `first` on, a page of them. An absent page has no used entries.
 fn page_apart(
     img: &[u16],
     table: &mut [u16; 4096],
-    flags: u16,
-    top: usize,
+    pointer: Pointer,
     n: usize,
     base: usize,
     first: usize,
 ) -> bool
-    requires { Reach img.now (root_by flags top 0) × TypeBytes n × (base ≤ first) × (first % 32 ≡ 0) × (first < 65536) × Stamped (entry (vol img.now) (root_by flags top 0)) n base first table.old }
-    ensures { Decides result (Span (Fresh (entry (vol img.now) (root_by flags top 0)) n base) first (first + 32)) × (result ≡ true → Stamped (entry (vol img.now) (root_by flags top 0)) n base (first + 32) table.new) }
+    requires { Reach img.now (root_by pointer.flags pointer.page 0) × TypeBytes n × (base ≤ first) × (first % 32 ≡ 0) × (first < 65536) × Stamped (entry (vol img.now) (root_by pointer.flags pointer.page 0)) n base first table.old }
+    ensures { Decides result (Span (Fresh (entry (vol img.now) (root_by pointer.flags pointer.page 0)) n base) first (first + 32)) × (result ≡ true → Stamped (entry (vol img.now) (root_by pointer.flags pointer.page 0)) n base (first + 32) table.new) }
 {
-    let q = root_page(img, flags, top, 0, first / 32);
+    let q = root_page(img, pointer, 0, first / 32);
     if q == 0 {
         return true;
     }
     for y in first..first + 32 {
-        if !entry_apart(img, table, flags, top, n, base, q, y) {
+        if !entry_apart(img, table, pointer, n, base, q, y) {
             return false;
         }
     }
@@ -104,19 +102,12 @@ fn page_apart(
 }
 
 // Whether no two of the 256 entries from `base` on are twins. The table may be lent again for the next 256.
-pub fn apart(
-    img: &[u16],
-    table: &mut [u16; 4096],
-    flags: u16,
-    top: usize,
-    n: usize,
-    base: usize,
-) -> bool
-    requires { Reach img.now (root_by flags top 0) × TypeBytes n × (base % 32 ≡ 0) × (base + 256 ≤ 65536) × (length table.old ≡ 4096) }
-    ensures { Decides result (Apart (entry (vol img.now) (root_by flags top 0)) n base (base + 256)) × (result ≡ true → length table.new ≡ 4096) }
+pub fn apart(img: &[u16], table: &mut [u16; 4096], pointer: Pointer, n: usize, base: usize) -> bool
+    requires { Reach img.now (root_by pointer.flags pointer.page 0) × TypeBytes n × (base % 32 ≡ 0) × (base + 256 ≤ 65536) × (length table.old ≡ 4096) }
+    ensures { Decides result (Apart (entry (vol img.now) (root_by pointer.flags pointer.page 0)) n base (base + 256)) × (result ≡ true → length table.new ≡ 4096) }
 {
     for k in 0..8 {
-        if !page_apart(img, table, flags, top, n, base, base + 32 * k) {
+        if !page_apart(img, table, pointer, n, base, base + 32 * k) {
             return false;
         }
     }

@@ -14,7 +14,7 @@ use crate::stored::entry_legal;
 use crate::twins::apart;
 use page::USERS;
 use page::entry::{GIVEN, INDEX, NAME, USED};
-use page::read::{flags_at, page_at};
+use page::read::pointer_at;
 use tree::entry::{entry_two, entry_used, entry_word};
 use tree::root::user_page;
 
@@ -65,7 +65,6 @@ pub fn rule4(img: &[u16], ten: bool, table: &mut [u16; 4096]) -> bool
     requires { Whole img.now × Rule2 (pages img.now) (vol img.now) × Rule3 (pages img.now) (vol img.now) × (length table.old ≡ 4096) }
     ensures { Decides result (Rule4Over stored ten (user (vol img.now))) × (result ≡ true → length table.new ≡ 4096) }
 {
-    let flags = flags_at(img, 0, USERS);
-    let top = page_at(img, 0, USERS) as usize;
-    users_ok(img, ten) && apart(img, table, flags, top, 0, 0)
+    let pointer = pointer_at(img, 0, USERS);
+    users_ok(img, ten) && apart(img, table, pointer, 0, 0)
 }

@@ -12,7 +12,7 @@ ghost use Rattle.seek.specs.Search.{FoundBy, Fits};
 
 use page::entry::{EntryPlace, NAME, TYPE};
 use page::names::named_at;
-use page::read::{flags_at, page_at};
+use page::read::{Pointer, pointer_at};
 use page::{OBJECTS, USERS};
 use tree::entry::entry_used;
 use tree::root::root_page;
@@ -40,19 +40,12 @@ fn find_on(img: &[u16], q: usize, name: &[u8], kind: Option<&[u8]>) -> Option<u3
 }
 
 // The lowest of the 256 entries from page b of a file of entries on that fits; the file by the flags and the page of its pointer.
-fn find_in(
-    img: &[u16],
-    flags: u16,
-    top: usize,
-    b: usize,
-    name: &[u8],
-    kind: Option<&[u8]>,
-) -> Option<u32>
-    requires { Reach img.now (root_by flags top 0) × (b < object_pages) }
-    ensures { FoundBy (λ (n : ℕ). (n < 256) × Fits name.now (option_copied kind.entry) (entry (vol img.now) (root_by flags top 0) (32 * b + n))) result }
+fn find_in(img: &[u16], pointer: Pointer, b: usize, name: &[u8], kind: Option<&[u8]>) -> Option<u32>
+    requires { Reach img.now (root_by pointer.flags pointer.page 0) × (b < object_pages) }
+    ensures { FoundBy (λ (n : ℕ). (n < 256) × Fits name.now (option_copied kind.entry) (entry (vol img.now) (root_by pointer.flags pointer.page 0) (32 * b + n))) result }
 {
     for i in 0..8 {
-        let q = root_page(img, flags, top, 0, b + i);
+        let q = root_page(img, pointer, 0, b + i);
         if let Some(k) = find_on(img, q, name, kind) {
             return Some(32 * i as u32 + k);
         }
@@ -65,9 +58,8 @@ pub fn find_user(img: &[u16], name: &[u8]) -> Option<u32>
     requires { Ready img.now }
     ensures { FoundBy (IsUser (vol img.now) name.now) result }
 {
-    let flags = flags_at(img, 0, USERS);
-    let top = page_at(img, 0, USERS) as usize;
-    find_in(img, flags, top, 0, name, None)
+    let pointer = pointer_at(img, 0, USERS);
+    find_in(img, pointer, 0, name, None)
 }
 
 // The file of this user, name and type.
@@ -75,7 +67,6 @@ pub fn find_file(img: &[u16], user: usize, name: &[u8], kind: &[u8]) -> Option<u
     requires { Ready img.now × (user < 256) }
     ensures { FoundBy (IsFile (vol img.now) user name.now kind.now) result }
 {
-    let flags = flags_at(img, 0, OBJECTS);
-    let top = page_at(img, 0, OBJECTS) as usize;
-    find_in(img, flags, top, 8 * user, name, Some(kind))
+    let pointer = pointer_at(img, 0, OBJECTS);
+    find_in(img, pointer, 8 * user, name, Some(kind))
 }

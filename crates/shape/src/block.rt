@@ -9,7 +9,7 @@ ghost use Rattle.shape.specs.Shapes.{Filled, Indexes};
 
 use bits::marks::mark;
 use page::WORDS;
-use page::read::dword;
+use page::read::{Pointer, dword};
 use tree::block::{filled, unlinked};
 use tree::root::root_page;
 
@@ -97,7 +97,8 @@ fn count_ok(img: &[u16], t: usize, n: usize) -> bool
     requires { Subindex img.now t × (512 < n) × (n ≤ 262144) }
     ensures { Decides result (Filled (pages img.now) (vol img.now) 2 t n) }
 {
-    root_page(img, 2, t, 0, n - 1) != 0 && root_page(img, 2, t, 0, n) == 0
+    let tree = Pointer { flags: 2, page: t };
+    root_page(img, tree, 0, n - 1) != 0 && root_page(img, tree, 0, n) == 0
 }
 
 // Whether page t is a subindex block of n pages. A right one is marked, and gone through only once: when it is met again, the count alone is compared.

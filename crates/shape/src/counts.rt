@@ -11,6 +11,7 @@ ghost use Rattle.shape.specs.Counts.{pages_at, pages_of};
 ghost use Rattle.shape.specs.Objects.{ObjectsAt};
 
 use page::entry::{PAGES, POINTER};
+use page::read::Pointer;
 use tree::entry::{entry_flags, entry_two, entry_used};
 use tree::root::root_page;
 
@@ -63,11 +64,11 @@ fn page_pages(img: &[u16], q: usize, n: usize) -> u64
 }
 
 // The pages of the files whose entries are at position n of the object file, whose pointer has these flags and this page.
-fn position_pages(img: &[u16], flags: u16, top: usize, n: usize) -> u64
-    requires { ObjectsAt img.now flags top × (n < object_pages) }
+fn position_pages(img: &[u16], pointer: Pointer, n: usize) -> u64
+    requires { ObjectsAt img.now pointer.flags pointer.page × (n < object_pages) }
     ensures { (result ≡ pages_at (vol img.now) n) × (result ≤ 32 * 8589934592) }
 {
-    let q = root_page(img, flags, top, 0, n);
+    let q = root_page(img, pointer, 0, n);
     if q == 0 {
         return 0;
     }
@@ -75,8 +76,8 @@ fn position_pages(img: &[u16], flags: u16, top: usize, n: usize) -> u64
 }
 
 // The pages of user u's files, where the object pointer has these flags and this page, and the object file ends at `ends`.
-pub fn user_pages(img: &[u16], flags: u16, top: usize, ends: usize, u: usize) -> u64
-    requires { ObjectsAt img.now flags top × Ends img.now ends × (u < 256) }
+pub fn user_pages(img: &[u16], pointer: Pointer, ends: usize, u: usize) -> u64
+    requires { ObjectsAt img.now pointer.flags pointer.page × Ends img.now ends × (u < 256) }
     ensures { (result ≡ pages_of (vol img.now) u) × (result ≤ 256 * 8589934592) }
 {
     if ends <= 8 * u {
@@ -84,7 +85,7 @@ pub fn user_pages(img: &[u16], flags: u16, top: usize, ends: usize, u: usize) ->
     }
     let mut sum: u64 = 0;
     for i in 0..8 {
-        sum += position_pages(img, flags, top, 8 * u + i);
+        sum += position_pages(img, pointer, 8 * u + i);
     }
     sum
 }

@@ -10,7 +10,8 @@ ghost use Rattle.shape.specs.Shapes.{Shaped, EntryRight};
 
 use crate::block::{index_once, subindex_once};
 use page::entry::{BYTES, PAGE_BYTES, PAGES, POINTER};
-use tree::entry::{entry_flags, entry_page, entry_two, entry_used};
+use page::read::Pointer;
+use tree::entry::{entry_pointer, entry_two, entry_used};
 
 // Whether a pointer without flags to page t is that of a file of n pages: an empty or a contiguous one.
 pub fn run_ok(total: usize, t: usize, n: usize) -> bool
@@ -52,17 +53,16 @@ fn shape_ok(
     total: usize,
     seen: &mut [u16],
     trees: &mut [u16],
-    flags: u16,
-    t: usize,
+    pointer: Pointer,
     n: usize,
 ) -> bool
-    requires { Testing img.now total (Recalled img.now seen.old trees.old) × (t < 4294967296) × (n < 4294967296) }
-    ensures { Tested (Shape (pages img.now) (vol img.now) flags t n) (Recalled img.now seen.new trees.new) result }
+    requires { Testing img.now total (Recalled img.now seen.old trees.old) × (pointer.page < 4294967296) × (n < 4294967296) }
+    ensures { Tested (Shape (pages img.now) (vol img.now) pointer.flags pointer.page n) (Recalled img.now seen.new trees.new) result }
 {
-    match flags {
-        0 => run_ok(total, t, n),
-        1 => indexed_ok(img, total, seen, t, n),
-        2 => subindexed_ok(img, total, seen, trees, t, n),
+    match pointer.flags {
+        0 => run_ok(total, pointer.page, n),
+        1 => indexed_ok(img, total, seen, pointer.page, n),
+        2 => subindexed_ok(img, total, seen, trees, pointer.page, n),
         _ => false,
     }
 }
@@ -90,9 +90,8 @@ fn file_ok(
     if !bytes_ok(n, entry_two(img, q, e, BYTES)) {
         return false;
     }
-    let flags = entry_flags(img, q, e, POINTER);
-    let t = entry_page(img, q, e, POINTER);
-    shape_ok(img, total, seen, trees, flags, t, n as usize)
+    let pointer = entry_pointer(img, q, e, POINTER);
+    shape_ok(img, total, seen, trees, pointer, n as usize)
 }
 
 // Whether entry e on page q is unused, or its file is right.

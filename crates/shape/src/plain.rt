@@ -11,17 +11,18 @@ ghost use Rattle.shape.specs.Shapes.{Shaped, EntryRight, FilesRight};
 use crate::block::index_ok;
 use crate::file::{bytes_ok, run_ok};
 use page::entry::{BYTES, PAGES, POINTER};
-use tree::entry::{entry_flags, entry_page, entry_two, entry_used};
+use page::read::Pointer;
+use tree::entry::{entry_pointer, entry_two, entry_used};
 use tree::root::root_page;
 
 // A pointer with these flags to page t is that of a file of n pages: a run, or under an index block that is not full.
-fn plain_shape(img: &[u16], total: usize, flags: u16, t: usize, n: usize) -> bool
-    requires { Whole img.now × (total ≡ pages img.now) × (t < 4294967296) × (n < 4294967296) }
-    ensures { result ≡ true → Shape (pages img.now) (vol img.now) flags t n }
+fn plain_shape(img: &[u16], total: usize, pointer: Pointer, n: usize) -> bool
+    requires { Whole img.now × (total ≡ pages img.now) × (pointer.page < 4294967296) × (n < 4294967296) }
+    ensures { result ≡ true → Shape (pages img.now) (vol img.now) pointer.flags pointer.page n }
 {
-    match flags {
-        0 => run_ok(total, t, n),
-        1 => 0 < n && n < 512 && index_ok(img, total, t, n),
+    match pointer.flags {
+        0 => run_ok(total, pointer.page, n),
+        1 => 0 < n && n < 512 && index_ok(img, total, pointer.page, n),
         _ => false,
     }
 }
@@ -35,9 +36,8 @@ fn plain_file(img: &[u16], total: usize, q: usize, e: usize) -> bool
     if !bytes_ok(n, entry_two(img, q, e, BYTES)) {
         return false;
     }
-    let flags = entry_flags(img, q, e, POINTER);
-    let t = entry_page(img, q, e, POINTER);
-    plain_shape(img, total, flags, t, n as usize)
+    let pointer = entry_pointer(img, q, e, POINTER);
+    plain_shape(img, total, pointer, n as usize)
 }
 
 // Entry e on page q is unused, or its file is such a one.
@@ -58,10 +58,10 @@ fn plain_page(img: &[u16], total: usize, q: usize, n: usize) -> bool
 }
 
 // So are all files whose entries are at position n of the object file, whose pointer has these flags and this page.
-pub(crate) fn plain_position(img: &[u16], total: usize, flags: u16, top: usize, n: usize) -> bool
-    requires { Whole img.now × (total ≡ pages img.now) × ObjectsAt img.now flags top × (n < object_pages) }
+pub(crate) fn plain_position(img: &[u16], total: usize, pointer: Pointer, n: usize) -> bool
+    requires { Whole img.now × (total ≡ pages img.now) × ObjectsAt img.now pointer.flags pointer.page × (n < object_pages) }
     ensures { result ≡ true → FilesRight (pages img.now) (vol img.now) (32 * n) (32 * n + 32) }
 {
-    let q = root_page(img, flags, top, 0, n);
+    let q = root_page(img, pointer, 0, n);
     q == 0 || plain_page(img, total, q, n)
 }

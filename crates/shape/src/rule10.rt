@@ -15,40 +15,40 @@ ghost use Rattle.shape.specs.Objects.{ObjectsAt};
 use crate::counts::user_pages;
 use crate::tally::users_sum;
 use page::entry::{GIVEN, USED};
-use page::read::{flags_at, page_at, two_at};
+use page::read::{Pointer, pointer_at, two_at};
 use page::{OBJECTS, UNRESERVED};
 use tree::entry::{entry_two, entry_used};
 use tree::root::user_page;
 
 // Whether user u on page q is unused, or his used pages are those of his files.
-pub fn user_ok(img: &[u16], flags: u16, top: usize, ends: usize, q: usize, u: usize) -> bool
-    requires { ObjectsAt img.now flags top × Ends img.now ends × (q < pages img.now) × (u < 256) }
+pub fn user_ok(img: &[u16], pointer: Pointer, ends: usize, q: usize, u: usize) -> bool
+    requires { ObjectsAt img.now pointer.flags pointer.page × Ends img.now ends × (q < pages img.now) × (u < 256) }
     ensures { Decides result (CountRight (vol img.now) u (entry_in (vol img.now) q u)) }
 {
     if !entry_used(img, q, u) {
         return true;
     }
-    u64::from(entry_two(img, q, u, USED)) == user_pages(img, flags, top, ends, u)
+    u64::from(entry_two(img, q, u, USED)) == user_pages(img, pointer, ends, u)
 }
 
 // The same of the 32 users from `first` on, a page of them. An absent page has no used users.
-pub fn page_ok(img: &[u16], flags: u16, top: usize, ends: usize, first: usize) -> bool
-    requires { ObjectsAt img.now flags top × Ends img.now ends × Reach img.now (user_file (vol img.now)) × (first % 32 ≡ 0) × (first < 256) }
+pub fn page_ok(img: &[u16], pointer: Pointer, ends: usize, first: usize) -> bool
+    requires { ObjectsAt img.now pointer.flags pointer.page × Ends img.now ends × Reach img.now (user_file (vol img.now)) × (first % 32 ≡ 0) × (first < 256) }
     ensures { Decides result (UsersRight (vol img.now) first (first + 32)) }
 {
     let q = user_page(img, first);
     if q == 0 {
         return true;
     }
-    (first..first + 32).all(|u| user_ok(img, flags, top, ends, q, u))
+    (first..first + 32).all(|u| user_ok(img, pointer, ends, q, u))
 }
 
 // The same of all users.
-pub fn users_ok(img: &[u16], flags: u16, top: usize, ends: usize) -> bool
-    requires { ObjectsAt img.now flags top × Ends img.now ends × Reach img.now (user_file (vol img.now)) }
+pub fn users_ok(img: &[u16], pointer: Pointer, ends: usize) -> bool
+    requires { ObjectsAt img.now pointer.flags pointer.page × Ends img.now ends × Reach img.now (user_file (vol img.now)) }
     ensures { Decides result (UsersRight (vol img.now) 0 256) }
 {
-    (0..8).all(|k| page_ok(img, flags, top, ends, 32 * k))
+    (0..8).all(|k| page_ok(img, pointer, ends, 32 * k))
 }
 
 // Whether unreserved, given and system pages make up P. The system pages are those visited less the users' own, which their used counts tell.
@@ -69,7 +69,6 @@ pub fn rule10(img: &[u16], total: usize, visits: u32, ends: usize) -> bool
         × Rule6 (user (vol img.now)) (object (vol img.now)) × Rule7 (pages img.now) (vol img.now) × (visits ≡ 1 + all (pages img.now) (vol img.now) some) × Ends img.now ends }
     ensures { Decides result (Rule10 (pages img.now) (vol img.now)) }
 {
-    let flags = flags_at(img, 0, OBJECTS);
-    let top = page_at(img, 0, OBJECTS) as usize;
-    users_ok(img, flags, top, ends) && sum_ok(img, total, visits)
+    let pointer = pointer_at(img, 0, OBJECTS);
+    users_ok(img, pointer, ends) && sum_ok(img, total, visits)
 }

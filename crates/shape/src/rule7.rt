@@ -15,7 +15,7 @@ use crate::plain::plain_position;
 use bits::PAGE_BITS;
 use bits::marks::{few_marks, most_marks};
 use page::OBJECTS;
-use page::read::{flags_at, page_at};
+use page::read::{Pointer, pointer_at};
 use tree::root::root_page;
 
 // Whether the files are right whose entries are on object page q, the one at position n.
@@ -45,14 +45,13 @@ pub fn position_ok(
     total: usize,
     seen: &mut [u16],
     trees: &mut [u16],
-    flags: u16,
-    top: usize,
+    pointer: Pointer,
     n: usize,
 ) -> bool
-    requires { Testing img.now total (Recalled img.now seen.old trees.old) × ObjectsAt img.now flags top × (n < object_pages) }
+    requires { Testing img.now total (Recalled img.now seen.old trees.old) × ObjectsAt img.now pointer.flags pointer.page × (n < object_pages) }
     ensures { Tested (FilesRight (pages img.now) (vol img.now) (32 * n) (32 * n + 32)) (Recalled img.now seen.new trees.new) result }
 {
-    let q = root_page(img, flags, top, 0, n);
+    let q = root_page(img, pointer, 0, n);
     if q == 0 {
         return true;
     }
@@ -72,10 +71,9 @@ fn rest_ok(
         × (first ≤ ends) × FilesRight (pages img.now) (vol img.now) 0 (32 * first) }
     ensures { Decides result (Rule7 (pages img.now) (vol img.now)) }
 {
-    let flags = flags_at(img, 0, OBJECTS);
-    let top = page_at(img, 0, OBJECTS) as usize;
+    let pointer = pointer_at(img, 0, OBJECTS);
     for n in first..ends {
-        if !position_ok(img, total, seen, trees, flags, top, n) {
+        if !position_ok(img, total, seen, trees, pointer, n) {
             return false;
         }
     }
@@ -103,10 +101,9 @@ pub fn rule7(img: &[u16], total: usize, ends: usize) -> bool
     requires { Whole img.now × (total ≡ pages img.now) × Rule2 (pages img.now) (vol img.now) × Rule5 (pages img.now) (vol img.now) × Ends img.now ends }
     ensures { Decides result (Rule7 (pages img.now) (vol img.now)) }
 {
-    let flags = flags_at(img, 0, OBJECTS);
-    let top = page_at(img, 0, OBJECTS) as usize;
+    let pointer = pointer_at(img, 0, OBJECTS);
     for n in 0..ends {
-        if !plain_position(img, total, flags, top, n) {
+        if !plain_position(img, total, pointer, n) {
             return rest_recalled(img, total, ends, n);
         }
     }

@@ -15,8 +15,8 @@ ghost use Rattle.walk.specs.Files.{FilesFit};
 use crate::roots::mark_root;
 use page::OBJECTS;
 use page::entry::{PAGES, POINTER};
-use page::read::{flags_at, page_at};
-use tree::entry::{entry_flags, entry_page, entry_two, entry_used};
+use page::read::{Pointer, pointer_at};
+use tree::entry::{entry_pointer, entry_two, entry_used};
 use tree::root::root_page;
 
 // Marks the pages of the file in object entry e, which lies on page q; an unused entry has none.
@@ -27,10 +27,9 @@ fn mark_entry(img: &[u16], marks: &mut [u16], q: usize, e: usize, visited: u32) 
     if !entry_used(img, q, e) {
         return Some(visited);
     }
-    let flags = entry_flags(img, q, e, POINTER);
-    let top = entry_page(img, q, e, POINTER);
+    let pointer = entry_pointer(img, q, e, POINTER);
     let count = entry_two(img, q, e, PAGES) as usize;
-    mark_root(img, marks, flags, top, count, visited)
+    mark_root(img, marks, pointer, count, visited)
 }
 
 // Marks the pages of the 32 files whose entries are on page q, which is the object file's page at position n.
@@ -49,15 +48,14 @@ fn mark_entries(img: &[u16], marks: &mut [u16], q: usize, n: usize, visited: u32
 fn mark_position(
     img: &[u16],
     marks: &mut [u16],
-    flags: u16,
-    top: usize,
+    pointer: Pointer,
     n: usize,
     visited: u32,
 ) -> Option<u32>
-    requires { Walking img.now marks.old visited × FilesFit img.now × (n < object_pages) × (object_file (vol img.now) ≡ root_by flags top 0) × Reach img.now (root_by flags top 0) }
+    requires { Walking img.now marks.old visited × FilesFit img.now × (n < object_pages) × (object_file (vol img.now) ≡ root_by pointer.flags pointer.page 0) × Reach img.now (root_by pointer.flags pointer.page 0) }
     ensures { Walked (pages img.now) marks.old visited (λ g. sum 32 (λ i. weigh_r (vol img.now) (file_at (vol img.now) (32 * n + i)) g)) marks.new result }
 {
-    let q = root_page(img, flags, top, 0, n);
+    let q = root_page(img, pointer, 0, n);
     if q == 0 {
         return Some(visited);
     }
@@ -69,11 +67,10 @@ pub fn mark_files(img: &[u16], marks: &mut [u16], ends: usize, visited: u32) -> 
     requires { Walking img.now marks.old visited × Reach img.now (object_file (vol img.now)) × FilesFit img.now × Ends img.now ends }
     ensures { Walked (pages img.now) marks.old visited (λ g. sum 256 (λ u. mine (vol img.now) u g)) marks.new result }
 {
-    let flags = flags_at(img, 0, OBJECTS);
-    let top = page_at(img, 0, OBJECTS) as usize;
+    let pointer = pointer_at(img, 0, OBJECTS);
     let mut v = visited;
     for n in 0..ends {
-        v = mark_position(img, marks, flags, top, n, v)?;
+        v = mark_position(img, marks, pointer, n, v)?;
     }
     Some(v)
 }

@@ -16,7 +16,7 @@ use crate::roots::mark_tree;
 use crate::run::mark_each;
 use bits::bit_pages;
 use bits::marks::mark;
-use page::read::{flags_at, page_at};
+use page::read::{page_at, pointer_at};
 use page::{BITS, OBJECT_PAGES, OBJECTS, USERS};
 
 // The pages of the bit file.
@@ -33,9 +33,8 @@ fn mark_users(img: &[u16], marks: &mut [u16], visited: u32) -> Option<u32>
     requires { Walking img.now marks.old visited × Volume img.now }
     ensures { Walked (pages_of img.now) marks.old visited (weigh_r (vol img.now) (user_file (vol img.now))) marks.new result }
 {
-    let flags = flags_at(img, 0, USERS);
-    let top = page_at(img, 0, USERS) as usize;
-    mark_tree(img, marks, flags, top, 8, visited)
+    let pointer = pointer_at(img, 0, USERS);
+    mark_tree(img, marks, pointer, 8, visited)
 }
 
 // How many positions of the object file its blocks are looked at for: of a subindexed one all that it may have, since an index block may be there without pages.
@@ -50,14 +49,12 @@ fn mark_objects(img: &[u16], marks: &mut [u16], ends: usize, visited: u32) -> Op
     requires { Walking img.now marks.old visited × Volume img.now × Ends img.now ends }
     ensures { Walked (pages_of img.now) marks.old visited (weigh_r (vol img.now) (object_file (vol img.now))) marks.new result }
 {
-    let flags = flags_at(img, 0, OBJECTS);
-    let top = page_at(img, 0, OBJECTS) as usize;
+    let pointer = pointer_at(img, 0, OBJECTS);
     mark_tree(
         img,
         marks,
-        flags,
-        top,
-        object_positions(flags, ends),
+        pointer,
+        object_positions(pointer.flags, ends),
         visited,
     )
 }

@@ -8,4 +8,4 @@ use Rattle.heads.specs.Twins.{FilesApart}
 use Rattle.heads.proofs.objects.all_apart.Given as goal
 
 abbrev pub invariant-loop-u : goal.invariant-loop-u
-invariant-loop-u l = (length l.table ≡ 4096) × Span (FilesApart (entry (vol l.img) (root_by l.flags l.top 0))) 0 l.u
+invariant-loop-u l = (length l.table ≡ 4096) × Span (FilesApart (entry (vol l.img) (root_by l.pointer.flags l.pointer.page 0))) 0 l.u

@@ -8,4 +8,4 @@ use Rattle.heads.specs.Twins.{Fresh}
 use Rattle.heads.proofs.twins.apart.Given as goal
 
 abbrev pub invariant-loop-k : goal.invariant-loop-k
-invariant-loop-k l = Span (Fresh (entry (vol l.img) (root_by l.flags l.top 0)) l.n l.base) l.base (l.base + 32 * l.k) × Stamped (entry (vol l.img) (root_by l.flags l.top 0)) l.n l.base (l.base + 32 * l.k) l.table
+invariant-loop-k l = Span (Fresh (entry (vol l.img) (root_by l.pointer.flags l.pointer.page 0)) l.n l.base) l.base (l.base + 32 * l.k) × Stamped (entry (vol l.img) (root_by l.pointer.flags l.pointer.page 0)) l.n l.base (l.base + 32 * l.k) l.table

@@ -22,4 +22,4 @@ pub entry_end-m-requires : goal.entry_end-m-requires
 entry_end-m-requires c = (c.requires.0.there, here _ _ _ _ c.requires.0, c.requires.2.even, omega (arith, c.requires.2.most))
 
 pub returns : goal.returns
-returns c = span-all (λ x. Twins (entry (vol c.args.img.now) (root_by c.args.flags c.args.top 0)) c.args.n x c.args.y → ⊥) c.args.base c.args.y (omega arith) c.all.result c.all.ensures.ran (λ x t q k. search (rules, decides-not))
+returns c = span-all (λ x. Twins (entry (vol c.args.img.now) (root_by c.args.pointer.flags c.args.pointer.page 0)) c.args.n x c.args.y → ⊥) c.args.base c.args.y (omega arith) c.all.result c.all.ensures.ran (λ x t q k. search (rules, decides-not))

@@ -9,7 +9,7 @@ use Rattle.heads.proofs.Hashed.{stamped-page}
 use Rattle.heads.proofs.twins.page_apart.Goals as goal
 
 pub returns-then-q-eq0 : goal.returns-then-q-eq0
-returns-then-q-eq0 c = let v = vol c.args.img.now in let r = root_by c.args.flags c.args.top 0 in (
+returns-then-q-eq0 c = let v = vol c.args.img.now in let r = root_by c.args.pointer.flags c.args.pointer.page 0 in (
   page-fresh v r c.args.n c.args.base c.root_page-q.result c.args.first c.requires.3 c.root_page-q.ensures.0 (omega arith),
   λ e. stamped-page v r c.args.n c.args.base c.root_page-q.result c.args.first c.args.table.now c.requires.3 c.root_page-q.ensures.0 (omega arith) c.requires.5,
 )

@@ -7,4 +7,4 @@ use Rattle.heads.specs.Twins.{Fresh}
 use Rattle.heads.proofs.twins.page_apart.Given as goal
 
 abbrev pub invariant-loop-y : goal.invariant-loop-y
-invariant-loop-y l = Span (Fresh (entry (vol l.img) (root_by l.flags l.top 0)) l.n l.base) l.first l.y × Stamped (entry (vol l.img) (root_by l.flags l.top 0)) l.n l.base l.y l.table
+invariant-loop-y l = Span (Fresh (entry (vol l.img) (root_by l.pointer.flags l.pointer.page 0)) l.n l.base) l.first l.y × Stamped (entry (vol l.img) (root_by l.pointer.flags l.pointer.page 0)) l.n l.base l.y l.table

@@ -12,10 +12,10 @@ use Rattle.seek.proofs.find.find_file.Goals as goal
 pub find_in-requires : goal.find_in-requires
 unfolding object_file
 find_in-requires c = let v = vol c.args.img.now in
-    (reach-same _ _ _ (root-read (v 0) object_pointer 0 c.flags_at-flags.result c.page_at-top.result 0 c.flags_at-flags.ensures.0 c.page_at-top.ensures.0 refl) (ready-objects _ c.requires.0), omega arith)
+    (reach-same _ _ _ (root-read (v 0) object_pointer 0 c.pointer_at-pointer.result.flags c.pointer_at-pointer.result.page 0 c.pointer_at-pointer.ensures.flags.0 c.pointer_at-pointer.ensures.page.0 refl) (ready-objects _ c.requires.0), omega arith)
 
 pub returns : goal.returns
 unfolding object_file
 returns c =
     let v = vol c.args.img.now in
-    files-found v _ c.args.user c.args.name.now c.args.kind.now c.find_in.result (root-read (v 0) object_pointer 0 c.flags_at-flags.result c.page_at-top.result 0 c.flags_at-flags.ensures.0 c.page_at-top.ensures.0 refl) c.find_in.ensures
+    files-found v _ c.args.user c.args.name.now c.args.kind.now c.find_in.result (root-read (v 0) object_pointer 0 c.pointer_at-pointer.result.flags c.pointer_at-pointer.result.page 0 c.pointer_at-pointer.ensures.flags.0 c.pointer_at-pointer.ensures.page.0 refl) c.find_in.ensures

@@ -7,4 +7,4 @@ use Rattle.seek.specs.Search.{Fits}
 use Rattle.seek.proofs.find.find_in.Given as goal
 
 abbrev pub invariant-loop-i : goal.invariant-loop-i
-invariant-loop-i l = (n : ℕ) → n < 32 * l.i → Fits l.name (option_copied l.kind) (entry (vol l.img) (root_by l.flags l.top 0) (32 * l.b + n)) → ⊥
+invariant-loop-i l = (n : ℕ) → n < 32 * l.i → Fits l.name (option_copied l.kind) (entry (vol l.img) (root_by l.pointer.flags l.pointer.page 0) (32 * l.b + n)) → ⊥

@@ -12,10 +12,10 @@ use Rattle.seek.proofs.find.find_user.Goals as goal
 pub find_in-requires : goal.find_in-requires
 unfolding user_file
 find_in-requires c = let v = vol c.args.img.now in
-    (reach-same _ _ _ (root-read (v 0) user_pointer 0 c.flags_at-flags.result c.page_at-top.result 0 c.flags_at-flags.ensures.0 c.page_at-top.ensures.0 refl) (ready-users _ c.requires), omega arith)
+    (reach-same _ _ _ (root-read (v 0) user_pointer 0 c.pointer_at-pointer.result.flags c.pointer_at-pointer.result.page 0 c.pointer_at-pointer.ensures.flags.0 c.pointer_at-pointer.ensures.page.0 refl) (ready-users _ c.requires), omega arith)
 
 pub returns : goal.returns
 unfolding user_file
 returns c =
     let v = vol c.args.img.now in
-    users-found v _ c.args.name.now c.find_in.result (root-read (v 0) user_pointer 0 c.flags_at-flags.result c.page_at-top.result 0 c.flags_at-flags.ensures.0 c.page_at-top.ensures.0 refl) c.find_in.ensures
+    users-found v _ c.args.name.now c.find_in.result (root-read (v 0) user_pointer 0 c.pointer_at-pointer.result.flags c.pointer_at-pointer.result.page 0 c.pointer_at-pointer.ensures.flags.0 c.pointer_at-pointer.ensures.page.0 refl) c.find_in.ensures

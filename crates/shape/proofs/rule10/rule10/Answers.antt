@@ -10,7 +10,7 @@ use Rattle.shape.proofs.Users.{reach-users, decides-10, wrong-10}
 use Rattle.shape.proofs.rule10.rule10.Goals as goal
 
 pub users_ok-requires : goal.users_ok-requires
-users_ok-requires c = (objects-at c.args.img.now _ _ c.requires.0 c.requires.2 c.requires.4 c.flags_at-flags.ensures.0 c.page_at-top.ensures.0, c.requires.8, reach-users c.args.img.now c.requires.0 c.requires.2 c.requires.3)
+users_ok-requires c = (objects-at c.args.img.now _ _ c.requires.0 c.requires.2 c.requires.4 c.pointer_at-pointer.ensures.flags.0 c.pointer_at-pointer.ensures.page.0, c.requires.8, reach-users c.args.img.now c.requires.0 c.requires.2 c.requires.3)
 
 pub sum_ok-requires : goal.sum_ok-requires
 sum_ok-requires c = (c.requires.0, c.requires.1, reach-users c.args.img.now c.requires.0 c.requires.2 c.requires.3, c.requires.7, c.requires.5, c.requires.6, told c.users_ok.result _ c.users_ok.ensures c.if-users_ok.true)

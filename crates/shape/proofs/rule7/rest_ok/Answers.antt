@@ -10,7 +10,7 @@ use Rattle.shape.proofs.rule7.rest_ok.Goals as goal
 pub position_ok-requires : goal.position_ok-requires
 position_ok-requires c = (
   record { whole = c.requires.0.whole; count = c.requires.0.count; memory = c.loop-n.invariant.0 },
-  objects-at c.args.img.now _ _ c.requires.0.whole c.requires.1 c.requires.2 c.flags_at-flags.ensures.0 c.page_at-top.ensures.0,
+  objects-at c.args.img.now _ _ c.requires.0.whole c.requires.1 c.requires.2 c.pointer_at-pointer.ensures.flags.0 c.pointer_at-pointer.ensures.page.0,
   omega (arith, c.requires.3.most),
 )
 

@@ -6,7 +6,7 @@ pub plain_position-requires : goal.plain_position-requires
 plain_position-requires c = (
   c.requires.0,
   c.requires.1,
-  objects-at c.args.img.now _ _ c.requires.0 c.requires.2 c.requires.3 c.flags_at-flags.ensures.0 c.page_at-top.ensures.0,
+  objects-at c.args.img.now _ _ c.requires.0 c.requires.2 c.requires.3 c.pointer_at-pointer.ensures.flags.0 c.pointer_at-pointer.ensures.page.0,
   omega (arith, c.requires.4.most),
 )
 

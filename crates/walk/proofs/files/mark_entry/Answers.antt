@@ -16,11 +16,11 @@ pub mark_root-requires : goal.mark_root-requires
 mark_root-requires c = let v = vol c.args.img.now in let P = pages c.args.img.now in
     let u : 0 < used (entry_in v c.args.q c.args.e) = search rules in (
       c.requires.0,
-      below-same v P _ _ (read-file v c.args.e c.args.q c.requires.3 u c.entry_flags-flags.result c.entry_page-top.result c.entry_two-count.result c.entry_flags-flags.ensures.0 c.entry_page-top.ensures.0 c.entry_two-count.ensures.0) (c.requires.1.below c.args.e c.requires.2),
-      read_short v c.args.e c.args.q c.requires.3 u c.entry_flags-flags.result c.entry_page-top.result c.entry_two-count.result c.entry_flags-flags.ensures.0 c.entry_page-top.ensures.0 c.entry_two-count.ensures.0 (c.requires.1.short c.args.e c.requires.2),
+      below-same v P _ _ (read-file v c.args.e c.args.q c.requires.3 u c.entry_pointer-pointer.result.flags c.entry_pointer-pointer.result.page c.entry_two-count.result c.entry_pointer-pointer.ensures.flags.0 c.entry_pointer-pointer.ensures.page.0 c.entry_two-count.ensures.0) (c.requires.1.below c.args.e c.requires.2),
+      read_short v c.args.e c.args.q c.requires.3 u c.entry_pointer-pointer.result.flags c.entry_pointer-pointer.result.page c.entry_two-count.result c.entry_pointer-pointer.ensures.flags.0 c.entry_pointer-pointer.ensures.page.0 c.entry_two-count.ensures.0 (c.requires.1.short c.args.e c.requires.2),
     )
 
 pub returns : goal.returns
 returns c = let v = vol c.args.img.now in let P = pages c.args.img.now in
     let u : 0 < used (entry_in v c.args.q c.args.e) = search rules in
-    walked-root P c.args.marks.now c.args.visited v _ _ (read-file v c.args.e c.args.q c.requires.3 u c.entry_flags-flags.result c.entry_page-top.result c.entry_two-count.result c.entry_flags-flags.ensures.0 c.entry_page-top.ensures.0 c.entry_two-count.ensures.0) c.mark_root.new.marks c.mark_root.result c.mark_root.ensures
+    walked-root P c.args.marks.now c.args.visited v _ _ (read-file v c.args.e c.args.q c.requires.3 u c.entry_pointer-pointer.result.flags c.entry_pointer-pointer.result.page c.entry_two-count.result c.entry_pointer-pointer.ensures.flags.0 c.entry_pointer-pointer.ensures.page.0 c.entry_two-count.ensures.0) c.mark_root.new.marks c.mark_root.result c.mark_root.ensures

@@ -16,8 +16,8 @@ mark_position-requires c = (
   positions-walking c.args.img.now c.requires.2 c.loop-n.n (omega (arith, c.requires.3.most)) _ _ _ _ c.requires.0 c.loop-n.invariant,
   c.requires.2,
   omega (arith, c.requires.3.most),
-  object-root (vol c.args.img.now) c.flags_at-flags.result c.page_at-top.result c.flags_at-flags.ensures.0 c.page_at-top.ensures.0,
-  reach-same _ _ _ (object-root (vol c.args.img.now) c.flags_at-flags.result c.page_at-top.result c.flags_at-flags.ensures.0 c.page_at-top.ensures.0) c.requires.1,
+  object-root (vol c.args.img.now) c.pointer_at-pointer.result.flags c.pointer_at-pointer.result.page c.pointer_at-pointer.ensures.flags.0 c.pointer_at-pointer.ensures.page.0,
+  reach-same _ _ _ (object-root (vol c.args.img.now) c.pointer_at-pointer.result.flags c.pointer_at-pointer.result.page c.pointer_at-pointer.ensures.flags.0 c.pointer_at-pointer.ensures.page.0) c.requires.1,
 )
 
 pub returns-in_err-v : goal.returns-in_err-v
