@@ -14,30 +14,30 @@ use crate::entry::place_of;
 use crate::master::master_place;
 use book::Place;
 use page::entry::USED;
-use page::read::{flags_at, page_at};
+use page::read::{Pointer, pointer_at};
 use page::{OBJECTS, UNRESERVED};
 use shape::rule10::{sum_ok, user_ok};
 use tree::root::user_page;
 
 // The place of user u's used count, if he is used and it is not the pages of his files.
-fn used_count(img: &[u16], flags: u16, top: usize, ends: usize, u: usize) -> Option<Place>
-    requires { Counting img.now flags top ends × (u < 256) }
+fn used_count(img: &[u16], pointer: Pointer, ends: usize, u: usize) -> Option<Place>
+    requires { Counting img.now pointer.flags pointer.page ends × (u < 256) }
     ensures { Finds (count_row (vol img.now) u) result }
 {
     let q = user_page(img, u);
-    if !user_ok(img, flags, top, ends, q, u) {
+    if !user_ok(img, pointer, ends, q, u) {
         return Some(place_of(q, u, USED));
     }
     None
 }
 
 // The first such place.
-fn used_counts(img: &[u16], flags: u16, top: usize, ends: usize) -> Option<Place>
-    requires { Counting img.now flags top ends }
+fn used_counts(img: &[u16], pointer: Pointer, ends: usize) -> Option<Place>
+    requires { Counting img.now pointer.flags pointer.page ends }
     ensures { Finds (each 256 (count_row (vol img.now))) result }
 {
     for u in 0..256 {
-        if let Some(place) = used_count(img, flags, top, ends, u) {
+        if let Some(place) = used_count(img, pointer, ends, u) {
             return Some(place);
         }
     }
@@ -50,9 +50,8 @@ pub fn first10(img: &[u16], total: usize, visits: u32, ends: usize) -> Option<Pl
         × Rule6 (user (vol img.now)) (object (vol img.now)) × Rule7 (pages img.now) (vol img.now) × (visits ≡ 1 + all (pages img.now) (vol img.now) some) × Ends img.now ends }
     ensures { Finds (spots10 (pages img.now) (vol img.now)) result }
 {
-    let flags = flags_at(img, 0, OBJECTS);
-    let top = page_at(img, 0, OBJECTS) as usize;
-    if let Some(place) = used_counts(img, flags, top, ends) {
+    let pointer = pointer_at(img, 0, OBJECTS);
+    if let Some(place) = used_counts(img, pointer, ends) {
         return Some(place);
     }
     if !sum_ok(img, total, visits) {

@@ -14,9 +14,9 @@ use crate::block::block;
 use crate::entry::place_of;
 use book::Place;
 use page::entry::{BYTES, PAGES, POINTER};
-use page::read::slot_at;
+use page::read::{Pointer, slot_at};
 use shape::file::{bytes_ok, run_ok};
-use tree::entry::{entry_flags, entry_page, entry_two};
+use tree::entry::{entry_pointer, entry_two};
 
 // Whether page t is a block of a file of n pages, of which there are from..to.
 fn block_ok(total: usize, t: usize, n: usize, from: usize, to: usize) -> bool
@@ -26,18 +26,18 @@ fn block_ok(total: usize, t: usize, n: usize, from: usize, to: usize) -> bool
 }
 
 // Whether a pointer with these flags to page t fits a page count.
-fn pointer_ok(total: usize, flags: u16, t: usize, n: usize) -> bool
-    requires { (t < 4294967296) × (n < 4294967296) }
-    ensures { Decides result (PointerRight total flags t n) }
+fn pointer_ok(total: usize, pointer: Pointer, n: usize) -> bool
+    requires { (pointer.page < 4294967296) × (n < 4294967296) }
+    ensures { Decides result (PointerRight total pointer.flags pointer.page n) }
 {
-    if flags == 0 {
-        return run_ok(total, t, n);
+    if pointer.flags == 0 {
+        return run_ok(total, pointer.page, n);
     }
-    if flags == 1 {
-        return block_ok(total, t, n, 1, 512);
+    if pointer.flags == 1 {
+        return block_ok(total, pointer.page, n, 1, 512);
     }
-    if flags == 2 {
-        return block_ok(total, t, n, 513, 262144);
+    if pointer.flags == 2 {
+        return block_ok(total, pointer.page, n, 513, 262144);
     }
     false
 }
@@ -70,15 +70,15 @@ fn subindex(img: &[u16], total: usize, t: usize, n: usize) -> Option<Place>
 }
 
 // The first place of the blocks of a file whose pointer is right.
-fn blocks(img: &[u16], total: usize, flags: u16, t: usize, n: usize) -> Option<Place>
-    requires { PointerRight (pages img.now) flags t n × (total ≡ pages img.now) × (total ≤ most_pages) }
-    ensures { Finds (block_spots (pages img.now) (vol img.now) flags t n) result }
+fn blocks(img: &[u16], total: usize, pointer: Pointer, n: usize) -> Option<Place>
+    requires { PointerRight (pages img.now) pointer.flags pointer.page n × (total ≡ pages img.now) × (total ≤ most_pages) }
+    ensures { Finds (block_spots (pages img.now) (vol img.now) pointer.flags pointer.page n) result }
 {
-    if flags == 1 {
-        return block(img, total, 1, n, t);
+    if pointer.flags == 1 {
+        return block(img, total, 1, n, pointer.page);
     }
-    if flags == 2 {
-        return subindex(img, total, t, n);
+    if pointer.flags == 2 {
+        return subindex(img, total, pointer.page, n);
     }
     None
 }
@@ -92,11 +92,10 @@ pub fn file(img: &[u16], total: usize, q: usize, e: usize) -> Option<Place>
     if !bytes_ok(n, entry_two(img, q, e, BYTES)) {
         return Some(place_of(q, e, BYTES));
     }
-    let flags = entry_flags(img, q, e, POINTER);
-    let t = entry_page(img, q, e, POINTER);
+    let pointer = entry_pointer(img, q, e, POINTER);
     let count = n as usize;
-    if !pointer_ok(total, flags, t, count) {
+    if !pointer_ok(total, pointer, count) {
         return Some(place_of(q, e, POINTER));
     }
-    blocks(img, total, flags, t, count)
+    blocks(img, total, pointer, count)
 }

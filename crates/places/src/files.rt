@@ -13,7 +13,7 @@ use crate::file::file;
 use bits::marks::most_marks;
 use book::Place;
 use page::OBJECTS;
-use page::read::{flags_at, page_at};
+use page::read::pointer_at;
 use shape::file::entry_ok;
 use shape::rule7::position_ok;
 use tree::root::root_page;
@@ -39,13 +39,12 @@ pub fn first7(img: &[u16], total: usize, ends: usize) -> Option<Place>
     requires { Whole img.now × (total ≡ pages img.now) × Rule2 (pages img.now) (vol img.now) × Rule5 (pages img.now) (vol img.now) × Ends img.now ends }
     ensures { Finds (spots7 (pages img.now) (vol img.now)) result }
 {
-    let flags = flags_at(img, 0, OBJECTS);
-    let top = page_at(img, 0, OBJECTS) as usize;
+    let pointer = pointer_at(img, 0, OBJECTS);
     let mut seen = most_marks();
     let mut trees = most_marks();
     for n in 0..ends {
-        if !position_ok(img, total, &mut seen, &mut trees, flags, top, n) {
-            let q = root_page(img, flags, top, 0, n);
+        if !position_ok(img, total, &mut seen, &mut trees, pointer, n) {
+            let q = root_page(img, pointer, 0, n);
             return page_files(img, total, q, n);
         }
     }

@@ -17,9 +17,9 @@ use bits::bit_pages;
 use bits::marks::{mark, most_marks};
 use book::Place;
 use page::entry::{PAGES, POINTER};
-use page::read::{flags_at, page_at};
+use page::read::{page_at, pointer_at};
 use page::{BITS, OBJECTS, USERS};
-use tree::entry::{entry_flags, entry_page, entry_two, entry_used};
+use tree::entry::{entry_pointer, entry_two, entry_used};
 use tree::root::object_page;
 
 // No block was opened.
@@ -45,10 +45,9 @@ fn meet_file(
     if !entry_used(img, q, e) {
         return lowest;
     }
-    let flags = entry_flags(img, q, e, POINTER);
-    let top = entry_page(img, q, e, POINTER);
+    let pointer = entry_pointer(img, q, e, POINTER);
     let count = entry_two(img, q, e, PAGES) as usize;
-    meet_root(img, marks, ones, twos, lowest, flags, top, count)
+    meet_root(img, marks, ones, twos, lowest, pointer, count)
 }
 
 // Meets the pages of the files in object entries 0 to end - 1.
@@ -84,12 +83,10 @@ fn meet_system(
 {
     let start = page_at(img, 0, BITS) as usize;
     let low = meet_run(marks, lowest, start, bit_pages(total));
-    let x = flags_at(img, 0, USERS);
-    let t = page_at(img, 0, USERS) as usize;
-    let next = meet_root(img, marks, ones, twos, low, x, t, 0);
-    let y = flags_at(img, 0, OBJECTS);
-    let z = page_at(img, 0, OBJECTS) as usize;
-    meet_root(img, marks, ones, twos, next, y, z, 0)
+    let users = pointer_at(img, 0, USERS);
+    let next = meet_root(img, marks, ones, twos, low, users, 0);
+    let objects = pointer_at(img, 0, OBJECTS);
+    meet_root(img, marks, ones, twos, next, objects, 0)
 }
 
 // Meets every page that is held but the master page. The object file ends at position `ends`.

@@ -15,7 +15,7 @@ use crate::block::block;
 use crate::master::master_place;
 use book::Place;
 use heads::objects::low_users;
-use page::read::{flags_at, page_at, slot_at};
+use page::read::{pointer_at, slot_at};
 use page::{INDEXED, OBJECTS, SUBINDEXED};
 
 // The first place of an indexed object file: the master page's pointer where a user above 63 is used, else in index block t.
@@ -59,13 +59,12 @@ pub fn first5(img: &[u16], total: usize) -> Option<Place>
     requires { Whole img.now × (total ≡ pages img.now) × Rule2 (pages img.now) (vol img.now) × Rule3 (pages img.now) (vol img.now) }
     ensures { Finds (spots5 (pages img.now) (vol img.now)) result }
 {
-    let flags = flags_at(img, 0, OBJECTS);
-    let t = page_at(img, 0, OBJECTS) as usize;
-    if flags == INDEXED {
-        return index_block(img, total, t);
+    let pointer = pointer_at(img, 0, OBJECTS);
+    if pointer.flags == INDEXED {
+        return index_block(img, total, pointer.page);
     }
-    if flags == SUBINDEXED {
-        return subindex_block(img, total, t);
+    if pointer.flags == SUBINDEXED {
+        return subindex_block(img, total, pointer.page);
     }
     None
 }

@@ -9,7 +9,7 @@ ghost use Rattle.laws.specs.Tree.Weigh.{BelowR};
 ghost use Rattle.places.specs.Low.{under, opened_size, Opening, Room, Meets, Meets₁, Meets₂, Index, Subindex};
 
 use bits::marks::mark;
-use page::read::slot_at;
+use page::read::{Pointer, slot_at};
 use page::{INDEXED, SUBINDEXED};
 
 // Meets page q; 0 is none. The lowest page met twice so far is given and comes back.
@@ -133,21 +133,20 @@ pub(crate) fn meet_root(
     ones: &mut [u16; 17592],
     twos: &mut [u16; 17592],
     lowest: usize,
-    flags: u16,
-    top: usize,
+    pointer: Pointer,
     count: usize,
 ) -> usize
-    requires { Room marks.old lowest × Index img.now ones.old × Subindex twos.old × BelowR (vol img.now) (pages img.now) (root_by flags top count) }
-    ensures { Meets₂ (pages img.now) (vol img.now) marks.old ones.old twos.old lowest (λ p. weigh_r (vol img.now) (root_by flags top count) (hit p)) marks.new ones.new twos.new result }
+    requires { Room marks.old lowest × Index img.now ones.old × Subindex twos.old × BelowR (vol img.now) (pages img.now) (root_by pointer.flags pointer.page count) }
+    ensures { Meets₂ (pages img.now) (vol img.now) marks.old ones.old twos.old lowest (λ p. weigh_r (vol img.now) (root_by pointer.flags pointer.page count) (hit p)) marks.new ones.new twos.new result }
 {
-    if flags == 0 {
-        return meet_run(marks, lowest, top, count);
+    if pointer.flags == 0 {
+        return meet_run(marks, lowest, pointer.page, count);
     }
-    if flags == INDEXED {
-        return meet_index(img, marks, ones, lowest, top);
+    if pointer.flags == INDEXED {
+        return meet_index(img, marks, ones, lowest, pointer.page);
     }
-    if flags == SUBINDEXED {
-        return meet_subindex(img, marks, ones, twos, lowest, top);
+    if pointer.flags == SUBINDEXED {
+        return meet_subindex(img, marks, ones, twos, lowest, pointer.page);
     }
     lowest
 }

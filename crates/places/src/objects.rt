@@ -23,13 +23,13 @@ use heads::stored::entry_legal;
 use heads::twins::apart;
 use page::OBJECTS;
 use page::entry::{NAME, NUMBER, OWNER, TYPE};
-use page::read::{flags_at, page_at};
+use page::read::{Pointer, pointer_at};
 use tree::entry::{entry_used, entry_word};
 use tree::root::{root_page, user_page};
 
 // The first of the places of file f of user u, which is used and lies on page q.
-fn used_object(img: &[u16], flags: u16, top: usize, q: usize, u: usize, f: usize) -> Option<Place>
-    requires { UsedObject img.now flags top q u f }
+fn used_object(img: &[u16], pointer: Pointer, q: usize, u: usize, f: usize) -> Option<Place>
+    requires { UsedObject img.now pointer.flags pointer.page q u f }
     ensures { Finds (object_spots (vol img.now) u f (file_entry u f)) result }
 {
     let e = 256 * u + f;
@@ -37,7 +37,7 @@ fn used_object(img: &[u16], flags: u16, top: usize, q: usize, u: usize, f: usize
     if !entry_used(img, p, u) {
         return Some(place_of(q, e, 0));
     }
-    if !name_ok(img, flags, top, 4, 256 * u, q, e) {
+    if !name_ok(img, pointer, 4, 256 * u, q, e) {
         return Some(place_of(q, e, NAME));
     }
     if !entry_legal(img, q, e, TYPE, 0, 4) {
@@ -53,25 +53,25 @@ fn used_object(img: &[u16], flags: u16, top: usize, q: usize, u: usize, f: usize
 }
 
 // The same of any file: an unused one has no places.
-fn any_object(img: &[u16], flags: u16, top: usize, u: usize, f: usize) -> Option<Place>
-    requires { Objects img.now flags top × (u < 256) × (f < 256) }
+fn any_object(img: &[u16], pointer: Pointer, u: usize, f: usize) -> Option<Place>
+    requires { Objects img.now pointer.flags pointer.page × (u < 256) × (f < 256) }
     ensures { Finds (object_row (vol img.now) u f) result }
 {
     let e = 256 * u + f;
-    let q = root_page(img, flags, top, 0, e / 32);
+    let q = root_page(img, pointer, 0, e / 32);
     if !entry_used(img, q, e) {
         return None;
     }
-    used_object(img, flags, top, q, u, f)
+    used_object(img, pointer, q, u, f)
 }
 
 // The first of the places of the 256 files of user u.
-fn all_objects(img: &[u16], flags: u16, top: usize, u: usize) -> Option<Place>
-    requires { Objects img.now flags top × (u < 256) }
+fn all_objects(img: &[u16], pointer: Pointer, u: usize) -> Option<Place>
+    requires { Objects img.now pointer.flags pointer.page × (u < 256) }
     ensures { Finds (each 256 (object_row (vol img.now) u)) result }
 {
     for f in 0..256 {
-        if let Some(place) = any_object(img, flags, top, u, f) {
+        if let Some(place) = any_object(img, pointer, u, f) {
             return Some(place);
         }
     }
@@ -79,12 +79,12 @@ fn all_objects(img: &[u16], flags: u16, top: usize, u: usize) -> Option<Place>
 }
 
 // Whether each of the 256 objects from `base` on is unused or right, but for names that are the same.
-fn each_right(img: &[u16], flags: u16, top: usize, base: usize) -> bool
-    requires { Objects img.now flags top × (base % 32 ≡ 0) × (base + 256 ≤ 65536) }
-    ensures { Decides result (Span (FileFine (user (vol img.now)) (entry (vol img.now) (root_by flags top 0))) base (base + 256)) }
+fn each_right(img: &[u16], pointer: Pointer, base: usize) -> bool
+    requires { Objects img.now pointer.flags pointer.page × (base % 32 ≡ 0) × (base + 256 ≤ 65536) }
+    ensures { Decides result (Span (FileFine (user (vol img.now)) (entry (vol img.now) (root_by pointer.flags pointer.page 0))) base (base + 256)) }
 {
     for i in 0..8 {
-        if !page_ok(img, flags, top, base + 32 * i) {
+        if !page_ok(img, pointer, base + 32 * i) {
             return false;
         }
     }
@@ -92,25 +92,25 @@ fn each_right(img: &[u16], flags: u16, top: usize, base: usize) -> bool
 }
 
 // Whether the objects of user u break nothing.
-fn all_right(img: &[u16], flags: u16, top: usize, u: usize) -> bool
-    requires { Objects img.now flags top × (u < 256) }
-    ensures { Decides result (Span (FileFine (user (vol img.now)) (entry (vol img.now) (root_by flags top 0))) (256 * u) (256 * u + 256) × FilesApart (entry (vol img.now) (root_by flags top 0)) u) }
+fn all_right(img: &[u16], pointer: Pointer, u: usize) -> bool
+    requires { Objects img.now pointer.flags pointer.page × (u < 256) }
+    ensures { Decides result (Span (FileFine (user (vol img.now)) (entry (vol img.now) (root_by pointer.flags pointer.page 0))) (256 * u) (256 * u + 256) × FilesApart (entry (vol img.now) (root_by pointer.flags pointer.page 0)) u) }
 {
     let base = 256 * u;
-    if !each_right(img, flags, top, base) {
+    if !each_right(img, pointer, base) {
         return false;
     }
     let mut table = room();
-    apart(img, &mut table, flags, top, 4, base)
+    apart(img, &mut table, pointer, 4, base)
 }
 
 // The first of the places of the files of user u, where the judge's tests are asked first.
-fn user_objects(img: &[u16], flags: u16, top: usize, u: usize) -> Option<Place>
-    requires { Objects img.now flags top × (u < 256) }
+fn user_objects(img: &[u16], pointer: Pointer, u: usize) -> Option<Place>
+    requires { Objects img.now pointer.flags pointer.page × (u < 256) }
     ensures { Finds (each 256 (object_row (vol img.now) u)) result }
 {
-    if !all_right(img, flags, top, u) {
-        return all_objects(img, flags, top, u);
+    if !all_right(img, pointer, u) {
+        return all_objects(img, pointer, u);
     }
     None
 }
@@ -120,10 +120,9 @@ pub fn first6(img: &[u16]) -> Option<Place>
     requires { Whole img.now × Rule2 (pages img.now) (vol img.now) × Rule3 (pages img.now) (vol img.now) × Rule5 (pages img.now) (vol img.now) }
     ensures { Finds (spots6 (vol img.now)) result }
 {
-    let flags = flags_at(img, 0, OBJECTS);
-    let top = page_at(img, 0, OBJECTS) as usize;
+    let pointer = pointer_at(img, 0, OBJECTS);
     for u in 0..256 {
-        if let Some(place) = user_objects(img, flags, top, u) {
+        if let Some(place) = user_objects(img, pointer, u) {
             return Some(place);
         }
     }

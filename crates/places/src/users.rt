@@ -16,7 +16,7 @@ use book::Place;
 use heads::users::within;
 use page::USERS;
 use page::entry::{INDEX, NAME, USED};
-use page::read::{flags_at, page_at};
+use page::read::{Pointer, pointer_at};
 use tree::entry::{entry_used, entry_word};
 use tree::root::root_page;
 
@@ -29,11 +29,11 @@ fn own(img: &[u16], q: usize, u: usize) -> bool
 }
 
 // The first of the places of user u that are asked, who is used and lies on page q of the file with these flags and top page.
-fn used_user(img: &[u16], ten: bool, flags: u16, top: usize, q: usize, u: usize) -> Option<Place>
-    requires { UserAt img.now flags top q u }
+fn used_user(img: &[u16], ten: bool, pointer: Pointer, q: usize, u: usize) -> Option<Place>
+    requires { UserAt img.now pointer.flags pointer.page q u }
     ensures { Finds (user_spots ten (vol img.now) u) result }
 {
-    if !name_ok(img, flags, top, 0, 0, q, u) {
+    if !name_ok(img, pointer, 0, 0, q, u) {
         return Some(place_of(q, u, NAME));
     }
     if !within(img, ten, q, u) {
@@ -46,15 +46,15 @@ fn used_user(img: &[u16], ten: bool, flags: u16, top: usize, q: usize, u: usize)
 }
 
 // The same of any user: an unused one has no places.
-fn any_user(img: &[u16], ten: bool, flags: u16, top: usize, u: usize) -> Option<Place>
-    requires { Users img.now flags top × (u < 256) }
+fn any_user(img: &[u16], ten: bool, pointer: Pointer, u: usize) -> Option<Place>
+    requires { Users img.now pointer.flags pointer.page × (u < 256) }
     ensures { Finds (when (used (user (vol img.now) u)) (user_spots ten (vol img.now) u)) result }
 {
-    let q = root_page(img, flags, top, 0, u / 32);
+    let q = root_page(img, pointer, 0, u / 32);
     if !entry_used(img, q, u) {
         return None;
     }
-    used_user(img, ten, flags, top, q, u)
+    used_user(img, ten, pointer, q, u)
 }
 
 // The first place that breaks rule 4, by what is asked.
@@ -62,10 +62,9 @@ pub fn first4(img: &[u16], ten: bool) -> Option<Place>
     requires { Whole img.now × Rule2 (pages img.now) (vol img.now) × Rule3 (pages img.now) (vol img.now) }
     ensures { Finds (spots4 ten (vol img.now)) result }
 {
-    let flags = flags_at(img, 0, USERS);
-    let top = page_at(img, 0, USERS) as usize;
+    let pointer = pointer_at(img, 0, USERS);
     for u in 0..256 {
-        if let Some(place) = any_user(img, ten, flags, top, u) {
+        if let Some(place) = any_user(img, ten, pointer, u) {
             return Some(place);
         }
     }

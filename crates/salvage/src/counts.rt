@@ -14,7 +14,7 @@ ghost use Rattle.salvage.specs.Facts.{PastThree, Tallied, Balanced};
 use book::Refusal;
 use page::OBJECTS;
 use page::entry::GIVEN;
-use page::read::{flags_at, page_at};
+use page::read::{Pointer, pointer_at};
 use shape::counts::user_pages;
 use shape::tally::{count_of, users_sum};
 use tree::root::user_page;
@@ -37,12 +37,12 @@ fn given_to(img: &[u16], u: usize) -> u64
 
 // The pages of the files of each user, up to one that holds more than he was given. The object pointer has these flags and this page, and the
 // object file ends at `ends`.
-fn count_all(img: &[u16], flags: u16, top: usize, ends: usize, counts: &mut [u32; 256]) -> bool
-    requires { ObjectsAt img.now flags top × Ends img.now ends × Reach img.now (user_file (vol img.now)) × (length counts.old ≡ 256) }
+fn count_all(img: &[u16], pointer: Pointer, ends: usize, counts: &mut [u32; 256]) -> bool
+    requires { ObjectsAt img.now pointer.flags pointer.page × Ends img.now ends × Reach img.now (user_file (vol img.now)) × (length counts.old ≡ 256) }
     ensures { Tallied (vol img.now) counts.new result }
 {
     for u in 0..256 {
-        let n = user_pages(img, flags, top, ends, u);
+        let n = user_pages(img, pointer, ends, u);
         if given_to(img, u) < n {
             return false;
         }
@@ -75,9 +75,8 @@ pub(crate) fn balance(
     requires { PastThree img.now × (total ≡ pages img.now) × (visits ≡ 1 + all (pages img.now) (vol img.now) some) × Ends img.now ends × (length counts.old ≡ 256) }
     ensures { Balanced (pages img.now) (vol img.now) counts.new result }
 {
-    let flags = flags_at(img, 0, OBJECTS);
-    let top = page_at(img, 0, OBJECTS) as usize;
-    if !count_all(img, flags, top, ends, counts) {
+    let pointer = pointer_at(img, 0, OBJECTS);
+    if !count_all(img, pointer, ends, counts) {
         return Err(Refusal::Overdrawn);
     }
     let have = total as u64 + sum_counts(counts);

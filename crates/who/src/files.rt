@@ -16,7 +16,7 @@ use crate::POSITIONS;
 use crate::roots::{class_from, run_from};
 use page::OBJECTS;
 use page::entry::{PAGES, POINTER};
-use page::read::{flags_at, page_at};
+use page::read::{Pointer, pointer_at};
 use tree::entry::{entry_flags, entry_page, entry_two, entry_used};
 use tree::root::root_page;
 
@@ -53,7 +53,16 @@ fn entry_from(
     if flags == 0 {
         return run_from(top, count, n, p);
     }
-    class_from(img, seen, tops, class, flags, top, count, n, p)
+    class_from(
+        img,
+        seen,
+        tops,
+        class,
+        Pointer { flags, page: top },
+        count,
+        n,
+        p,
+    )
 }
 
 // The turns of the 32 files on a page of the object file.
@@ -99,11 +108,10 @@ pub fn files_from(
     requires { Search img.now p seen.old tops.old × Volume img.now × Ends img.now ends × (class < 3) × (x ≤ turns) }
     ensures { Least (λ (y : ℕ). file_page (vol img.now) class y ≡ p) x turns result × Search img.now p seen.new tops.new }
 {
-    let flags = flags_at(img, 0, OBJECTS);
-    let top = page_at(img, 0, OBJECTS) as usize;
+    let pointer = pointer_at(img, 0, OBJECTS);
     let mut from = x;
     for i in x / PAGE_TURNS..ends {
-        let q = root_page(img, flags, top, 0, i);
+        let q = root_page(img, pointer, 0, i);
         if let Some(y) = page_from(img, seen, tops, class, q, i, from, p) {
             return Some(y);
         }

@@ -18,7 +18,7 @@ use crate::roots::{class_from, run_from};
 use crate::{POSITIONS, TURNS};
 use bits::marks::{few_marks, most_marks};
 use bits::{PAGE_BITS, bit_pages};
-use page::read::{flags_at, page_at};
+use page::read::{Pointer, flags_at, page_at};
 use page::{BITS, OBJECT_PAGES, OBJECTS, USERS, WORDS};
 
 // From position n on in the bit file.
@@ -50,7 +50,16 @@ fn master_from(
         return None;
     }
     let top = page_at(img, 0, k) as usize;
-    class_from(img, seen, tops, class, flags, top, count, n, p)
+    class_from(
+        img,
+        seen,
+        tops,
+        class,
+        Pointer { flags, page: top },
+        count,
+        n,
+        p,
+    )
 }
 
 // The user file's index block, which is at position 0.

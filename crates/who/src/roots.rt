@@ -9,6 +9,7 @@ ghost use Rattle.who.specs.Turns.{positions, class_page};
 ghost use Rattle.who.specs.Search.{Search};
 
 use crate::blocks::{level_from, tree_from};
+use page::read::Pointer;
 
 // Where page top alone is, at position 0.
 pub fn top_from(top: usize, n: usize, p: usize) -> Option<usize>
@@ -34,12 +35,12 @@ pub fn run_from(top: usize, count: usize, n: usize, p: usize) -> Option<usize>
 }
 
 // The subindex block.
-fn subindex_from(flags: u16, top: usize, n: usize, p: usize) -> Option<usize>
+fn subindex_from(pointer: Pointer, n: usize, p: usize) -> Option<usize>
     requires { (0 < p) × (n ≤ positions) }
-    ensures { (v : Vol) (m : ℕ) → Least (λ (k : ℕ). class_page v (root_by flags top m) 0 k ≡ p) n positions result }
+    ensures { (v : Vol) (m : ℕ) → Least (λ (k : ℕ). class_page v (root_by pointer.flags pointer.page m) 0 k ≡ p) n positions result }
 {
-    if flags == 2 {
-        return top_from(top, n, p);
+    if pointer.flags == 2 {
+        return top_from(pointer.page, n, p);
     }
     None
 }
@@ -49,21 +50,20 @@ fn index_from(
     img: &[u16],
     seen: &mut [u16],
     tops: &[u16],
-    flags: u16,
-    top: usize,
+    pointer: Pointer,
     count: usize,
     n: usize,
     p: usize,
 ) -> Option<usize>
-    requires { Search img.now p seen.old tops.now × Reach img.now (root_by flags top count) × ShortR (vol img.now) (root_by flags top count) count × (n ≤ positions) }
-    ensures { Least (λ (k : ℕ). class_page (vol img.now) (root_by flags top count) 1 k ≡ p) n positions result × Search img.now p seen.new tops.now }
+    requires { Search img.now p seen.old tops.now × Reach img.now (root_by pointer.flags pointer.page count) × ShortR (vol img.now) (root_by pointer.flags pointer.page count) count × (n ≤ positions) }
+    ensures { Least (λ (k : ℕ). class_page (vol img.now) (root_by pointer.flags pointer.page count) 1 k ≡ p) n positions result × Search img.now p seen.new tops.now }
 {
-    if flags == 1 {
-        return top_from(top, n, p);
+    if pointer.flags == 1 {
+        return top_from(pointer.page, n, p);
     }
-    if flags == 2 {
+    if pointer.flags == 2 {
         let z = count.div_ceil(512).min(512);
-        return level_from(img, seen, tops, top, n, z, p);
+        return level_from(img, seen, tops, pointer.page, n, z, p);
     }
     None
 }
@@ -73,22 +73,21 @@ fn data_from(
     img: &[u16],
     seen: &mut [u16],
     tops: &mut [u16],
-    flags: u16,
-    top: usize,
+    pointer: Pointer,
     count: usize,
     n: usize,
     p: usize,
 ) -> Option<usize>
-    requires { Search img.now p seen.old tops.old × Reach img.now (root_by flags top count) × ShortR (vol img.now) (root_by flags top count) count × (n ≤ positions) × (0 < flags) }
-    ensures { Least (λ (k : ℕ). class_page (vol img.now) (root_by flags top count) 2 k ≡ p) n positions result × Search img.now p seen.new tops.new }
+    requires { Search img.now p seen.old tops.old × Reach img.now (root_by pointer.flags pointer.page count) × ShortR (vol img.now) (root_by pointer.flags pointer.page count) count × (n ≤ positions) × (0 < pointer.flags) }
+    ensures { Least (λ (k : ℕ). class_page (vol img.now) (root_by pointer.flags pointer.page count) 2 k ≡ p) n positions result × Search img.now p seen.new tops.new }
 {
-    if flags == 1 {
+    if pointer.flags == 1 {
         let z = count.min(512);
-        return level_from(img, seen, tops, top, n, z, p);
+        return level_from(img, seen, tops, pointer.page, n, z, p);
     }
-    if flags == 2 {
+    if pointer.flags == 2 {
         let z = count.div_ceil(512).min(512);
-        return tree_from(img, seen, tops, top, n, z, p);
+        return tree_from(img, seen, tops, pointer.page, n, z, p);
     }
     None
 }
@@ -99,20 +98,19 @@ pub fn class_from(
     seen: &mut [u16],
     tops: &mut [u16],
     class: usize,
-    flags: u16,
-    top: usize,
+    pointer: Pointer,
     count: usize,
     n: usize,
     p: usize,
 ) -> Option<usize>
-    requires { Search img.now p seen.old tops.old × (class < 3) × Reach img.now (root_by flags top count) × ShortR (vol img.now) (root_by flags top count) count × (n ≤ positions) × (0 < flags) }
-    ensures { Least (λ (k : ℕ). class_page (vol img.now) (root_by flags top count) class k ≡ p) n positions result × Search img.now p seen.new tops.new }
+    requires { Search img.now p seen.old tops.old × (class < 3) × Reach img.now (root_by pointer.flags pointer.page count) × ShortR (vol img.now) (root_by pointer.flags pointer.page count) count × (n ≤ positions) × (0 < pointer.flags) }
+    ensures { Least (λ (k : ℕ). class_page (vol img.now) (root_by pointer.flags pointer.page count) class k ≡ p) n positions result × Search img.now p seen.new tops.new }
 {
     if class == 0 {
-        return subindex_from(flags, top, n, p);
+        return subindex_from(pointer, n, p);
     }
     if class == 1 {
-        return index_from(img, seen, tops, flags, top, count, n, p);
+        return index_from(img, seen, tops, pointer, count, n, p);
     }
-    data_from(img, seen, tops, flags, top, count, n, p)
+    data_from(img, seen, tops, pointer, count, n, p)
 }

@@ -9,7 +9,7 @@ use Rattle.places.proofs.counts.first10.Goals as goal
 pub used_counts-requires : goal.used_counts-requires
 used_counts-requires c =
     record {
-      objects = objects-at c.args.img.now _ _ c.requires.0 c.requires.2 c.requires.4 c.flags_at-flags.ensures.0 c.page_at-top.ensures.0;
+      objects = objects-at c.args.img.now _ _ c.requires.0 c.requires.2 c.requires.4 c.pointer_at-pointer.ensures.flags.0 c.pointer_at-pointer.ensures.page.0;
       ends = c.requires.8;
       users = reach-users c.args.img.now c.requires.0 c.requires.2 c.requires.3;
       most = c.requires.0.most;

@@ -8,10 +8,10 @@ returns-then-not-bytes_ok c = bytes-wrong c.args.img.now c.args.total c.args.q c
 
 pub returns-then-not-pointer_ok : goal.returns-then-not-pointer_ok
 returns-then-not-pointer_ok c =
-    pointer-wrong c.args.img.now c.args.total c.args.q c.args.e c.requires c.entry_flags-flags.result c.entry_page-t.result c.entry_two-n.result c.entry_two.result c.entry_flags-flags.ensures.0 c.entry_page-t.ensures.0 c.entry_two-n.ensures.0 c.entry_two.ensures.0
+    pointer-wrong c.args.img.now c.args.total c.args.q c.args.e c.requires c.entry_pointer-pointer.result.flags c.entry_pointer-pointer.result.page c.entry_two-n.result c.entry_two.result c.entry_pointer-pointer.ensures.flags.0 c.entry_pointer-pointer.ensures.page.0 c.entry_two-n.ensures.0 c.entry_two.ensures.0
     (holds c.bytes_ok.result _ c.bytes_ok.ensures c.if-not-bytes_ok.false-raw) _ c.place_of-then-not-pointer_ok.ensures (fails c.pointer_ok.result _ c.pointer_ok.ensures c.if-not-pointer_ok.true-raw)
 
 pub returns : goal.returns
 returns c =
-    file-found c.args.img.now c.args.total c.args.q c.args.e c.requires c.entry_flags-flags.result c.entry_page-t.result c.entry_two-n.result c.entry_two.result c.entry_flags-flags.ensures.0 c.entry_page-t.ensures.0 c.entry_two-n.ensures.0 c.entry_two.ensures.0
+    file-found c.args.img.now c.args.total c.args.q c.args.e c.requires c.entry_pointer-pointer.result.flags c.entry_pointer-pointer.result.page c.entry_two-n.result c.entry_two.result c.entry_pointer-pointer.ensures.flags.0 c.entry_pointer-pointer.ensures.page.0 c.entry_two-n.ensures.0 c.entry_two.ensures.0
     (holds c.bytes_ok.result _ c.bytes_ok.ensures c.if-not-bytes_ok.false-raw) (holds c.pointer_ok.result _ c.pointer_ok.ensures c.if-not-pointer_ok.false-raw) c.blocks-2.result c.blocks-2.ensures

@@ -13,22 +13,22 @@ use Rattle.places.proofs.files.first7.Goals as goal
 pub position_ok-requires : goal.position_ok-requires
 position_ok-requires c = (
   record { whole = c.requires.0; count = c.requires.1; memory = c.loop-n.invariant.0 },
-  objects-at c.args.img.now _ _ c.requires.0 c.requires.2 c.requires.3 c.flags_at-flags.ensures.0 c.page_at-top.ensures.0,
+  objects-at c.args.img.now _ _ c.requires.0 c.requires.2 c.requires.3 c.pointer_at-pointer.ensures.flags.0 c.pointer_at-pointer.ensures.page.0,
   omega (arith, c.requires.4.most),
 )
 
 pub root_page-q-requires : goal.root_page-q-requires
-root_page-q-requires c = (objects-at c.args.img.now _ _ c.requires.0 c.requires.2 c.requires.3 c.flags_at-flags.ensures.0 c.page_at-top.ensures.0).reach
+root_page-q-requires c = (objects-at c.args.img.now _ _ c.requires.0 c.requires.2 c.requires.3 c.pointer_at-pointer.ensures.flags.0 c.pointer_at-pointer.ensures.page.0).reach
 
 pub page_files-requires : goal.page_files-requires
 page_files-requires c =
-    let o : ObjectsAt c.args.img.now c.flags_at-flags.result c.page_at-top.result = objects-at c.args.img.now _ _ c.requires.0 c.requires.2 c.requires.3 c.flags_at-flags.ensures.0 c.page_at-top.ensures.0 in
+    let o : ObjectsAt c.args.img.now c.pointer_at-pointer.result.flags c.pointer_at-pointer.result.page = objects-at c.args.img.now _ _ c.requires.0 c.requires.2 c.requires.3 c.pointer_at-pointer.ensures.flags.0 c.pointer_at-pointer.ensures.page.0 in
     record {
       whole = c.requires.0;
       count = c.requires.1;
       inside = c.root_page-q.ensures.1;
       most = omega (arith, c.requires.4.most);
-      on = object-page-at c.args.img.now c.flags_at-flags.result c.page_at-top.result o c.loop-n.n c.root_page-q.result c.root_page-q.ensures.0;
+      on = object-page-at c.args.img.now c.pointer_at-pointer.result.flags c.pointer_at-pointer.result.page o c.loop-n.n c.root_page-q.result c.root_page-q.ensures.0;
     }
 
 pub returns-then-not-position_ok : goal.returns-then-not-position_ok

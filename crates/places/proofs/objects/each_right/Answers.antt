@@ -17,4 +17,4 @@ returns-then-not-page_ok c = λ s. fails c.page_ok.result _ c.page_ok.ensures c.
 
 pub loop-i-preserved : goal.loop-i-preserved
 loop-i-preserved c = let v = vol c.args.img.now in let e : c.args.base + 32 * c.loop-i.i + 32 ≡ c.args.base + 32 * (c.loop-i.i + 1) = omega arith in
-    subst (λ (z : ℕ). Span (FileFine (user v) (entry v (root_by c.args.flags c.args.top 0))) c.args.base z) e (span-join _ _ _ _ c.loop-i.invariant (holds c.page_ok.result _ c.page_ok.ensures c.if-not-page_ok.false-raw))
+    subst (λ (z : ℕ). Span (FileFine (user v) (entry v (root_by c.args.pointer.flags c.args.pointer.page 0))) c.args.base z) e (span-join _ _ _ _ c.loop-i.invariant (holds c.page_ok.result _ c.page_ok.ensures c.if-not-page_ok.false-raw))

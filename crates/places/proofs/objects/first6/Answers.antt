@@ -7,7 +7,7 @@ use Rattle.places.proofs.Owned.{objects-known}
 use Rattle.places.proofs.objects.first6.Goals as goal
 
 pub user_objects-requires : goal.user_objects-requires
-user_objects-requires c = (objects-known c.args.img.now c.flags_at-flags.result c.page_at-top.result c.requires.0 c.requires.1 c.requires.2 c.requires.3 c.flags_at-flags.ensures.0 c.page_at-top.ensures.0, omega arith)
+user_objects-requires c = (objects-known c.args.img.now c.pointer_at-pointer.result.flags c.pointer_at-pointer.result.page c.requires.0 c.requires.1 c.requires.2 c.requires.3 c.pointer_at-pointer.ensures.flags.0 c.pointer_at-pointer.ensures.page.0, omega arith)
 
 pub returns-in-Some : goal.returns-in-Some
 unfolding spots6

@@ -6,7 +6,7 @@ use native.Mathlib.Omega.{arith}
 use Rattle.places.proofs.users.first4.Goals as goal
 
 pub any_user-requires : goal.any_user-requires
-any_user-requires c = (users-known _ c.flags_at-flags.result c.page_at-top.result c.requires.0 c.requires.1 c.requires.2 c.flags_at-flags.ensures.0 c.page_at-top.ensures.0, omega arith)
+any_user-requires c = (users-known _ c.pointer_at-pointer.result.flags c.pointer_at-pointer.result.page c.requires.0 c.requires.1 c.requires.2 c.pointer_at-pointer.ensures.flags.0 c.pointer_at-pointer.ensures.page.0, omega arith)
 
 pub returns-in-Some : goal.returns-in-Some
 unfolding spots4

@@ -7,7 +7,7 @@ use Rattle.salvage.proofs.Counting.{counting-yes, counting-no, holds_more, sum_b
 use Rattle.salvage.proofs.counts.balance.Goals as goal
 
 pub count_all-requires : goal.count_all-requires
-count_all-requires c = (objects-at c.args.img.now _ _ c.requires.0.whole c.requires.0.pointed.r2 c.requires.0.pointed.r5 c.flags_at-flags.ensures.0 c.page_at-top.ensures.0, c.requires.3, reach-users c.args.img.now c.requires.0.whole c.requires.0.pointed.r2 c.requires.0.pointed.r3, c.requires.4)
+count_all-requires c = (objects-at c.args.img.now _ _ c.requires.0.whole c.requires.0.pointed.r2 c.requires.0.pointed.r5 c.pointer_at-pointer.ensures.flags.0 c.pointer_at-pointer.ensures.page.0, c.requires.3, reach-users c.args.img.now c.requires.0.whole c.requires.0.pointed.r2 c.requires.0.pointed.r3, c.requires.4)
 
 pub returns-then-not-count_all : goal.returns-then-not-count_all
 returns-then-not-count_all c = (refl, holds_more _ _ c.requires.0.pointed (counting-no _ _ c.count_all.result c.count_all.ensures (not-true _ c.if-not-count_all.true-raw)))
