@@ -57,8 +57,11 @@ module _ (P : ℕ) (v : Vol) (n i w run : ℕ) (long : 16 ≤ n) (D : Downwards 
   down-found t R = highest-start P v n (i * 16 + t) (omega arith) (in-run t R) (λ s a l. down-above (suc t) R.3 s (omega arith) l)
 
   -- in the lowest word
+  pub down-none : RunIn w run n None → i ≡ 0 → highest_run P v n ≡ 0
+  down-none R z = highest-absent P v n (omega arith) (λ s l. down-above 0 R s (omega arith) l)
+
   pub down-end : i ≡ 0 → (r : Option ℕ) → RunIn w run n r → highest_run P v n ≡ unwrap_or r 0
-  down-end z None R = highest-absent P v n (omega arith) (λ s l. down-above 0 R s (omega arith) l)
+  down-end z None R = down-none R z
   down-end z (Some t) R = down-found t R ∙ omega arith
 
   -- the word below

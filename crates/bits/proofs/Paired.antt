@@ -48,8 +48,11 @@ module _ (P : ℕ) (v : Vol) (n : ℕ) (some : 0 < n) (short : n ≤ 16) where
     paired-found t S = highest-start P v n (i * 16 + t) some (in_pair t S) (λ s a l. paired-above (suc t) S.2 s (omega arith) l)
 
     -- in the lowest word
+    pub paired_none : StartIn x n None → i ≡ 0 → highest_run P v n ≡ 0
+    paired_none S z = highest-absent P v n some (λ s l. paired-above 0 S s (omega arith) l)
+
     pub paired_end : i ≡ 0 → (r : Option ℕ) → StartIn x n r → highest_run P v n ≡ unwrap_or r 0
-    paired_end z None S = highest-absent P v n some (λ s l. paired-above 0 S s (omega arith) l)
+    paired_end z None S = paired_none S z
     paired_end z (Some t) S = paired-found t S ∙ omega arith
 
     -- the word below

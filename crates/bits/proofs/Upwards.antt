@@ -78,15 +78,20 @@ module _ (P : ℕ) (v : Vol) (b : ℕ) (f : BitsAt P v b) (s : ℕ) where
       word = λ j l q. omega (arith, U.start, ap (digit j) ex, bit_in P v b f (i + 1) j l q);
     }
 
+    -- a full word that is the last
+    pub up_none : w ≡ 65535 → P ≤ (i + 1) * 16 → P ≡ free_from P v s
+    unfolding free_from
+    up_none e h = sym (lowest-none (λ p. 1 - bit P v p - (s - p)) P (λ k l. passed-by 16 (omega arith) (full e) k (omega arith) l))
+
     -- the first word that is not full, or the last
     module _ (t : ℕ) (C : FirstClear w t) where
-      up-past : P ≤ i * 16 + t → P ≡ free_from P v s
+      pub up-past : P ≤ i * 16 + t → P ≡ free_from P v s
       unfolding free_from
       up-past h = sym (lowest-none (λ p. 1 - bit P v p - (s - p)) P (λ k l. passed-by t C.most C.below k (omega arith) l))
 
-      up-found : t < 16 → i * 16 + t < P → i * 16 + t ≡ free_from P v s
+      up_clear : t < 16 → i * 16 + t < P → i * 16 + t ≡ free_from P v s
       unfolding free_from
-      up-found l h =
+      up_clear l h =
           sym (lowest-at (λ p. 1 - bit P v p - (s - p)) P (i * 16 + t) h (omega (arith, U.word t l h, C.there l))
           (λ k a. passed-by t C.most C.below k a (omega arith)))
 
@@ -97,11 +102,14 @@ module _ (P : ℕ) (v : Vol) (b : ℕ) (f : BitsAt P v b) (s : ℕ) where
         | no l ↦ absurd (n (all_ones 16 w (omega (arith, U.small)) (λ j a. C.below j (omega arith))))
       ]
 
+      pub up-found : ¬ (w ≡ 65535) → i * 16 + t < P → i * 16 + t ≡ free_from P v s
+      up-found n h = up_clear (has-clear n) h
+
       pub up_inside : ¬ (w ≡ 65535) → i * 16 + 16 ≤ P → i * 16 + t ≡ free_from P v s
-      up_inside n h = let l : t < 16 = has-clear n in up-found l (omega arith)
+      up_inside n h = let l : t < 16 = has-clear n in up_clear l (omega arith)
 
       pub up_last : P ≤ i * 16 + 16 → min P (i * 16 + t) ≡ free_from P v s
       up_last h = elim (dec_lt (i * 16 + t) P) [
-        | yes l ↦ (let e : min P (i * 16 + t) ≡ i * 16 + t = omega arith in e) ∙ up-found (omega arith) l
+        | yes l ↦ (let e : min P (i * 16 + t) ≡ i * 16 + t = omega arith in e) ∙ up_clear (omega arith) l
         | no l ↦ (let e : min P (i * 16 + t) ≡ P = omega arith in e) ∙ up-past (omega arith)
       ]
