@@ -1,4 +1,5 @@
 -- The list of changes as plain numbers: filled change by change, and what salvage says of it then. Assumes nothing.
+use Rattle.std.proofs.Common.{Result}
 use mathlib.Core.Path.{◌≡◌, refl, sym, ap, ap₂, ◌∙◌}
 use mathlib.Core.Logic.{◌⊎◌, inl, inr}
 use mathlib.Core.List.{List, [], ◌∷◌, ◌++◌, map}
@@ -9,7 +10,7 @@ use lib.ListN.{length, take, drop, set, get_or}
 use Rattle.book.specs.Answers.{numbers}
 use Rattle.book.specs.Calls.{salvage_call, repairs, repaired}
 use Rattle.book.specs.Outcome.{Outcome, RefusedAs, DoneAs}
-use Rattle.book.specs.declared.Answer.{Answer}
+use Rattle.book.specs.declared.Refusal.{Refusal}
 use Rattle.book.specs.declared.Change.{Change}
 use Rattle.salvage.specs.Mending.{Mends, mends-counted}
 use Rattle.salvage.specs.Row.{unpacked}
@@ -67,7 +68,7 @@ flat-next xs row k c h l e =
 
 -- ---- salvage with such a list
 
-pub changes-result : (img list : List ℕ) (a : Answer) (img' list' row' : List ℕ) (n : ℕ) → Mends img (length list / 4) a img' row' → n ≡ (numbers a).value
+pub changes-result : (img list : List ℕ) (a : Result ℕ Refusal) (img' list' row' : List ℕ) (n : ℕ) → Mends img (length list / 4) a img' row' → n ≡ (numbers a).value
     → list' ≡ flat_filled list row' n → ChangesResult img list (numbers a) img' list'
 unfolding Outcome salvage_call flat
 changes-result img list a img' list' row' n m e w = record { outcome = m.outcome; listed = record { done = done; refused = refused m.outcome } }

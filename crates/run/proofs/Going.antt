@@ -1,6 +1,6 @@
 -- One turn of a run. Assumes nothing.
-use mathlib.Core.Path.{◌≡◌, refl, sym, subst, ◌∙◌}
-use mathlib.Core.Bool.{Bool, true, false}
+use mathlib.Core.Path.{◌≡◌, sym, subst, ◌∙◌}
+use mathlib.Core.Bool.{Bool, false}
 use mathlib.Core.List.{List}
 use Prim.Native.Nat.{ℕ, suc, ◌+◌, ◌/◌, ◌<◌}
 use native.Mathlib.Numerals.{add-one}
@@ -10,9 +10,17 @@ use lib.ListN.{length, get_or, length-take, length-drop}
 use borrow.Author.Tests.{ne_eqb}
 use Rattle.book.specs.Answers.{Numbers}
 use Rattle.book.specs.Image.{Ready}
-use Rattle.book.specs.Run.{step_of, step_call, Result, NumberResult, HolderResult, ChangesResult, pick_result, StepResult, limit, Made, more, Ran, stopped}
+use Rattle.book.specs.Run.{step_of, step_call, numbered, wrong_call, Result, NumberResult, HolderResult, ChangesResult, pick_result, StepResult, limit, Made, more, Ran, stopped}
 use Rattle.run.specs.Fair.{lawful-step}
 use Rattle.run.specs.StepMade.{StepMade}
+use Rattle.run.specs.Asked.{call_number, valued_number, valued_call}
+use Rattle.run.specs.declared.call.Call.{Call}
+use Rattle.run.specs.declared.call.Call.TheVariants.{WhoHolds, Salvage}
+use Rattle.run.specs.declared.call.Valued.{Valued}
+use Rattle.run.specs.declared.call.Valued.TheVariants.{Named, Typed, Check, Address, DeleteUser, Give, Take, Grow, Shrink, DeleteFile, ReadPage, WritePage, NoteOpen, ConvertToApostrophe, ConvertToZeros}
+use Rattle.run.specs.declared.call.Named.TheVariants.{Format, FormatDefault, FindUser, CreateUser}
+use Rattle.run.specs.declared.call.Typed.TheVariants.{FindFile, CreateIndexed, CreateContiguous}
+use Rattle.run.proofs.Parts.{none-numbered}
 
 pub step-length : (steps : List ℕ) (i : ℕ) → i < length steps / 10 → length (step_of steps i) ≡ 10
 step-length steps i h = simp (length-take, length-drop) (omega arith)
@@ -20,29 +28,59 @@ step-length steps i h = simp (length-take, length-drop) (omega arith)
 -- ---- the result of a step, by its call's number c
 
 module _ (r : Numbers ℕ) (img' list' : List ℕ) where
-  pick : (b : Bool) (R Q : Result) → b ≡ true → R r img' list' → pick_result b R Q r img' list'
-  pick b R Q e o = subst (λ (x : Bool). pick_result x R Q r img' list') (sym e) o
-
   skip : (b : Bool) (R Q : Result) → b ≡ false → Q r img' list' → pick_result b R Q r img' list'
   skip b R Q e o = subst (λ (x : Bool). pick_result x R Q r img' list') (sym e) o
 
-  module _ (img list s text words : List ℕ) (c : ℕ) (e : c ≡ get_or s 0 0) where
-    pub step-holder : c ≡ 6 → (n : ℕ) → n ≡ get_or s 3 0 → HolderResult img list n r img' list' → StepResult img list s text words r img' list'
-    unfolding StepResult
-    step-holder z n q o =
-        pick (eqb (get_or s 0 0) 6) _ _ (subst (λ (x : ℕ). eqb x 6 ≡ true) (sym z ∙ e) refl) (subst (λ (x : ℕ). HolderResult img list x r img' list') q o)
+  module _ (img list s text words : List ℕ) where
+    abbrev At : ℕ → Type 0
+    At x = pick_result (eqb x 6) (HolderResult img list (get_or s 3 0))
+        (pick_result (eqb x 22) (ChangesResult img list)
+        (NumberResult (numbered x (get_or s 1 0) (get_or s 2 0) (get_or s 3 0) (get_or s 4 0) img s text words) img list)) r img' list'
 
-    pub step-changes : (c ≡ 6 → ⊥) → c ≡ 22 → ChangesResult img list r img' list' → StepResult img list s text words r img' list'
-    unfolding StepResult
-    step-changes h z o =
-        skip (eqb (get_or s 0 0) 6) _ _ (ne_eqb (get_or s 0 0) 6 (λ q. h (e ∙ q)))
-        (pick (eqb (get_or s 0 0) 22) _ _ (subst (λ (x : ℕ). eqb x 22 ≡ true) (sym z ∙ e) refl) o)
+    step-at : At (get_or s 0 0) → StepResult img list s text words r img' list'
+    unfolding StepResult step_call
+    step-at o = o
 
-    pub step-number : (c ≡ 6 → ⊥) → (c ≡ 22 → ⊥) → NumberResult (step_call img s text words) img list r img' list' → StepResult img list s text words r img' list'
-    unfolding StepResult
-    step-number h k o =
-        skip (eqb (get_or s 0 0) 6) _ _ (ne_eqb (get_or s 0 0) 6 (λ q. h (e ∙ q)))
-        (skip (eqb (get_or s 0 0) 22) _ _ (ne_eqb (get_or s 0 0) 22 (λ q. k (e ∙ q))) o)
+    -- the call that a number asks for
+    valued-at : (k : Valued) → NumberResult (valued_call img s text words (get_or s 1 0) (get_or s 2 0) (get_or s 3 0) (get_or s 4 0) k) img list r img' list' → At (valued_number k)
+    unfolding numbered
+    valued-at (Named Format) o = o
+    valued-at (Named FormatDefault) o = o
+    valued-at (Named FindUser) o = o
+    valued-at (Named CreateUser) o = o
+    valued-at (Typed FindFile) o = o
+    valued-at (Typed CreateIndexed) o = o
+    valued-at (Typed CreateContiguous) o = o
+    valued-at Check o = o
+    valued-at Address o = o
+    valued-at DeleteUser o = o
+    valued-at Give o = o
+    valued-at Take o = o
+    valued-at Grow o = o
+    valued-at Shrink o = o
+    valued-at DeleteFile o = o
+    valued-at ReadPage o = o
+    valued-at WritePage o = o
+    valued-at NoteOpen o = o
+    valued-at ConvertToApostrophe o = o
+    valued-at ConvertToZeros o = o
+
+    module _ (c : ℕ) (e : c ≡ get_or s 0 0) where
+      pub step-holder : c ≡ 6 → (n : ℕ) → n ≡ get_or s 3 0 → HolderResult img list n r img' list' → StepResult img list s text words r img' list'
+      step-holder z n q o = step-at (subst At (sym z ∙ e) (subst (λ (x : ℕ). HolderResult img list x r img' list') q o))
+
+      pub step-changes : c ≡ 22 → ChangesResult img list r img' list' → StepResult img list s text words r img' list'
+      step-changes z o = step-at (subst At (sym z ∙ e) o)
+
+      pub step-valued : (k : Valued) → c ≡ valued_number k
+          → NumberResult (valued_call img s text words (get_or s 1 0) (get_or s 2 0) (get_or s 3 0) (get_or s 4 0) k) img list r img' list' → StepResult img list s text words r img' list'
+      step-valued k z o = step-at (subst At (sym z ∙ e) (valued-at k o))
+
+      -- no call has the number
+      pub step-none : ((k : Call) → c ≡ call_number k → ⊥) → NumberResult (wrong_call img) img list r img' list' → StepResult img list s text words r img' list'
+      step-none h o = step-at (subst At e
+          (skip (eqb c 6) _ _ (ne_eqb c 6 (h WhoHolds)) (skip (eqb c 22) _ _ (ne_eqb c 22 (h Salvage))
+          (record { outcome = none-numbered img r img' s text words c _ _ _ _ h o.outcome; kept = o.kept }))))
 
 -- ---- one turn
 

@@ -2,6 +2,7 @@
 use mathlib.Core.Path.{◌≡◌, refl, ap, subst}
 use mathlib.Core.Logic.{◌⊎◌, inl, inr}
 use mathlib.Core.List.{List}
+use Rattle.std.proofs.Common.{Result, Ok, Err}
 use Prim.Native.Nat.{ℕ, ◌*◌, ◌<◌}
 use native.Mathlib.Omega.{arith}
 use lib.ListN.{take, drop}
@@ -14,8 +15,6 @@ use Rattle.book.specs.Entries.{file_entry}
 use Rattle.book.specs.Files.{file_at}
 use Rattle.book.specs.Image.{pages}
 use Rattle.book.specs.Return.{number-pos}
-use Rattle.book.specs.declared.Answer.{Answer}
-use Rattle.book.specs.declared.Answer.TheVariants.{Done, Refused}
 use Rattle.book.specs.declared.Refusal.{Refusal}
 use Rattle.laws.specs.Call.Done.{done}
 use Rattle.laws.specs.Count.Good.{most, sound-within}
@@ -23,18 +22,18 @@ use Rattle.laws.specs.Frame.Roots.{page_at-below}
 use Rattle.book.specs.Run.{offset_call}
 use Rattle.run.specs.Fair.{fair-address}
 
-module _ (img : List ℕ) (u f n : ℕ) (a : Answer) (o : Outcome (address_call img u f n) img (numbers a) img) where
-  pub refused-offset : (w : Refusal) → a ≡ Refused w → Outcome (offset_call img u f n) img (refused_with 0 w) img
+module _ (img : List ℕ) (u f n : ℕ) (a : Result ℕ Refusal) (o : Outcome (address_call img u f n) img (numbers a) img) where
+  pub refused-offset : (w : Refusal) → a ≡ Err w → Outcome (offset_call img u f n) img (refused_with 0 w) img
   unfolding Outcome address_call offset_call call asking
-  refused-offset w e = go (subst (λ (b : Answer). Outcome (address_call img u f n) img (numbers b) img) e o)
+  refused-offset w e = go (subst (λ (b : Result ℕ Refusal). Outcome (address_call img u f n) img (numbers b) img) e o)
     where
       go : (RefusedAs (address_call img u f n) img (refused_with 0 w) img ⊎ DoneAs (address_call img u f n) img (refused_with 0 w) img) → Outcome (offset_call img u f n) img (refused_with 0 w) img
       go (inl x) = inl (record { number = x.number; value = refl; broken = x.broken; image = refl })
       go (inr x) = absurd (let z : 0 < number_of w = number-pos w in omega (arith, z, x.number))
 
-  module _ (v : ℕ) (e : a ≡ Done v) where
+  module _ (v : ℕ) (e : a ≡ Ok v) where
     found : DoneAs (address_call img u f n) img (done_with v) img
-    found = done (address_call img u f n) img (done_with v) img (fair-address img u f n).counted (subst (λ (b : Answer). Outcome (address_call img u f n) img (numbers b) img) e o) refl
+    found = done (address_call img u f n) img (done_with v) img (fair-address img u f n).counted (subst (λ (b : Result ℕ Refusal). Outcome (address_call img u f n) img (numbers b) img) e o) refl
 
     pub page-small : 1024 * v < 4294967296
     unfolding address_call call asking judged Clear

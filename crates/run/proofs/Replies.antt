@@ -2,17 +2,14 @@
 use native.Mathlib.Omega.{arith}
 use mathlib.Core.Path.{◌≡◌, refl, sym, ap, ap₂, subst, ◌∙◌}
 use mathlib.Core.List.{List}
+use Rattle.std.proofs.Common.{Result, Ok, Err}
 use Prim.Native.Nat.{ℕ, ◌+◌, ◌*◌}
 use Rattle.book.specs.Answers.{HolderNumbers, holder_numbers, number_of, unbroken, broken_of, done_with, refused_with, numbers, holding}
 use Rattle.book.specs.Return.{number-pos}
 use Rattle.book.specs.declared.Break.{Break}
 use Rattle.book.specs.declared.Holder.{Holder}
 use Rattle.book.specs.declared.Holder.TheVariants.{Free}
-use Rattle.book.specs.declared.Holding.{Holding}
-use Rattle.book.specs.declared.Holding.TheVariants.{By, Refused as Denied}
 use Rattle.book.specs.declared.Refusal.{Refusal}
-use Rattle.book.specs.declared.Answer.{Answer}
-use Rattle.book.specs.declared.Answer.TheVariants.{Done, Refused}
 use Rattle.book.specs.Run.{held_by, held_reply, put_three, put_four, put_place, put_holder, put_break, put_reply}
 use Rattle.sums.specs.Search.{pick, pick_yes}
 use Rattle.sound.specs.Told.{Tells}
@@ -40,25 +37,25 @@ module _ (o p q : List ℕ) (i : ℕ) where
       y ∙ ap (λ (l : List ℕ). put_break l (i * 13 + 3) b) (x ∙ ap (λ (k : ℕ). put_three o (i * 13) k b.rule 0) f)
       ∙ ap (λ (c : Break). put_break (put_three o (i * 13) (number_of w) c.rule 0) (i * 13 + 3) c) e
 
-module _ (o p : List ℕ) (i : ℕ) (a : Answer) where
-  pub answer-done : (v : ℕ) → a ≡ Done v → p ≡ put_reply o i (done_with v) → (p ≡ put_reply o i (numbers a)) × ((numbers a).number ≡ 0)
-  answer-done v e w = subst (λ (b : Answer). (p ≡ put_reply o i (numbers b)) × ((numbers b).number ≡ 0)) (sym e) (w, refl)
+module _ (o p : List ℕ) (i : ℕ) (a : Result ℕ Refusal) where
+  pub answer-done : (v : ℕ) → a ≡ Ok v → p ≡ put_reply o i (done_with v) → (p ≡ put_reply o i (numbers a)) × ((numbers a).number ≡ 0)
+  answer-done v e w = subst (λ (b : Result ℕ Refusal). (p ≡ put_reply o i (numbers b)) × ((numbers b).number ≡ 0)) (sym e) (w, refl)
 
-  pub answer-refused : (y : Refusal) → a ≡ Refused y → p ≡ put_reply o i (refused_with 0 y) → (p ≡ put_reply o i (numbers a)) × ((numbers a).number ≡ 0 → ⊥)
-  answer-refused y e w = subst (λ (b : Answer). (p ≡ put_reply o i (numbers b)) × ((numbers b).number ≡ 0 → ⊥)) (sym e) (w, λ z. omega (arith, z, number-pos y))
+  pub answer-refused : (y : Refusal) → a ≡ Err y → p ≡ put_reply o i (refused_with 0 y) → (p ≡ put_reply o i (numbers a)) × ((numbers a).number ≡ 0 → ⊥)
+  answer-refused y e w = subst (λ (b : Result ℕ Refusal). (p ≡ put_reply o i (numbers b)) × ((numbers b).number ≡ 0 → ⊥)) (sym e) (w, λ z. omega (arith, z, number-pos y))
 
 -- a reply that tells a holder
 pub reply-held : (o p q : List ℕ) (i : ℕ) (h : Holder) (b : Break) → b ≡ held_by h → p ≡ put_three o (i * 13) 0 0 0 → q ≡ put_break p (i * 13 + 3) b → q ≡ put_reply o i (held_reply (done_with h))
 unfolding pick
 reply-held o p q i h b e x y = y ∙ ap₂ (λ (l : List ℕ) (c : Break). put_break l (i * 13 + 3) c) x e
 
-module _ (o p : List ℕ) (i : ℕ) (a : Holding) where
-  pub holding-done : (h : Holder) → a ≡ By h → p ≡ put_reply o i (held_reply (done_with h)) → (p ≡ put_reply o i (held_reply (holding a))) × ((holding a).number ≡ 0)
-  holding-done h e w = subst (λ (b : Holding). (p ≡ put_reply o i (held_reply (holding b))) × ((holding b).number ≡ 0)) (sym e) (w, refl)
+module _ (o p : List ℕ) (i : ℕ) (a : Result Holder Refusal) where
+  pub holding-done : (h : Holder) → a ≡ Ok h → p ≡ put_reply o i (held_reply (done_with h)) → (p ≡ put_reply o i (held_reply (holding a))) × ((holding a).number ≡ 0)
+  holding-done h e w = subst (λ (b : Result Holder Refusal). (p ≡ put_reply o i (held_reply (holding b))) × ((holding b).number ≡ 0)) (sym e) (w, refl)
 
-  pub holding-refused : (y : Refusal) → a ≡ Denied y → p ≡ put_reply o i (refused_with 0 y) → (p ≡ put_reply o i (held_reply (holding a))) × ((holding a).number ≡ 0 → ⊥)
+  pub holding-refused : (y : Refusal) → a ≡ Err y → p ≡ put_reply o i (refused_with 0 y) → (p ≡ put_reply o i (held_reply (holding a))) × ((holding a).number ≡ 0 → ⊥)
   holding-refused y e w =
-      subst (λ (b : Holding). (p ≡ put_reply o i (held_reply (holding b))) × ((holding b).number ≡ 0 → ⊥)) (sym e) (
+      subst (λ (b : Result Holder Refusal). (p ≡ put_reply o i (held_reply (holding b))) × ((holding b).number ≡ 0 → ⊥)) (sym e) (
         w ∙ ap (λ (b : Break). put_reply o i (record { number = number_of y; value = 0; broken = b })) (sym (pick_yes (number_of y) (broken_of y) (held_by Free) (number-pos y))),
         λ z. omega (arith, z, number-pos y),
       )

@@ -1,3 +1,4 @@
+pub mod Asked
 pub mod Fair
 pub mod OneRun
 pub mod StepMade

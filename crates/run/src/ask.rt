@@ -5,7 +5,7 @@ ghost use Rattle.book.specs.Calls.{who_call};
 ghost use Rattle.book.specs.Enter.{Known};
 ghost use Rattle.book.specs.Outcome.{Outcome};
 
-use book::{Gate, Holding};
+use book::Holding;
 use nord::ask;
 use nord::enter::enter_page;
 
@@ -14,9 +14,6 @@ pub(crate) fn make_who(img: &[u16], known: bool, p: usize) -> Holding
     requires { Known known img.now }
     ensures { Outcome (who_call img.now p) img.now (holding result) img.now }
 {
-    let g = enter_page(img, known, p);
-    if let Gate::Shut { why } = g {
-        return Holding::Refused { why };
-    }
+    enter_page(img, known, p)?;
     ask::who_holds(img, true, p)
 }

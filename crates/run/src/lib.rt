@@ -2,6 +2,7 @@
 #![tactic(auto)]
 
 mod ask;
+mod call;
 mod make;
 mod mend;
 mod reply;
@@ -13,26 +14,18 @@ ghost use Rattle.book.specs.Run.{step_of, limit, Ran};
 ghost use Rattle.run.specs.StepMade.{StepMade};
 
 use crate::ask::make_who;
+use crate::call::{Call, call_of};
 use crate::make::make;
 use crate::mend::make_salvage;
 use crate::reply::{put, put_held};
 use crate::step::{CALL, COUNT, LENGTH, number};
-
-// The two calls whose answers are no single value.
-const WHO_HOLDS: usize = 6;
-
-const SALVAGE: usize = 22;
+use nord::enter::wrong;
 
 // As many steps as there are, and as have room for a reply.
 fn most(steps: &[u32], out: &[u32]) -> usize
     ensures { result ≡ limit steps.now out.now }
 {
-    let a = steps.len() / LENGTH;
-    let b = out.len() / reply::LENGTH;
-    if a < b {
-        return a;
-    }
-    b
+    (steps.len() / LENGTH).min(out.len() / reply::LENGTH)
 }
 
 // The ten numbers of step i.
@@ -59,17 +52,24 @@ fn make_step(
     requires { Known known img.old × (length s.now ≡ 10) × (i * 13 + 13 ≤ length out.old) }
     ensures { StepMade img.old list.old s.now text.now words.now out.old i img.new list.new out.new result }
 {
-    let call = number(s, CALL);
-    if call == WHO_HOLDS {
-        let h = make_who(img, known, number(s, COUNT));
-        return put_held(out, i, h);
+    match call_of(number(s, CALL)) {
+        Some(Call::WhoHolds) => {
+            let h = make_who(img, known, number(s, COUNT));
+            put_held(out, i, h)
+        }
+        Some(Call::Salvage) => {
+            let a = make_salvage(img, list);
+            put(out, i, a)
+        }
+        Some(Call::Valued(call)) => {
+            let a = make(img, known, call, s, text, words);
+            put(out, i, a)
+        }
+        None => {
+            let a = wrong(img, known);
+            put(out, i, a)
+        }
     }
-    if call == SALVAGE {
-        let a = make_salvage(img, list);
-        return put(out, i, a);
-    }
-    let a = make(img, known, s, text, words);
-    put(out, i, a)
 }
 
 // Makes the steps in order, up to the first that is refused: one reply for each, and how many. The first call judges the image; a call
@@ -86,15 +86,12 @@ pub fn run(
 {
     let n = most(steps, out);
     let mut known = false;
-    let mut i = 0;
-    while i < n {
+    for i in 0..n {
         let s = step_part(steps, i);
-        let done = make_step(img, known, s, text, words, list, out, i);
-        i += 1;
-        if !done {
-            return i;
+        if !make_step(img, known, s, text, words, list, out, i) {
+            return i + 1;
         }
         known = true;
     }
-    i
+    n
 }

@@ -18,11 +18,9 @@ fn tell(list: &mut [u32], row: &[u64; 9311], n: usize)
     requires { (4 * n ≤ length list.old) × (n ≤ 9311) × (length row.now ≡ 9311) }
     ensures { list.new ≡ flat (map unpacked (take n row.now)) ++ drop (4 * n) list.old }
 {
-    let mut k: usize = 0;
-    while k < n {
+    for k in 0..n {
         let c = told_at(row, k);
         four(list, LENGTH * k, c.page, c.word, c.old, c.new);
-        k += 1;
     }
 }
 
@@ -30,10 +28,7 @@ fn tell(list: &mut [u32], row: &[u64; 9311], n: usize)
 fn told(a: Answer) -> usize
     ensures { result ≡ (numbers a).value }
 {
-    match a {
-        Answer::Done { value } => value as usize,
-        Answer::Refused { why: _ } => 0,
-    }
+    a.unwrap_or(0) as usize
 }
 
 // Salvages the volume, with room for as many changes as the list has fours.

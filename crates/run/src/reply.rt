@@ -97,11 +97,11 @@ pub(crate) fn put(out: &mut [u32], i: usize, a: Answer) -> bool
     ensures { (out.new ≡ put_reply out.old i (numbers a)) × Decides result ((numbers a).number ≡ 0) }
 {
     match a {
-        Answer::Done { value } => {
+        Ok(value) => {
             put_done(out, i, value);
             true
         }
-        Answer::Refused { why } => {
+        Err(why) => {
             put_refused(out, i, why);
             false
         }
@@ -137,11 +137,11 @@ pub(crate) fn put_held(out: &mut [u32], i: usize, a: Holding) -> bool
     ensures { (out.new ≡ put_reply out.old i (held_reply (holding a))) × Decides result ((holding a).number ≡ 0) }
 {
     match a {
-        Holding::By { holder } => {
+        Ok(holder) => {
             put_holder(out, i, holder);
             true
         }
-        Holding::Refused { why } => {
+        Err(why) => {
             put_refused(out, i, why);
             false
         }

@@ -1,5 +1,6 @@
 // The ten numbers of a step, and the parts of the text and of the words that they name.
-ghost use Rattle.std.specs.Prelude.{◌≡◌, ◌+◌, ◌≤◌, ◌<◌, leb, length, get_or, take, drop};
+ghost use Rattle.std.specs.Prelude.{◌≡◌, ◌+◌, ◌<◌, length, get_or};
+ghost use Rattle.std.specs.Slice.{IsGetRangeResult};
 
 // How many numbers a step has, and the place of each.
 pub(crate) const LENGTH: usize = 10;
@@ -40,28 +41,34 @@ pub(crate) fn created(step: &[u32]) -> u32
     step[CREATED]
 }
 
-// Whether n from `at` on lie in a list of so many.
-pub(crate) fn lies(at: usize, n: usize, room: usize) -> bool
+// The n from `at` on, where they lie in the list.
+fn part<T>(list: &[T], at: usize, n: usize) -> Option<&[T]>
     requires { (at < 4294967296) × (n < 4294967296) }
-    ensures { result ≡ leb (at + n) room }
+    ensures { IsGetRangeResult list.now at (at + n) result }
 {
-    at + n <= room
+    list.get(at..at + n)
 }
 
-// A part of the text.
-pub(crate) fn letters(text: &[u8], at: usize, n: usize) -> &[u8]
-    requires { at + n ≤ length text.now }
-    ensures { result.now ≡ take n (drop at text.now) }
+// The name that a step tells, where it lies in the text.
+pub(crate) fn name<'a>(step: &[u32], text: &'a [u8]) -> Option<&'a [u8]>
+    requires { length step.now ≡ 10 }
+    ensures { IsGetRangeResult text.now (get_or step.now 5 0) (get_or step.now 5 0 + get_or step.now 6 0) result }
 {
-    let e = at + n;
-    &text[at..e]
+    part(text, number(step, NAME), number(step, NAME_LENGTH))
+}
+
+// The type.
+pub(crate) fn kind<'a>(step: &[u32], text: &'a [u8]) -> Option<&'a [u8]>
+    requires { length step.now ≡ 10 }
+    ensures { IsGetRangeResult text.now (get_or step.now 7 0) (get_or step.now 7 0 + get_or step.now 8 0) result }
+{
+    part(text, number(step, TYPE), number(step, TYPE_LENGTH))
 }
 
 // The words of a page.
-pub(crate) fn page_at(words: &[u16], at: usize) -> &[u16]
-    requires { at + 1024 ≤ length words.now }
-    ensures { result.now ≡ take 1024 (drop at words.now) }
+pub(crate) fn page_words<'a>(step: &[u32], words: &'a [u16]) -> Option<&'a [u16]>
+    requires { length step.now ≡ 10 }
+    ensures { IsGetRangeResult words.now (get_or step.now 9 0) (get_or step.now 9 0 + 1024) result }
 {
-    let e = at + page::WORDS;
-    &words[at..e]
+    part(words, number(step, DATA), page::WORDS)
 }
