@@ -3,7 +3,7 @@ ghost use Rattle.std.specs.Prelude.{◌≡◌, length};
 ghost use Rattle.salvage.specs.Row.{row_size};
 ghost use Rattle.edge.specs.Salvages.{Mended, Salvages};
 
-use crate::spell::{Reply, reply_of};
+use crate::spell::Reply;
 use book::Change;
 use salvage::list::fill;
 use salvage::row::no_changes;
@@ -13,7 +13,7 @@ pub fn mended(img: &mut [u16], room: usize, row: &mut [u64; 9311]) -> Reply
     requires { length row.old ≡ row_size }
     ensures { Mended img.old room result img.new row.new }
 {
-    reply_of(salvage::mend(img, room, row))
+    Reply::from(salvage::mend(img, room, row))
 }
 
 // How many changes a reply tells of.

@@ -1,16 +1,14 @@
 // What the calls give back, and how each answer is spelled out in numbers.
-ghost use Rattle.std.specs.Prelude.{◌≡◌};
-ghost use Rattle.book.specs.Answers.{numbers, done_with, refused_with, holding, holder_numbers};
+ghost use Rattle.book.specs.Answers.{numbers, done_with, refused_with, holding};
 ghost use Rattle.book.specs.declared.Holder.TheVariants.{Free};
-ghost use Rattle.sound.specs.Told.{Tells};
-ghost use Rattle.edge.specs.Replied.{Spelled, HeldAs, Placed};
+ghost use Rattle.edge.specs.Replied.{SamePlace, Spelled, HeldAs, Placed};
 
 use book::{Answer, Holder, Holding, Refusal};
 use sound::numbers::{HolderNumbers, broken_of, holder_of, number_of};
 
 // A page, and a word of it.
 #[repr(C)]
-#[derive(Clone, Copy)]
+#[derive(Clone, Copy, Debug, PartialEq, Eq)]
 pub struct Place {
     pub page: u32,
     pub word: u32,
@@ -42,21 +40,20 @@ pub struct HolderReply {
 
 // Words of the image: so many from that word on.
 #[repr(C)]
-#[derive(Clone, Copy)]
+#[derive(Clone, Copy, Debug, PartialEq, Eq)]
 pub struct Part {
     pub offset: usize,
     pub length: usize,
 }
 
-// The numbers of a free page.
-fn free() -> HolderNumbers
-    ensures { Tells result (holder_numbers Free) }
-{
-    HolderNumbers {
-        kind: 0,
-        user: 0,
-        file: 0,
-        position: 0,
+impl From<book::Place> for Place {
+    ghost from_gives = { λ p q. SamePlace p q };
+
+    fn from(place: book::Place) -> Place {
+        Place {
+            page: place.page,
+            word: place.word,
+        }
     }
 }
 
@@ -64,43 +61,44 @@ fn free() -> HolderNumbers
 fn done_of(value: u32) -> Reply
     ensures { Spelled (done_with value) result }
 {
+    let free = holder_of(Holder::Free);
     Reply {
         number: 0,
         rule: 0,
         value,
         place: Place { page: 0, word: 0 },
-        first: free(),
-        second: free(),
+        first: free,
+        second: free,
     }
 }
 
 // The number of a refusal, and with 3 what is broken.
-fn refusal_of(why: Refusal) -> Reply
-    ensures { Spelled (refused_with 0 why) result }
-{
-    let b = broken_of(why);
-    let first = b.first;
-    let second = b.second;
-    Reply {
-        number: number_of(why),
-        rule: b.rule,
-        value: 0,
-        place: Place {
-            page: b.place.page,
-            word: b.place.word,
-        },
-        first: holder_of(first),
-        second: holder_of(second),
+impl From<Refusal> for Reply {
+    ghost from_gives = { λ why r. Spelled (refused_with 0 why) r };
+
+    fn from(why: Refusal) -> Reply {
+        let b = broken_of(why);
+        let first = b.first;
+        let second = b.second;
+        Reply {
+            number: number_of(why),
+            rule: b.rule,
+            value: 0,
+            place: Place::from(b.place),
+            first: holder_of(first),
+            second: holder_of(second),
+        }
     }
 }
 
-// An answer in numbers.
-pub(crate) fn reply_of(a: Answer) -> Reply
-    ensures { Spelled (numbers a) result }
-{
-    match a {
-        Answer::Done { value } => done_of(value),
-        Answer::Refused { why } => refusal_of(why),
+impl From<Answer> for Reply {
+    ghost from_gives = { λ a r. Spelled (numbers a) r };
+
+    fn from(answer: Answer) -> Reply {
+        match answer {
+            Ok(value) => done_of(value),
+            Err(why) => Reply::from(why),
+        }
     }
 }
 
@@ -108,56 +106,66 @@ pub(crate) fn reply_of(a: Answer) -> Reply
 fn held_by(h: Holder) -> HolderReply
     ensures { HeldAs (done_with h) result }
 {
+    let free = holder_of(Holder::Free);
     HolderReply {
         number: 0,
         rule: 0,
         holder: holder_of(h),
         place: Place { page: 0, word: 0 },
-        first: free(),
-        second: free(),
+        first: free,
+        second: free,
     }
 }
 
 // A refusal of who-holds: the holder is all zeros.
-fn no_holder(why: Refusal) -> HolderReply
-    ensures { HeldAs (refused_with Free why) result }
-{
-    let r = refusal_of(why);
-    let place = r.place;
-    let first = r.first;
-    let second = r.second;
-    HolderReply {
-        number: r.number,
-        rule: r.rule,
-        holder: free(),
-        place,
-        first,
-        second,
+impl From<Refusal> for HolderReply {
+    ghost from_gives = { λ why r. HeldAs (refused_with Free why) r };
+
+    fn from(why: Refusal) -> HolderReply {
+        let Reply {
+            number,
+            rule,
+            value: _,
+            place,
+            first,
+            second,
+        } = Reply::from(why);
+        HolderReply {
+            number,
+            rule,
+            holder: holder_of(Holder::Free),
+            place,
+            first,
+            second,
+        }
     }
 }
 
-// The answer of who-holds in numbers.
-pub(crate) fn holding_of(a: Holding) -> HolderReply
-    ensures { HeldAs (holding a) result }
-{
-    match a {
-        Holding::By { holder } => held_by(holder),
-        Holding::Refused { why } => no_holder(why),
+impl From<Holding> for HolderReply {
+    ghost from_gives = { λ a r. HeldAs (holding a) r };
+
+    fn from(holding: Holding) -> HolderReply {
+        match holding {
+            Ok(holder) => held_by(holder),
+            Err(why) => HolderReply::from(why),
+        }
     }
 }
 
 // The words of the page that the address call gives, or none.
-pub(crate) fn part_of(a: Answer) -> Part
-    ensures { Placed (numbers a) result }
-{
-    match a {
-        Answer::Done { value } => Part {
-            offset: 1024 * (value as usize),
-            length: 1024,
-        },
-        Answer::Refused { why: _ } => Part {
-            offset: 0,
-            length: 0,
-        },
+impl From<Answer> for Part {
+    ghost from_gives = { λ a r. Placed (numbers a) r };
+
+    fn from(address: Answer) -> Part {
+        match address {
+            Ok(value) => Part {
+                offset: 1024 * (value as usize),
+                length: 1024,
+            },
+            Err(_) => Part {
+                offset: 0,
+                length: 0,
+            },
+        }
     }
 }

@@ -1,5 +1,0 @@
-use Rattle.edge.proofs.Replies.{replied}
-use Rattle.edge.proofs.ask.nord_find_file.Goals as goal
-
-pub returns : goal.returns
-returns c = replied _ _ _ _ _ c.find_file.ensures c.reply_of.ensures
