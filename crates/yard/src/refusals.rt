@@ -1,6 +1,4 @@
 // A case for each refusal number, on a disk of 16 pages; each leaves the volume as sound as it was.
-ghost use Rattle.std.specs.Prelude.{◌≡◌, length};
-
 use crate::say::{case, done, refused};
 use edge::ask::{nord_check, nord_find_file, nord_find_user, nord_who_holds};
 use edge::change::{
@@ -37,38 +35,38 @@ pub fn numbers(rt: &impl Print, img: &mut [u16]) -> io::Result<()> {
 fn asked(rt: &impl Print, img: &[u16]) -> io::Result<()> {
     case(
         rt,
-        b"2: a name in small letters",
+        "2: a name in small letters",
         refused(nord_find_user(img, b"dock"), 2),
     )?;
-    case(rt, b"2: page 16 of 16", nord_who_holds(img, 16).number == 2)?;
+    case(rt, "2: page 16 of 16", nord_who_holds(img, 16).number == 2)?;
     case(
         rt,
-        b"4: no such user",
+        "4: no such user",
         refused(nord_find_user(img, b"WAND"), 4),
     )?;
     case(
         rt,
-        b"4: no such file",
+        "4: no such file",
         refused(nord_find_file(img, 0, b"READS", b"DATA"), 4),
     )
 }
 
 // 2.
 fn arguments(rt: &impl Print, img: &mut [u16]) -> io::Result<()> {
-    case(rt, b"2: user 256", refused(nord_grow(img, 256, 0), 2))?;
-    case(rt, b"2: no page to give", refused(nord_give(img, 0, 0), 2))
+    case(rt, "2: user 256", refused(nord_grow(img, 256, 0), 2))?;
+    case(rt, "2: no page to give", refused(nord_give(img, 0, 0), 2))
 }
 
 // 5, of users, and a file.
 fn names(rt: &impl Print, img: &mut [u16]) -> io::Result<()> {
     case(
         rt,
-        b"5: the user's name is taken",
+        "5: the user's name is taken",
         refused(nord_create_user(img, b"DOCK"), 5),
     )?;
     case(
         rt,
-        b"a file",
+        "a file",
         done(nord_create_indexed(img, 0, b"READS", b"DATA", 0), 0),
     )
 }
@@ -77,12 +75,12 @@ fn names(rt: &impl Print, img: &mut [u16]) -> io::Result<()> {
 fn types(rt: &impl Print, img: &mut [u16]) -> io::Result<()> {
     case(
         rt,
-        b"5: the file's name is taken",
+        "5: the file's name is taken",
         refused(nord_create_indexed(img, 0, b"READS", b"DATA", 0), 5),
     )?;
     case(
         rt,
-        b"another type is another file",
+        "another type is another file",
         done(nord_create_indexed(img, 0, b"READS", b"", 0), 1),
     )
 }
@@ -91,12 +89,12 @@ fn types(rt: &impl Print, img: &mut [u16]) -> io::Result<()> {
 fn kinds(rt: &impl Print, img: &mut [u16]) -> io::Result<()> {
     case(
         rt,
-        b"6: shrink of an empty file",
+        "6: shrink of an empty file",
         refused(nord_shrink(img, 0, 0), 6),
     )?;
     case(
         rt,
-        b"7: the user has a file",
+        "7: the user has a file",
         refused(nord_delete_user(img, 0), 7),
     )
 }
@@ -105,12 +103,12 @@ fn kinds(rt: &impl Print, img: &mut [u16]) -> io::Result<()> {
 fn allowance(rt: &impl Print, img: &mut [u16]) -> io::Result<()> {
     case(
         rt,
-        b"9: nine pages of eight",
+        "9: nine pages of eight",
         refused(nord_create_contiguous(img, 0, b"RUN", b"", 0, 9), 9),
     )?;
     case(
         rt,
-        b"9: take back nine of eight",
+        "9: take back nine of eight",
         refused(nord_take(img, 0, 9), 9),
     )
 }
@@ -119,12 +117,12 @@ fn allowance(rt: &impl Print, img: &mut [u16]) -> io::Result<()> {
 fn room(rt: &impl Print, img: &mut [u16]) -> io::Result<()> {
     case(
         rt,
-        b"10: give three of two",
+        "10: give three of two",
         refused(nord_give(img, 0, 3), 10),
     )?;
     case(
         rt,
-        b"11: no eight in a row",
+        "11: no eight in a row",
         refused(nord_create_contiguous(img, 0, b"RUN", b"", 0, 8), 11),
     )
 }
@@ -133,12 +131,12 @@ fn room(rt: &impl Print, img: &mut [u16]) -> io::Result<()> {
 fn run(rt: &impl Print, img: &mut [u16]) -> io::Result<()> {
     case(
         rt,
-        b"seven in a row",
+        "seven in a row",
         done(nord_create_contiguous(img, 0, b"RUN", b"", 0, 7), 2),
     )?;
     case(
         rt,
-        b"6: grow of a contiguous file",
+        "6: grow of a contiguous file",
         refused(nord_grow(img, 0, 2), 6),
     )
 }
@@ -147,22 +145,22 @@ fn run(rt: &impl Print, img: &mut [u16]) -> io::Result<()> {
 fn fills(rt: &impl Print, img: &mut [u16]) -> io::Result<()> {
     case(
         rt,
-        b"12: names end in an apostrophe",
+        "12: names end in an apostrophe",
         refused(nord_convert_to_apostrophe(img), 12),
     )?;
-    case(rt, b"to zeros", done(nord_convert_to_zeros(img), 0))
+    case(rt, "to zeros", done(nord_convert_to_zeros(img), 0))
 }
 
 // And back.
 fn back(rt: &impl Print, img: &mut [u16]) -> io::Result<()> {
     case(
         rt,
-        b"12: names end in zeros",
+        "12: names end in zeros",
         refused(nord_convert_to_zeros(img), 12),
     )?;
     case(
         rt,
-        b"back to apostrophes",
+        "back to apostrophes",
         done(nord_convert_to_apostrophe(img), 0),
     )
 }
@@ -171,10 +169,10 @@ fn back(rt: &impl Print, img: &mut [u16]) -> io::Result<()> {
 fn filled(rt: &impl Print, img: &mut [u16]) -> io::Result<()> {
     case(
         rt,
-        b"9: grow needs two of one",
+        "9: grow needs two of one",
         refused(nord_grow(img, 0, 0), 9),
     )?;
-    case(rt, b"sound after all that", done(nord_check(img), 13))
+    case(rt, "sound after all that", done(nord_check(img), 13))
 }
 
 // Number 8: 256 users, and one more.
@@ -185,31 +183,27 @@ pub fn all_users(rt: &impl Print, img: &mut [u16]) -> io::Result<()> {
 }
 
 fn full(rt: &impl Print, img: &mut [u16]) -> io::Result<()> {
-    case(rt, b"256 users", done(nord_find_user(img, b"255"), 255))?;
+    case(rt, "256 users", done(nord_find_user(img, b"255"), 255))?;
     case(
         rt,
-        b"8: one more",
+        "8: one more",
         refused(nord_create_user(img, b"ONE-MORE"), 8),
     )
 }
 
 // Creates the users 000 to 255.
 fn fill(img: &mut [u16]) {
-    let mut i: u16 = 0;
-    while i < 256 {
+    for i in 0..256 {
         nord_create_user(img, &digits(i));
-        i += 1;
     }
 }
 
 // A number below 1,000 as a name of three digits.
-fn digits(n: u16) -> [u8; 3]
-    ensures { 3 ≡ length result }
-{
+fn digits(n: u16) -> [u8; 3] {
     [digit(n / 100), digit(n / 10), digit(n)]
 }
 
 // The last digit of a number.
 fn digit(n: u16) -> u8 {
-    48 + (n % 10) as u8
+    b'0' + (n % 10) as u8
 }

@@ -14,7 +14,7 @@ pub fn breaks(img: &mut [u16], p: u16, k: u16, x: u16, rule: u32, first: u32) ->
     put(img, p, k, x);
     let r = nord_check(img);
     put(img, p, k, was);
-    broken(r, rule, p as u32, first) && held(r, 0, 0)
+    broken(r, rule, u32::from(p), first) && held(r, 0, 0)
 }
 
 // Whether check gives rule 8, page 4 and its two holders, object page 0 and data page 0 of the file, with slot 0 of the file's index block set to 4.
@@ -34,37 +34,37 @@ pub fn rules(rt: &impl Print, img: &mut [u16]) -> io::Result<()> {
     entries(rt, img)?;
     files(rt, img)?;
     counts(rt, img)?;
-    sound(rt, img, b"sound again")?;
+    sound(rt, img, "sound again")?;
     stale(rt, img)?;
     mends(rt, img)?;
-    sound(rt, img, b"sound after salvage")
+    sound(rt, img, "sound after salvage")
 }
 
 fn one_page(rt: &impl Print, img: &mut [u16]) -> io::Result<()> {
     nord_create_indexed(img, 0, b"READS", b"DATA", 0);
-    case(rt, b"one file, one page", done(nord_grow(img, 0, 0), 5))?;
-    case(rt, b"sound: 8 pages", done(nord_check(img), 8))
+    case(rt, "one file, one page", done(nord_grow(img, 0, 0), 5))?;
+    case(rt, "sound: 8 pages", done(nord_check(img), 8))
 }
 
 fn heads(rt: &impl Print, img: &mut [u16]) -> io::Result<()> {
     case(
         rt,
-        b"rule 1: a name with a gap",
+        "rule 1: a name with a gap",
         breaks(img, 0, 1008, 89, 1, 1008),
     )?;
     case(
         rt,
-        b"rule 1: bit page 16 of 16",
+        "rule 1: bit page 16 of 16",
         breaks(img, 0, 1021, 16, 1, 1020),
     )?;
     case(
         rt,
-        b"rule 2: both flags",
+        "rule 2: both flags",
         breaks(img, 0, 1018, 49152, 2, 1018),
     )?;
     case(
         rt,
-        b"rule 2: no object pointer",
+        "rule 2: no object pointer",
         breaks(img, 0, 1016, 0, 2, 1016),
     )
 }
@@ -72,22 +72,18 @@ fn heads(rt: &impl Print, img: &mut [u16]) -> io::Result<()> {
 fn entries(rt: &impl Print, img: &mut [u16]) -> io::Result<()> {
     case(
         rt,
-        b"rule 3: slot 8 of the user index",
+        "rule 3: slot 8 of the user index",
         breaks(img, 1, 17, 9, 3, 16),
     )?;
     case(
         rt,
-        b"rule 4: not his own index",
+        "rule 4: not his own index",
         breaks(img, 2, 18, 1, 4, 18),
     )?;
+    case(rt, "rule 4: used above given", breaks(img, 2, 17, 9, 4, 16))?;
     case(
         rt,
-        b"rule 4: used above given",
-        breaks(img, 2, 17, 9, 4, 16),
-    )?;
-    case(
-        rt,
-        b"rule 5: object page 16 of 16",
+        "rule 5: object page 16 of 16",
         breaks(img, 3, 1, 16, 5, 0),
     )
 }
@@ -95,47 +91,43 @@ fn entries(rt: &impl Print, img: &mut [u16]) -> io::Result<()> {
 fn files(rt: &impl Print, img: &mut [u16]) -> io::Result<()> {
     case(
         rt,
-        b"rule 6: another entry number",
+        "rule 6: another entry number",
         breaks(img, 4, 17, 1, 6, 17),
     )?;
     case(
         rt,
-        b"rule 6: a type in small letters",
+        "rule 6: a type in small letters",
         breaks(img, 4, 9, 25697, 6, 9),
     )?;
     case(
         rt,
-        b"rule 7: a slot past the last page",
+        "rule 7: a slot past the last page",
         breaks(img, 6, 3, 7, 7, 2),
     )?;
     case(
         rt,
-        b"rule 7: bytes of two pages",
+        "rule 7: bytes of two pages",
         breaks(img, 4, 29, 4096, 7, 28),
     )?;
-    case(rt, b"rule 8: the object page is a file's page", shares(img))
+    case(rt, "rule 8: the object page is a file's page", shares(img))
 }
 
 fn counts(rt: &impl Print, img: &mut [u16]) -> io::Result<()> {
     case(
         rt,
-        b"rule 9: a free page's bit",
+        "rule 9: a free page's bit",
         breaks(img, 8, 0, 895, 9, 0),
     )?;
     case(
         rt,
-        b"rule 9: a held page's bit",
+        "rule 9: a held page's bit",
         breaks(img, 8, 0, 375, 9, 0),
     )?;
-    case(rt, b"rule 10: used count", breaks(img, 2, 17, 3, 10, 16))?;
-    case(
-        rt,
-        b"rule 10: unreserved",
-        breaks(img, 0, 1023, 3, 10, 1022),
-    )
+    case(rt, "rule 10: used count", breaks(img, 2, 17, 3, 10, 16))?;
+    case(rt, "rule 10: unreserved", breaks(img, 0, 1023, 3, 10, 1022))
 }
 
-fn sound(rt: &impl Print, img: &[u16], name: &[u8]) -> io::Result<()> {
+fn sound(rt: &impl Print, img: &[u16], name: &str) -> io::Result<()> {
     case(rt, name, done(nord_check(img), 8))
 }
 
@@ -156,16 +148,12 @@ fn overdrawn(img: &mut [u16]) -> bool {
 // A used count of 3 for 2: no room for the change, then pages given that are too few.
 fn stale(rt: &impl Print, img: &mut [u16]) -> io::Result<()> {
     put(img, 2, 17, 3);
-    case(
-        rt,
-        b"14: no room for a change",
-        refused(salvage(img, 0), 14),
-    )?;
-    case(rt, b"13: holds two, was given one", overdrawn(img))
+    case(rt, "14: no room for a change", refused(salvage(img, 0), 14))?;
+    case(rt, "13: holds two, was given one", overdrawn(img))
 }
 
 // With room the count is mended, and a second salvage has nothing to do.
 fn mends(rt: &impl Print, img: &mut [u16]) -> io::Result<()> {
-    case(rt, b"salvage: the used count", done(salvage(img, 1), 1))?;
-    case(rt, b"salvage: nothing to mend", done(salvage(img, 0), 0))
+    case(rt, "salvage: the used count", done(salvage(img, 1), 1))?;
+    case(rt, "salvage: nothing to mend", done(salvage(img, 0), 0))
 }

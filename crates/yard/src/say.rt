@@ -3,22 +3,17 @@ use edge::spell::Reply;
 use std::io;
 
 // The words of a page.
-const WORDS: usize = 1024;
+pub const WORDS: usize = 1024;
 
 // A line for a case: its name, after `ok` or `WRONG`.
-pub fn case(rt: &impl Print, name: &[u8], ok: bool) -> io::Result<()> {
-    if ok {
-        rt.write_all(b"ok    ")?;
-    } else {
-        rt.write_all(b"WRONG ")?;
-    }
-    rt.write_all(name)?;
-    rt.write_all(b"\n")
+pub fn case(rt: &impl Print, name: &str, ok: bool) -> io::Result<()> {
+    let word = if ok { "ok" } else { "WRONG" };
+    println!(rt; "{word:<5} {name}")
 }
 
 // The last line: all cases were run.
 pub fn end(rt: &impl Print) -> io::Result<()> {
-    rt.write_all(b"end\n")
+    println!(rt; "end")
 }
 
 // Whether these three are zeros.
@@ -28,10 +23,9 @@ fn zeros(user: u32, file: u32, position: u32) -> bool {
 
 // Whether two holders of these kinds are told, each at position 0 of user 0 and file 0.
 pub fn held(r: Reply, first: u32, second: u32) -> bool {
-    if r.first.kind != first || r.second.kind != second {
-        return false;
-    }
-    zeros(r.first.user, r.first.file, r.first.position)
+    r.first.kind == first
+        && r.second.kind == second
+        && zeros(r.first.user, r.first.file, r.first.position)
         && zeros(r.second.user, r.second.file, r.second.position)
 }
 
@@ -57,30 +51,22 @@ pub fn broken(r: Reply, rule: u32, page: u32, word: u32) -> bool {
 
 // Where word k of page p lies.
 fn place(p: u16, k: u16) -> usize {
-    WORDS * (p as usize) + (k as usize)
+    WORDS * usize::from(p) + usize::from(k)
 }
 
 // Word k of page p; 0 past the end.
 pub fn word(img: &[u16], p: u16, k: u16) -> u16 {
-    let i = place(p, k);
-    if i < img.len() {
-        return img[i];
-    }
-    0
+    img.get(place(p, k)).copied().unwrap_or(0)
 }
 
 // Whether the two-word number at word k of page p is x.
 pub fn two(img: &[u16], p: u16, k: u16, x: u16) -> bool {
-    if 1022 < k {
-        return false;
-    }
-    word(img, p, k) == 0 && word(img, p, k + 1) == x
+    k <= 1022 && word(img, p, k) == 0 && word(img, p, k + 1) == x
 }
 
 // Word k of page p becomes x; past the end nothing does.
 pub fn put(img: &mut [u16], p: u16, k: u16, x: u16) {
-    let i = place(p, k);
-    if i < img.len() {
-        img[i] = x;
+    if let Some(word) = img.get_mut(place(p, k)) {
+        *word = x;
     }
 }
