@@ -64,7 +64,7 @@ module _ {img : List ℕ} {u f : ℕ} {h : Head} (a : FileHead img u f h) where
   e = file_entry u f
 
   abbrev r : Root
-  r = root_by h.flags h.top h.count
+  r = root_by h.pointer.flags h.pointer.page h.count
 
   G : Good P v (λ p. 0)
   G = good P v a.ready.sound
@@ -130,16 +130,16 @@ module _ {img : List ℕ} {u f : ℕ} {h : Head} (a : FileHead img u f h) where
         at = ap (λ (x : Vol). page (x 0) bit_pointer) i ∙ page-ext (w 0) (v 0) bit_pointer (master _) (master _) ∙ a.head.bits_at.at;
       }
 
-      pub erased-apart : RootApart (pages img') (vol img') h.bits h.flags h.top h.count
-      erased-apart = subst₂ (λ (N : ℕ) (x : Vol). RootApart N x h.bits h.flags h.top h.count) (sym same) (sym i) record {
-        known = shape-known P v h.flags h.top h.count (file-shape a);
-        below = below-frame P v w C agree r quiet (below-shape P v h.flags h.top h.count (file-shape a));
+      pub erased-apart : RootApart (pages img') (vol img') h.bits h.pointer.flags h.pointer.page h.count
+      erased-apart = subst₂ (λ (N : ℕ) (x : Vol). RootApart N x h.bits h.pointer.flags h.pointer.page h.count) (sym same) (sym i) record {
+        known = shape-known P v h.pointer.flags h.pointer.page h.count (file-shape a);
+        below = below-frame P v w C agree r quiet (below-shape P v h.pointer.flags h.pointer.page h.count (file-shape a));
         apart = blocks_r-frame v w C agree r quiet (bit_hits P h.bits) ∙ unheld-bits;
-        start = shape-start P v h.flags h.top h.count (file-shape a);
+        start = shape-start P v h.pointer.flags h.pointer.page h.count (file-shape a);
       }
 
       -- and then all its pages are freed
-      pub delete-is : y ≡ h.used - held_by h.flags h.count → (x : Vol) → x ≡ freed (pages img') (vol img') (λ p. weigh_r (vol img') r (hit p)) → x ≡ delete_file P v u f
+      pub delete-is : y ≡ h.used - held_by h.pointer.flags h.count → (x : Vol) → x ≡ freed (pages img') (vol img') (λ p. weigh_r (vol img') r (hit p)) → x ≡ delete_file P v u f
       unfolding delete_file
       delete-is ey x ex =
           ex ∙ ap₂ (λ (N : ℕ) (z : Vol). freed N z (λ p. weigh_r z r (hit p))) same i

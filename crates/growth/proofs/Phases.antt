@@ -147,10 +147,10 @@ module _ {img : List ℕ} {u f : ℕ} {h : Head} (g : Growing img u f h) where
   count-is = g.at.head.length
 
   module _ (w : Vol) (T : Still P v w) where
-    flags-is : flags (object w e) 30 ≡ h.flags
+    flags-is : flags (object w e) 30 ≡ h.pointer.flags
     flags-is = ap (λ (O : Table). flags (O e) 30) T.objects ∙ sym g.at.head.kind
 
-    top-is : page (object w e) 30 ≡ h.top
+    top-is : page (object w e) 30 ≡ h.pointer.page
     top-is = ap (λ (O : Table). page (O e) 30) T.objects ∙ sym g.at.head.top_at
 
     pages-is : page_count (object w e) ≡ h.count
@@ -167,18 +167,18 @@ module _ {img : List ℕ} {u f : ℕ} {h : Head} (g : Growing img u f h) where
   abbrev C : ℕ → ℕ
   C q = hit (bit_page P v d) q + hit d q
 
-  quiet : weigh_r v (root_by h.flags h.top h.count) C ≡ 0
+  quiet : weigh_r v (root_by h.pointer.flags h.pointer.page h.count) C ≡ 0
   quiet = ap (λ (r : Root). weigh_r v r C) (sym (file-root g.at))
       ∙ q-file v v₁ (claim-roots data-free) C (claim-none data-free) (claim-agree data-free) (claim-quiet data-free) u f g.at.user g.at.file
 
-  index_kept : (m : ℕ) → index_of v₁ h.flags h.top m ≡ index_of v h.flags h.top m
+  index_kept : (m : ℕ) → index_of v₁ h.pointer.flags h.pointer.page m ≡ index_of v h.pointer.flags h.pointer.page m
   unfolding index_of root_by weigh_r weigh Agree Shape
-  index_kept m = go h.flags quiet (file-shape g.at)
+  index_kept m = go h.pointer.flags quiet (file-shape g.at)
     where
-      go : (x : ℕ) → weigh_r v (root_by x h.top h.count) C ≡ 0 → Shape P v x h.top h.count → index_of v₁ x h.top m ≡ index_of v x h.top m
+      go : (x : ℕ) → weigh_r v (root_by x h.pointer.page h.count) C ≡ 0 → Shape P v x h.pointer.page h.count → index_of v₁ x h.pointer.page m ≡ index_of v x h.pointer.page m
       go zero q s = refl
       go (suc zero) q s = refl
-      go (suc (suc zero)) q s = slot_same v v₁ h.top (claim-agree data-free h.top (omega (arith, q))) (m / 512)
+      go (suc (suc zero)) q s = slot_same v v₁ h.pointer.page (claim-agree data-free h.pointer.page (omega (arith, q))) (m / 512)
       go (suc (suc (suc x))) q s = absurd s
 
   -- ---- the phases
@@ -197,22 +197,22 @@ module _ {img : List ℕ} {u f : ℕ} {h : Head} (g : Growing img u f h) where
   Grown p r w = (r ≡ lowest_free P v) × (r < P) × (w ≡ grow_to (lowest_free P) P v u f p)
 
   module _ (d' : ℕ) (w₁ : Vol) (t₁ : Took P v d' w₁) where
-    pub onward-is : (i : ℕ) (w₂ w₃ : Vol) → i ≡ index_of v h.flags h.top h.count → w₂ ≡ set_slot w₁ i (h.count % 512) d'
-        → w₃ ≡ finish w₂ h.owner h.entry u e (h.count + 1) (pointer h.flags h.top) (h.used + 1) → Grown onward d' w₃
+    pub onward-is : (i : ℕ) (w₂ w₃ : Vol) → i ≡ index_of v h.pointer.flags h.pointer.page h.count → w₂ ≡ set_slot w₁ i (h.count % 512) d'
+        → w₃ ≡ finish w₂ h.owner h.entry u e (h.count + 1) (pointer h.pointer.flags h.pointer.page) (h.used + 1) → Grown onward d' w₃
     unfolding grow_to
     onward-is i w₂ w₃ ei e₂ e₃ = (
       t₁.0,
       t₁.1,
-      e₃ ∙ ap (λ (x : Vol). finish x h.owner h.entry u e (h.count + 1) (pointer h.flags h.top) (h.used + 1)) slots
-          ∙ ap (λ (k : ℕ). finish (set_slot v₁ (index_of v₁ h.flags h.top h.count) (h.count % 512) d) h.owner h.entry u e k (pointer h.flags h.top) (h.used + 1)) (add-one h.count)
+      e₃ ∙ ap (λ (x : Vol). finish x h.owner h.entry u e (h.count + 1) (pointer h.pointer.flags h.pointer.page) (h.used + 1)) slots
+          ∙ ap (λ (k : ℕ). finish (set_slot v₁ (index_of v₁ h.pointer.flags h.pointer.page h.count) (h.count % 512) d) h.owner h.entry u e k (pointer h.pointer.flags h.pointer.page) (h.used + 1)) (add-one h.count)
           ∙ sym (entered-is v₁ still₁ _ _ _ _ ∙ ap₂ (λ (x t : ℕ). F x t (page_count (object v₁ e)) (used_pages (user v₁) u)) (flags-is v₁ still₁) (top-is v₁ still₁)
-          ∙ ap₂ (λ (m y : ℕ). F h.flags h.top m y) (pages-is v₁ still₁) (used-is v₁ still₁)),
+          ∙ ap₂ (λ (m y : ℕ). F h.pointer.flags h.pointer.page m y) (pages-is v₁ still₁) (used-is v₁ still₁)),
     )
       where
         F : ℕ → ℕ → ℕ → ℕ → Vol
         F x t m y = finish (set_slot v₁ (index_of v₁ x t m) (m % 512) d) h.owner h.entry u e (suc m) (pointer x t) (y + 1)
 
-        slots : w₂ ≡ set_slot v₁ (index_of v₁ h.flags h.top h.count) (h.count % 512) d
+        slots : w₂ ≡ set_slot v₁ (index_of v₁ h.pointer.flags h.pointer.page h.count) (h.count % 512) d
         slots = e₂ ∙ ap₂ (λ (x : Vol) (y : ℕ). set_slot x i (h.count % 512) y) (took₁ d' w₁ t₁) t₁.0 ∙ ap (λ (j : ℕ). set_slot v₁ j (h.count % 512) d) (ei ∙ sym (index_kept h.count))
 
     -- with an index block
@@ -237,15 +237,15 @@ module _ {img : List ℕ} {u f : ℕ} {h : Head} (g : Growing img u f h) where
           T : Still P v v₂
           T = still₂ (need-first z)
 
-      pub block-is : h.count % 512 ≡ 0 → 512 < h.count → (w₃ w₄ w₅ : Vol) → w₃ ≡ set_slot w₂ h.top (h.count / 512) b' → w₄ ≡ set_slot w₃ b' 0 d'
-          → w₅ ≡ finish w₄ h.owner h.entry u e (h.count + 1) (pointer 2 h.top) (h.used + 2) → Grown block d' w₅
+      pub block-is : h.count % 512 ≡ 0 → 512 < h.count → (w₃ w₄ w₅ : Vol) → w₃ ≡ set_slot w₂ h.pointer.page (h.count / 512) b' → w₄ ≡ set_slot w₃ b' 0 d'
+          → w₅ ≡ finish w₄ h.owner h.entry u e (h.count + 1) (pointer 2 h.pointer.page) (h.used + 2) → Grown block d' w₅
       unfolding grow_to
       block-is z i w₃ w₄ w₅ e₃ e₄ e₅ = (
         t₁.0,
         t₁.1,
         e₅
-            ∙ ap (λ (x : Vol). finish x h.owner h.entry u e (h.count + 1) (pointer 2 h.top) (h.used + 2)) slots
-            ∙ ap (λ (k : ℕ). finish (set_slot (set_slot v₂ h.top (h.count / 512) b) b 0 d) h.owner h.entry u e k (pointer 2 h.top) (h.used + 2)) (add-one h.count)
+            ∙ ap (λ (x : Vol). finish x h.owner h.entry u e (h.count + 1) (pointer 2 h.pointer.page) (h.used + 2)) slots
+            ∙ ap (λ (k : ℕ). finish (set_slot (set_slot v₂ h.pointer.page (h.count / 512) b) b 0 d) h.owner h.entry u e k (pointer 2 h.pointer.page) (h.used + 2)) (add-one h.count)
             ∙ sym (entered-is v₂ T _ _ _ _ ∙ ap₂ (λ (m y : ℕ). F (page (object v₂ e) 30) m y) (pages-is v₂ T) (used-is v₂ T) ∙ ap (λ (t : ℕ). F t h.count h.used) (top-is v₂ T)),
       )
         where
@@ -255,13 +255,13 @@ module _ {img : List ℕ} {u f : ℕ} {h : Head} (g : Growing img u f h) where
           F : ℕ → ℕ → ℕ → Vol
           F t m y = finish (set_slot (set_slot v₂ t (m / 512) b) b 0 d) h.owner h.entry u e (suc m) (pointer 2 t) (y + 2)
 
-          slots : w₄ ≡ set_slot (set_slot v₂ h.top (h.count / 512) b) b 0 d
-          slots = e₄ ∙ ap₂ (λ (x : Vol) (y : ℕ). set_slot x b' 0 y) (e₃ ∙ ap (λ (x : Vol). set_slot x h.top (h.count / 512) b') e₂) t₁.0
-              ∙ ap (λ (y : ℕ). set_slot (set_slot v₂ h.top (h.count / 512) y) y 0 d) eb
+          slots : w₄ ≡ set_slot (set_slot v₂ h.pointer.page (h.count / 512) b) b 0 d
+          slots = e₄ ∙ ap₂ (λ (x : Vol) (y : ℕ). set_slot x b' 0 y) (e₃ ∙ ap (λ (x : Vol). set_slot x h.pointer.page (h.count / 512) b') e₂) t₁.0
+              ∙ ap (λ (y : ℕ). set_slot (set_slot v₂ h.pointer.page (h.count / 512) y) y 0 d) eb
 
       -- and a subindex block
       module _ (s' R : ℕ) (w₃ : Vol) (r : R ≡ P) (t₃ : Took R w₂ s' w₃) where
-        pub raise-is : h.count ≡ 512 → (w₄ w₅ w₆ w₇ : Vol) → w₄ ≡ set_slot w₃ s' 0 h.top → w₅ ≡ set_slot w₄ s' 1 b' → w₆ ≡ set_slot w₅ b' 0 d'
+        pub raise-is : h.count ≡ 512 → (w₄ w₅ w₆ w₇ : Vol) → w₄ ≡ set_slot w₃ s' 0 h.pointer.page → w₅ ≡ set_slot w₄ s' 1 b' → w₆ ≡ set_slot w₅ b' 0 d'
             → w₇ ≡ finish w₆ h.owner h.entry u e 513 (pointer 2 s') (h.used + 3) → Grown raise d' w₇
         unfolding grow_to
         raise-is z w₄ w₅ w₆ w₇ e₄ e₅ e₆ e₇ = (
@@ -269,7 +269,7 @@ module _ {img : List ℕ} {u f : ℕ} {h : Head} (g : Growing img u f h) where
           t₁.1,
           e₇
               ∙ ap (λ (x : Vol). finish x h.owner h.entry u e 513 (pointer 2 s') (h.used + 3)) slots
-              ∙ ap (λ (y : ℕ). finish (F y h.top) h.owner h.entry u e 513 (pointer 2 y) (h.used + 3)) es
+              ∙ ap (λ (y : ℕ). finish (F y h.pointer.page) h.owner h.entry u e 513 (pointer 2 y) (h.used + 3)) es
               ∙ sym (entered-is v₃ T _ _ _ _ ∙ ap₂ (λ (t y : ℕ). finish (F s t) h.owner h.entry u e 513 (pointer 2 s) (y + 3)) (top-is v₃ T) (used-is v₃ T)),
         )
           where
@@ -282,10 +282,10 @@ module _ {img : List ℕ} {u f : ℕ} {h : Head} (g : Growing img u f h) where
             es : s' ≡ s
             es = (took₃ d' b' s' Q R w₁ w₂ w₃ t₁ q t₂ r t₃).0
 
-            slots : w₆ ≡ F s' h.top
+            slots : w₆ ≡ F s' h.pointer.page
             slots = e₆
-                ∙ ap₂ (λ (x : Vol) (y : ℕ). set_slot x b' 0 y) (e₅ ∙ ap (λ (x : Vol). set_slot x s' 1 b') (e₄ ∙ ap (λ (x : Vol). set_slot x s' 0 h.top) (took₃ d' b' s' Q R w₁ w₂ w₃ t₁ q t₂ r t₃).1)) t₁.0
-                ∙ ap (λ (y : ℕ). set_slot (set_slot (set_slot v₃ s' 0 h.top) s' 1 y) y 0 d) eb
+                ∙ ap₂ (λ (x : Vol) (y : ℕ). set_slot x b' 0 y) (e₅ ∙ ap (λ (x : Vol). set_slot x s' 1 b') (e₄ ∙ ap (λ (x : Vol). set_slot x s' 0 h.pointer.page) (took₃ d' b' s' Q R w₁ w₂ w₃ t₁ q t₂ r t₃).1)) t₁.0
+                ∙ ap (λ (y : ℕ). set_slot (set_slot (set_slot v₃ s' 0 h.pointer.page) s' 1 y) y 0 d) eb
 
   -- ---- by the number of pages
 

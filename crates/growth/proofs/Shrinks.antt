@@ -38,14 +38,14 @@ module _ {img : List ℕ} {u f : ℕ} {h : Head} (g : Shrinking img u f h) where
   e = file_entry u f
 
   abbrev t : ℕ
-  t = h.top
+  t = h.pointer.page
 
   abbrev last : ℕ
   last = h.count - 1
 
   -- ---- what the book reads is what the head says
 
-  kept : h.flags ≡ flags (object v e) 30
+  kept : h.pointer.flags ≡ flags (object v e) 30
   kept = g.at.head.kind
 
   pub some : 0 < h.count
@@ -87,7 +87,7 @@ module _ {img : List ℕ} {u f : ℕ} {h : Head} (g : Shrinking img u f h) where
   pub last-small : last < 262144
   last-small = omega (arith, file-count-lt g.at, g.at.ready.whole.most)
 
-  pub back-lt : (i d : ℕ) → i ≡ index_of v h.flags t last → d ≡ slot v i (last % 512) → (i < P) × (d < P)
+  pub back-lt : (i d : ℕ) → i ≡ index_of v h.pointer.flags t last → d ≡ slot v i (last % 512) → (i < P) × (d < P)
   back-lt i d ei ed = (
     omega (arith, file-index-lt g.at g.kind.0 some last last-small),
     omega (arith, file-page-lt g.at g.kind.0 some last last-small, ap (λ (j : ℕ). slot v j (last % 512)) ei),
@@ -106,21 +106,21 @@ module _ {img : List ℕ} {u f : ℕ} {h : Head} (g : Shrinking img u f h) where
 
   -- ---- the phases
 
-  pub back_is : (i d : ℕ) (w₁ w₂ w₃ : Vol) → i ≡ index_of v h.flags t last → d ≡ slot v i (last % 512) → w₁ ≡ set_slot v i (last % 512) 0
-      → w₂ ≡ enters w₁ last (pointer h.flags t) (h.used - 1) → Freed h.bits w₂ d w₃ → w₃ ≡ shrink_to P v u f onward
+  pub back_is : (i d : ℕ) (w₁ w₂ w₃ : Vol) → i ≡ index_of v h.pointer.flags t last → d ≡ slot v i (last % 512) → w₁ ≡ set_slot v i (last % 512) 0
+      → w₂ ≡ enters w₁ last (pointer h.pointer.flags t) (h.used - 1) → Freed h.bits w₂ d w₃ → w₃ ≡ shrink_to P v u f onward
   unfolding shrink_to
   back_is i d w₁ w₂ w₃ ei ed e₁ e₂ F =
-      (one-freed w₂ w₃ z d (slot v I (last % 512)) (e₂ ∙ ap (λ (x : Vol). enters x last (pointer h.flags t) (h.used - 1)) (e₁ ∙ ap (λ (j : ℕ). set_slot v j (last % 512) 0) ei))
+      (one-freed w₂ w₃ z d (slot v I (last % 512)) (e₂ ∙ ap (λ (x : Vol). enters x last (pointer h.pointer.flags t) (h.used - 1)) (e₁ ∙ ap (λ (j : ℕ). set_slot v j (last % 512) 0) ei))
       (bits-entered _ _ _ _ (bits-slot P v h.bits bits I (last % 512) 0 (file-index-pos g.at g.kind.0 some last (omega (arith, some)))))
       (ed ∙ ap (λ (j : ℕ). slot v j (last % 512)) ei) (file-page-lt g.at g.kind.0 some last last-small) F).0
       ∙ sym (ap₂ (λ (x : Vol) (y : ℕ). mark P x y 0) (entered-is _ _ _ _) refl
-      ∙ ap₂ (λ (x y : ℕ). F' x y (page_count (object v e) - 1) (used_pages (user v) u)) (sym kept) top-is ∙ ap₂ (F' h.flags t) last-is used-is)
+      ∙ ap₂ (λ (x y : ℕ). F' x y (page_count (object v e) - 1) (used_pages (user v) u)) (sym kept) top-is ∙ ap₂ (F' h.pointer.flags t) last-is used-is)
     where
       I : ℕ
-      I = index_of v h.flags t last
+      I = index_of v h.pointer.flags t last
 
       z : Vol
-      z = enters (set_slot v I (last % 512) 0) last (pointer h.flags t) (h.used - 1)
+      z = enters (set_slot v I (last % 512) 0) last (pointer h.pointer.flags t) (h.used - 1)
 
       F' : ℕ → ℕ → ℕ → ℕ → Vol
       F' x y m k = mark P (enters (set_slot v (index_of v x y m) (m % 512) 0) m (pointer x y) (k - 1)) (slot v (index_of v x y m) (m % 512)) 0

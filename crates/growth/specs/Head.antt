@@ -17,8 +17,8 @@ pub record HeadOf (P : ℕ) (v : Vol) (u e : ℕ) (h : Head) : Type 0 where
   pub entry_at : h.entry ≡ object_page v e
   pub entry_in : h.entry < P
   pub bits_at : BitsAt P v h.bits
-  pub kind : h.flags ≡ flags (object v e) file_pointer
-  pub top_at : h.top ≡ page (object v e) file_pointer
+  pub kind : h.pointer.flags ≡ flags (object v e) file_pointer
+  pub top_at : h.pointer.page ≡ page (object v e) file_pointer
   pub length : h.count ≡ page_count (object v e)
   pub spent : h.used ≡ used_pages (user v) u
 

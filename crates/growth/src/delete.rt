@@ -29,9 +29,9 @@ fn delete_head(img: &mut [u16], u: usize, f: usize, h: Head)
     requires { FileHead img.old u f h }
     ensures { vol img.new ≡ delete_file (pages img.old) (vol img.old) u f }
 {
-    let gone = held(h.flags, h.count);
+    let gone = held(h.pointer.flags, h.count);
     erase(img, u, f, h, h.used - gone);
-    free_root(img, h.bits, h.flags, h.top, h.count);
+    free_root(img, h.bits, h.pointer, h.count);
 }
 
 // File f of user u goes.

@@ -9,21 +9,20 @@ ghost use Rattle.growth.specs.Head.{HeadOf};
 
 use page::INDEXED;
 use page::entry::{BYTES, EntryPlace, PAGE_BYTES, PAGES, POINTER, USED, clear_entry};
-use page::read::slot_at;
+use page::read::{Pointer, slot_at};
 use page::write::{pointer_to, put_two};
 use seek::files::entry_number;
-use tree::entry::{entry_flags, entry_page, entry_two};
+use tree::entry::{entry_pointer, entry_two};
 use tree::root::{object_page, user_page};
 
-// What a step knows of its file: the pages of the two entries, where the bit file begins, the flags and the page of the file's pointer, the file's pages and its owner's used pages.
+// What a step knows of its file: the pages of the two entries, where the bit file begins, the file's pointer, its pages and its owner's used pages.
 // The flags stay the number of the paper: `HeadOf`, `held_by` and `index_of` speak of it.
 #[derive(Clone, Copy)]
 pub struct Head {
     pub owner: usize,
     pub entry: usize,
     pub bits: usize,
-    pub flags: u16,
-    pub top: usize,
+    pub pointer: Pointer,
     pub count: usize,
     pub used: usize,
 }
@@ -37,30 +36,28 @@ pub(crate) fn head_of(img: &[u16], u: usize, f: usize) -> Head
     let owner = user_page(img, u);
     let entry = object_page(img, e);
     let bits = bits::bit_page(img);
-    let flags = entry_flags(img, entry, e, POINTER);
-    let top = entry_page(img, entry, e, POINTER);
+    let pointer = entry_pointer(img, entry, e, POINTER);
     let count = entry_two(img, entry, e, PAGES) as usize;
     let used = entry_two(img, owner, u, USED) as usize;
     Head {
         owner,
         entry,
         bits,
-        flags,
-        top,
+        pointer,
         count,
         used,
     }
 }
 
-// The index block that holds position n of a file, by the flags and the page of its pointer.
-pub(crate) fn index_of(img: &[u16], flags: u16, top: usize, n: usize) -> usize
-    requires { (0 < flags) × (top < pages img.now) × (n < 262144) }
-    ensures { result ≡ index_of (vol img.now) flags top n }
+// The index block that holds position n of a file, by its pointer.
+pub(crate) fn index_of(img: &[u16], pointer: Pointer, n: usize) -> usize
+    requires { (0 < pointer.flags) × (pointer.page < pages img.now) × (n < 262144) }
+    ensures { result ≡ index_of (vol img.now) pointer.flags pointer.page n }
 {
-    if flags == INDEXED {
-        return top;
+    if pointer.flags == INDEXED {
+        return pointer.page;
     }
-    slot_at(img, top, n / 512)
+    slot_at(img, pointer.page, n / 512)
 }
 
 // Pointer n of the block in page b becomes d.
@@ -72,26 +69,30 @@ pub(crate) fn set_slot(img: &mut [u16], b: usize, n: usize, d: usize)
     put_two(img, b, 2 * n, d as u32);
 }
 
-// The entries of file f of user u become those of a file of n pages, with these flags and this page in its pointer, and an owner who has used so many.
+// The entries of file f of user u become those of a file of n pages, with this pointer, and an owner who has used so many.
 pub(crate) fn enter(
     img: &mut [u16],
     u: usize,
     f: usize,
     h: Head,
     n: usize,
-    flags: u16,
-    top: usize,
+    root: Pointer,
     used: usize,
 )
-    requires { (u < 256) × (f < 256) × (h.owner < pages img.old) × (h.entry < pages img.old) × (n < 2097152) × (flags < 4) × (top < 1073741824) × (used < 4294967296) }
-    ensures { vol img.new ≡ finishOf (vol img.old) h.owner h.entry u (file_entry u f) n (pointer flags top) used }
+    requires { (u < 256) × (f < 256) × (h.owner < pages img.old) × (h.entry < pages img.old) × (n < 2097152) × (root.flags < 4) × (root.page < 1073741824) × (used < 4294967296) }
+    ensures { vol img.new ≡ finishOf (vol img.old) h.owner h.entry u (file_entry u f) n (pointer root.flags root.page) used }
 {
     let file = EntryPlace::of(entry_number(u, f)).word;
     let user = EntryPlace::of(u).word;
     let count = n as u32;
     put_two(img, h.entry, file + PAGES, count);
     put_two(img, h.entry, file + BYTES, PAGE_BYTES * count);
-    put_two(img, h.entry, file + POINTER, pointer_to(flags, top));
+    put_two(
+        img,
+        h.entry,
+        file + POINTER,
+        pointer_to(root.flags, root.page),
+    );
     put_two(img, h.owner, user + USED, used as u32);
 }
 

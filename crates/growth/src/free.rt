@@ -9,7 +9,7 @@ ghost use Rattle.book.specs.Holders.{hit};
 ghost use Rattle.book.specs.Image.{pages};
 ghost use Rattle.growth.specs.Freeing.{Freeing, Apart, RootApart};
 
-use page::read::slot_at;
+use page::read::{Pointer, slot_at};
 
 // Frees the page that a pointer of this level names, and all below it. Pointer 0 names none.
 #[cycle(free_block_free_pointer)]
@@ -49,13 +49,13 @@ fn free_run(img: &mut [u16], b: usize, s: usize, n: usize)
     }
 }
 
-// Frees the pages of the root with these flags, page and count.
-pub(crate) fn free_root(img: &mut [u16], b: usize, flags: u16, t: usize, n: usize)
-    requires { Freeing img.old b × RootApart (pages img.old) (vol img.old) b flags t n }
-    ensures { vol img.new ≡ freed (pages img.old) (vol img.old) (λ p. weigh_r (vol img.old) (root_by flags t n) (hit p)) }
+// Frees the pages of the root with this pointer and so many pages.
+pub(crate) fn free_root(img: &mut [u16], b: usize, pointer: Pointer, n: usize)
+    requires { Freeing img.old b × RootApart (pages img.old) (vol img.old) b pointer.flags pointer.page n }
+    ensures { vol img.new ≡ freed (pages img.old) (vol img.old) (λ p. weigh_r (vol img.old) (root_by pointer.flags pointer.page n) (hit p)) }
 {
-    if flags == 0 {
-        return free_run(img, b, t, n);
+    if pointer.flags == 0 {
+        return free_run(img, b, pointer.page, n);
     }
-    free_pointer(img, b, t, usize::from(flags))
+    free_pointer(img, b, pointer.page, usize::from(pointer.flags))
 }

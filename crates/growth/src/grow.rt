@@ -10,6 +10,7 @@ ghost use Rattle.book.specs.Grow.{grow, grow_to, first as firstPhase, onward as 
 ghost use Rattle.growth.specs.Head.{Growing};
 
 use crate::entries::{Head, enter, head_of, index_of, set_slot};
+use page::read::Pointer;
 use page::{INDEXED, SUBINDEXED};
 
 // Position n goes into the index block at hand.
@@ -18,10 +19,10 @@ fn onward(img: &mut [u16], u: usize, f: usize, h: Head) -> usize
     ensures { (result ≡ lowest_free (pages img.old) (vol img.old)) × (result < pages img.old) × (vol img.new ≡ grow_to (lowest_free (pages img.old)) (pages img.old) (vol img.old) u f onwardPhase) }
 {
     let n = h.count;
-    let i = index_of(img, h.flags, h.top, n);
+    let i = index_of(img, h.pointer, n);
     let d = bits::take(img, h.bits);
     set_slot(img, i, n % 512, d);
-    enter(img, u, f, h, n + 1, h.flags, h.top, h.used + 1);
+    enter(img, u, f, h, n + 1, h.pointer, h.used + 1);
     d
 }
 
@@ -33,7 +34,18 @@ fn first(img: &mut [u16], u: usize, f: usize, h: Head) -> usize
     let d = bits::take(img, h.bits);
     let b = bits::take(img, h.bits);
     set_slot(img, b, 0, d);
-    enter(img, u, f, h, 1, INDEXED, b, h.used + 2);
+    enter(
+        img,
+        u,
+        f,
+        h,
+        1,
+        Pointer {
+            flags: INDEXED,
+            page: b,
+        },
+        h.used + 2,
+    );
     d
 }
 
@@ -45,10 +57,21 @@ fn raise(img: &mut [u16], u: usize, f: usize, h: Head) -> usize
     let d = bits::take(img, h.bits);
     let b = bits::take(img, h.bits);
     let s = bits::take(img, h.bits);
-    set_slot(img, s, 0, h.top);
+    set_slot(img, s, 0, h.pointer.page);
     set_slot(img, s, 1, b);
     set_slot(img, b, 0, d);
-    enter(img, u, f, h, 513, SUBINDEXED, s, h.used + 3);
+    enter(
+        img,
+        u,
+        f,
+        h,
+        513,
+        Pointer {
+            flags: SUBINDEXED,
+            page: s,
+        },
+        h.used + 3,
+    );
     d
 }
 
@@ -60,9 +83,20 @@ fn block(img: &mut [u16], u: usize, f: usize, h: Head) -> usize
     let n = h.count;
     let d = bits::take(img, h.bits);
     let b = bits::take(img, h.bits);
-    set_slot(img, h.top, n / 512, b);
+    set_slot(img, h.pointer.page, n / 512, b);
     set_slot(img, b, 0, d);
-    enter(img, u, f, h, n + 1, SUBINDEXED, h.top, h.used + 2);
+    enter(
+        img,
+        u,
+        f,
+        h,
+        n + 1,
+        Pointer {
+            flags: SUBINDEXED,
+            page: h.pointer.page,
+        },
+        h.used + 2,
+    );
     d
 }
 

@@ -9,7 +9,7 @@ ghost use Rattle.book.specs.Shrink.{shrink, shrink_to};
 ghost use Rattle.growth.specs.Head.{Shrinking};
 
 use crate::entries::{Head, enter, head_of, index_of, set_slot};
-use page::read::slot_at;
+use page::read::{Pointer, slot_at};
 use page::{INDEXED, SUBINDEXED};
 
 // The last position leaves its index block, which stays.
@@ -19,10 +19,10 @@ fn back(img: &mut [u16], u: usize, f: usize, h: Head)
 {
     let last = h.count - 1;
     let k = last % 512;
-    let i = index_of(img, h.flags, h.top, last);
+    let i = index_of(img, h.pointer, last);
     let d = slot_at(img, i, k);
     set_slot(img, i, k, 0);
-    enter(img, u, f, h, last, h.flags, h.top, h.used - 1);
+    enter(img, u, f, h, last, h.pointer, h.used - 1);
     bits::clear(img, h.bits, d);
 }
 
@@ -31,9 +31,9 @@ fn empty(img: &mut [u16], u: usize, f: usize, h: Head)
     requires { Shrinking img.old u f h × (h.count ≡ 1) }
     ensures { vol img.new ≡ shrink_to (pages img.old) (vol img.old) u f firstPhase }
 {
-    let t = h.top;
+    let t = h.pointer.page;
     let d = slot_at(img, t, 0);
-    enter(img, u, f, h, 0, 0, 0, h.used - 2);
+    enter(img, u, f, h, 0, Pointer { flags: 0, page: 0 }, h.used - 2);
     bits::clear(img, h.bits, d);
     bits::clear(img, h.bits, t);
 }
@@ -43,11 +43,22 @@ fn lower(img: &mut [u16], u: usize, f: usize, h: Head)
     requires { Shrinking img.old u f h × (h.count ≡ 513) }
     ensures { vol img.new ≡ shrink_to (pages img.old) (vol img.old) u f raisePhase }
 {
-    let t = h.top;
+    let t = h.pointer.page;
     let left = slot_at(img, t, 0);
     let b = slot_at(img, t, 1);
     let d = slot_at(img, b, 0);
-    enter(img, u, f, h, 512, INDEXED, left, h.used - 3);
+    enter(
+        img,
+        u,
+        f,
+        h,
+        512,
+        Pointer {
+            flags: INDEXED,
+            page: left,
+        },
+        h.used - 3,
+    );
     bits::clear(img, h.bits, d);
     bits::clear(img, h.bits, b);
     bits::clear(img, h.bits, t);
@@ -60,10 +71,21 @@ fn block(img: &mut [u16], u: usize, f: usize, h: Head)
 {
     let last = h.count - 1;
     let k = last / 512;
-    let b = slot_at(img, h.top, k);
+    let b = slot_at(img, h.pointer.page, k);
     let d = slot_at(img, b, 0);
-    set_slot(img, h.top, k, 0);
-    enter(img, u, f, h, last, SUBINDEXED, h.top, h.used - 2);
+    set_slot(img, h.pointer.page, k, 0);
+    enter(
+        img,
+        u,
+        f,
+        h,
+        last,
+        Pointer {
+            flags: SUBINDEXED,
+            page: h.pointer.page,
+        },
+        h.used - 2,
+    );
     bits::clear(img, h.bits, d);
     bits::clear(img, h.bits, b);
 }

@@ -24,8 +24,8 @@ returns c =
       entry_at = entry-at (vol c.args.img.now) (file_entry c.args.u c.args.f) c.entry_number-e.result c.object_page-entry.result c.entry_number-e.ensures.0 c.object_page-entry.ensures.0;
       entry_in = c.object_page-entry.ensures.1;
       bits_at = c.bit_page-bits.ensures;
-      kind = c.entry_flags-flags.ensures.0 ∙ ap (λ (x : Words). flags x 30) w;
-      top_at = c.entry_page-top.ensures.0 ∙ ap (λ (x : Words). page x 30) w;
+      kind = c.entry_pointer-pointer.ensures.flags.0 ∙ ap (λ (x : Words). flags x 30) w;
+      top_at = c.entry_pointer-pointer.ensures.page.0 ∙ ap (λ (x : Words). page x 30) w;
       length = c.entry_two-count.ensures.0 ∙ ap (λ (x : Words). two x 26) w;
       spent = c.entry_two-used.ensures.0 ∙ ap (λ (x : Words). two x 16) (user-in (vol c.args.img.now) c.args.u c.user_page-owner.result c.user_page-owner.ensures.0);
     }
