@@ -16,7 +16,7 @@ use tree::entry::{entry_pointer, entry_two};
 use tree::root::{object_page, user_page};
 
 // What a step knows of its file: the pages of the two entries, where the bit file begins, the file's pointer, its pages and its owner's used pages.
-// The flags stay the number of the paper: `HeadOf`, `held_by` and `index_of` speak of it.
+// The pointer's flags stay the number of the paper: `HeadOf`, `held_by` and `index_of` speak of it.
 #[derive(Clone, Copy)]
 pub struct Head {
     pub owner: usize,

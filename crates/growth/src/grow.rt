@@ -34,18 +34,11 @@ fn first(img: &mut [u16], u: usize, f: usize, h: Head) -> usize
     let d = bits::take(img, h.bits);
     let b = bits::take(img, h.bits);
     set_slot(img, b, 0, d);
-    enter(
-        img,
-        u,
-        f,
-        h,
-        1,
-        Pointer {
-            flags: INDEXED,
-            page: b,
-        },
-        h.used + 2,
-    );
+    let root = Pointer {
+        flags: INDEXED,
+        page: b,
+    };
+    enter(img, u, f, h, 1, root, h.used + 2);
     d
 }
 
@@ -60,18 +53,11 @@ fn raise(img: &mut [u16], u: usize, f: usize, h: Head) -> usize
     set_slot(img, s, 0, h.pointer.page);
     set_slot(img, s, 1, b);
     set_slot(img, b, 0, d);
-    enter(
-        img,
-        u,
-        f,
-        h,
-        513,
-        Pointer {
-            flags: SUBINDEXED,
-            page: s,
-        },
-        h.used + 3,
-    );
+    let root = Pointer {
+        flags: SUBINDEXED,
+        page: s,
+    };
+    enter(img, u, f, h, 513, root, h.used + 3);
     d
 }
 
@@ -85,18 +71,11 @@ fn block(img: &mut [u16], u: usize, f: usize, h: Head) -> usize
     let b = bits::take(img, h.bits);
     set_slot(img, h.pointer.page, n / 512, b);
     set_slot(img, b, 0, d);
-    enter(
-        img,
-        u,
-        f,
-        h,
-        n + 1,
-        Pointer {
-            flags: SUBINDEXED,
-            page: h.pointer.page,
-        },
-        h.used + 2,
-    );
+    let root = Pointer {
+        flags: SUBINDEXED,
+        page: h.pointer.page,
+    };
+    enter(img, u, f, h, n + 1, root, h.used + 2);
     d
 }
 

@@ -33,7 +33,8 @@ fn empty(img: &mut [u16], u: usize, f: usize, h: Head)
 {
     let t = h.pointer.page;
     let d = slot_at(img, t, 0);
-    enter(img, u, f, h, 0, Pointer { flags: 0, page: 0 }, h.used - 2);
+    let root = Pointer { flags: 0, page: 0 };
+    enter(img, u, f, h, 0, root, h.used - 2);
     bits::clear(img, h.bits, d);
     bits::clear(img, h.bits, t);
 }
@@ -47,18 +48,11 @@ fn lower(img: &mut [u16], u: usize, f: usize, h: Head)
     let left = slot_at(img, t, 0);
     let b = slot_at(img, t, 1);
     let d = slot_at(img, b, 0);
-    enter(
-        img,
-        u,
-        f,
-        h,
-        512,
-        Pointer {
-            flags: INDEXED,
-            page: left,
-        },
-        h.used - 3,
-    );
+    let root = Pointer {
+        flags: INDEXED,
+        page: left,
+    };
+    enter(img, u, f, h, 512, root, h.used - 3);
     bits::clear(img, h.bits, d);
     bits::clear(img, h.bits, b);
     bits::clear(img, h.bits, t);
@@ -74,18 +68,11 @@ fn block(img: &mut [u16], u: usize, f: usize, h: Head)
     let b = slot_at(img, h.pointer.page, k);
     let d = slot_at(img, b, 0);
     set_slot(img, h.pointer.page, k, 0);
-    enter(
-        img,
-        u,
-        f,
-        h,
-        last,
-        Pointer {
-            flags: SUBINDEXED,
-            page: h.pointer.page,
-        },
-        h.used - 2,
-    );
+    let root = Pointer {
+        flags: SUBINDEXED,
+        page: h.pointer.page,
+    };
+    enter(img, u, f, h, last, root, h.used - 2);
     bits::clear(img, h.bits, d);
     bits::clear(img, h.bits, b);
 }
