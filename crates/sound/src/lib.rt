@@ -4,7 +4,8 @@
 pub mod early;
 pub mod numbers;
 
-ghost use Rattle.std.specs.Prelude.{◌≡◌, true};
+ghost use Rattle.std.specs.Prelude.{◌≡◌, ◌≤◌, true};
+ghost use Rattle.book.specs.Bits.{page_bits};
 ghost use Rattle.book.specs.Words.{vol};
 ghost use Rattle.book.specs.Decides.{Decides};
 ghost use Rattle.book.specs.Image.{pages, Whole};
@@ -34,17 +35,35 @@ fn judge_marked(img: &[u16], marks: &mut [u16], total: usize, ends: usize) -> Ve
     Ok(visited)
 }
 
-// The same; here the marks are made, as many as the volume asks for.
+// The same with marks of its own, of a volume of one bit page and of any. Each is a call, so that the marks of both are never there together.
+#[inline(never)]
+fn judge_few(img: &[u16], total: usize, ends: usize) -> Verdict
+    requires { Whole img.now × (total ≡ pages img.now) × Early true (pages img.now) (vol img.now) × Ends img.now ends × (total ≤ page_bits) }
+    ensures { JudgedLate (pages img.now) (vol img.now) result }
+{
+    let mut marks = bits::marks::few_marks();
+    judge_marked(img, &mut marks, total, ends)
+}
+
+#[inline(never)]
+fn judge_most(img: &[u16], total: usize, ends: usize) -> Verdict
+    requires { Whole img.now × (total ≡ pages img.now) × Early true (pages img.now) (vol img.now) × Ends img.now ends }
+    ensures { JudgedLate (pages img.now) (vol img.now) result }
+{
+    let mut marks = bits::marks::most_marks();
+    judge_marked(img, &mut marks, total, ends)
+}
+
+// The same; the marks are as many as the volume asks for.
 fn judge_held(img: &[u16], total: usize, ends: usize) -> Verdict
     requires { Whole img.now × (total ≡ pages img.now) × Early true (pages img.now) (vol img.now) × Ends img.now ends }
     ensures { JudgedLate (pages img.now) (vol img.now) result }
 {
     if total <= bits::PAGE_BITS {
-        let mut marks = bits::marks::few_marks();
-        return judge_marked(img, &mut marks, total, ends);
+        judge_few(img, total, ends)
+    } else {
+        judge_most(img, total, ends)
     }
-    let mut marks = bits::marks::most_marks();
-    judge_marked(img, &mut marks, total, ends)
 }
 
 // Judges an image of whole pages: sound with the pages visited, or the lowest broken rule.
