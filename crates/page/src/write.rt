@@ -57,12 +57,15 @@ pub fn zero_page(img: &mut [u16], p: usize)
     zero_at(img, p, 0, WORDS);
 }
 
-// Page p becomes the 1,024 words of data.
+// Page p becomes the 1,024 words of data. Not by `copy_from_slice`, which is a call of `memmove`: the archive for C would want one more name from outside.
 pub fn copy_page(img: &mut [u16], p: usize, data: &[u16])
     requires { (1024 * p + 1024 ≤ length img.old) × (length «data».now ≡ 1024) }
     ensures { vol img.new ≡ put_words (vol img.old) p 0 1024 (λ k. get_or «data».now k 0) }
 {
     let a = WORDS * p;
     let z = a + WORDS;
-    img[a..z].copy_from_slice(data);
+    let part = &mut img[a..z];
+    for (k, word) in part.iter_mut().enumerate() {
+        *word = data[k];
+    }
 }
