@@ -1,7 +1,7 @@
 -- The search upwards, for the lowest free page from page s on. Assumes nothing.
 use mathlib.Core.Path.{◌≡◌, sym, ap, ◌∙◌, fun_ext}
 use Prim.Native.Nat.{ℕ, suc, ◌+◌, ◌-◌, ◌*◌, ◌/◌, ◌%◌, ◌≤◌, ◌<◌, min, max}
-use native.Mathlib.Decide.{dec_lt}
+use native.Mathlib.Decide.{dec_lt, ℕ_discrete}
 use native.Mathlib.Omega.{arith}
 use Rattle.sums.specs.Search.{lowest, lowest-at, lowest-none, lowest-is}
 use Rattle.book.specs.Words.{Vol}
@@ -102,14 +102,24 @@ module _ (P : ℕ) (v : Vol) (b : ℕ) (f : BitsAt P v b) (s : ℕ) where
         | no l ↦ absurd (n (all_ones 16 w (omega (arith, U.small)) (λ j a. C.below j (omega arith))))
       ]
 
+      -- a full word has none
+      full-past : w ≡ 65535 → 16 ≤ t
+      full-past e = elim (dec_lt t 16) [
+        | yes l ↦ absurd (let r : ⊥ = omega (arith, full e t l, C.there l) in r)
+        | no l ↦ omega arith
+      ]
+
       pub up-found : ¬ (w ≡ 65535) → i * 16 + t < P → i * 16 + t ≡ free_from P v s
       up-found n h = up_clear (has-clear n) h
 
       pub up_inside : ¬ (w ≡ 65535) → i * 16 + 16 ≤ P → i * 16 + t ≡ free_from P v s
-      up_inside n h = let l : t < 16 = has-clear n in up_clear l (omega arith)
+      up_inside n h = up-found n (let l : t < 16 = has-clear n in omega arith)
 
       pub up_last : P ≤ i * 16 + 16 → min P (i * 16 + t) ≡ free_from P v s
-      up_last h = elim (dec_lt (i * 16 + t) P) [
-        | yes l ↦ (let e : min P (i * 16 + t) ≡ i * 16 + t = omega arith in e) ∙ up_clear (omega arith) l
-        | no l ↦ (let e : min P (i * 16 + t) ≡ P = omega arith in e) ∙ up-past (omega arith)
+      up_last h = elim (ℕ_discrete w 65535) [
+        | yes e ↦ (let q : min P (i * 16 + t) ≡ P = omega (arith, full-past e) in q) ∙ up_none e (omega arith)
+        | no n ↦ elim (dec_lt (i * 16 + t) P) [
+          | yes l ↦ (let q : min P (i * 16 + t) ≡ i * 16 + t = omega arith in q) ∙ up-found n l
+          | no l ↦ (let q : min P (i * 16 + t) ≡ P = omega arith in q) ∙ up-past (omega arith)
+        ]
       ]

@@ -104,5 +104,5 @@ pub(crate) fn zeros_above(w: u16) -> usize
 pub(crate) fn first_clear(w: u16) -> usize
     ensures { FirstClear w result }
 {
-    w.trailing_ones() as usize
+    zeros_below(!w)
 }
